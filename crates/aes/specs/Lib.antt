@@ -1,0 +1,3 @@
+pub mod Cipher
+pub mod KeyExpansion
+pub mod AesEnc

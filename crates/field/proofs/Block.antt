@@ -1,0 +1,53 @@
+-- Blocks: sixteen bytes. A block is what stands at its places; the exclusive or of two blocks is a block, and undoes itself.
+use mathlib.Core.Path.{_≡_, refl, sym, ap, _∙_}
+use mathlib.Core.List.{List, [], _∷_}
+use Prim.Native.Nat.{ℕ, zero, suc, _+_, _<_}
+use native.Mathlib.Nat.{zero-lt-suc}
+use native.Mathlib.Omega.{arith}
+use lib.ListN.{length, getD, drop, drop-of-length-le}
+use lib.Seq.{drop-cons}
+use lib.Bits.{bitXor}
+use Rattle.field.specs.Sbox.{sbox, sboxTable}
+use Rattle.field.specs.Block.{tabulatedFrom, block, xor, substituted}
+use Rattle.field.proofs.Sum.{xor-twice, byte-xor}
+use Rattle.field.proofs.Inverse.{sbox-entry}
+
+-- each element is a byte, and so is the 0 past the end
+abbrev pub Bytes : List ℕ → Type 0
+Bytes s = (i : ℕ) → getD s i 0 < 256
+
+pub record Block (s : List ℕ) : Type 0 where
+  pub sixteen : length s ≡ 16
+  pub bytes : Bytes s
+
+from-bytes : (f : ℕ → ℕ) → ((i : ℕ) → f i < 256) → (n i k : ℕ) → getD (tabulatedFrom f i n) k 0 < 256
+from-bytes f h zero i k = zero-lt-suc 255
+from-bytes f h (suc n) i zero = h i
+from-bytes f h (suc n) i (suc k) = from-bytes f h n (suc i) k
+
+pub block-of : (f : ℕ → ℕ) → ((i : ℕ) → f i < 256) → Block (block f)
+block-of f h = record { sixteen = refl; bytes = from-bytes f h 16 0 }
+
+pub block-same : (f g : ℕ → ℕ) → ((i : ℕ) → f i ≡ g i) → block f ≡ block g
+block-same f g h = λ j. block (λ i. h i j)
+
+rest : (s : List ℕ) (n i : ℕ) → i + n ≡ length s → tabulatedFrom (λ k. getD s k 0) i n ≡ drop i s
+rest s zero i e = sym (drop-of-length-le s {i = i} (omega arith))
+rest s (suc n) i e = ap {B = List ℕ} (λ l. getD s i 0 ∷ l) (rest s n (suc i) (omega arith)) ∙ sym (drop-cons s i 0 (omega arith))
+
+-- a list of sixteen is what stands at its sixteen places
+pub whole : (s : List ℕ) → length s ≡ 16 → block (λ i. getD s i 0) ≡ s
+whole s e = rest s 16 0 (omega arith)
+
+pub xor-is-block : (a b : List ℕ) → Bytes a → Bytes b → Block (xor a b)
+unfolding xor
+xor-is-block a b ha hb = block-of (λ i. bitXor (getD a i 0) (getD b i 0)) (λ i. byte-xor (ha i) (hb i))
+
+pub xor-undone : (a b : List ℕ) → length a ≡ 16 → xor (xor a b) b ≡ a
+unfolding xor
+xor-undone a b e = block-same (λ i. bitXor (bitXor (getD a i 0) (getD b i 0)) (getD b i 0)) (λ i. getD a i 0) (λ i. xor-twice (getD a i 0) (getD b i 0)) ∙ whole a e
+
+-- through the S-box's table each byte becomes its S-box
+pub substituted-sbox : (t s : List ℕ) → t ≡ sboxTable → Bytes s → substituted t s ≡ block (λ i. sbox (getD s i 0))
+unfolding substituted
+substituted-sbox t s e h = block-same (λ i. getD t (getD s i 0) 0) (λ i. sbox (getD s i 0)) (λ i. sbox-entry t (getD s i 0) e (h i))
