@@ -56,11 +56,15 @@ keyExpansion key = tabulated (roundKey key) 11
 abbrev pub columns : List ℕ → List ℕ → List ℕ → List ℕ → List ℕ
 columns k0 k1 k2 k3 = k0 ++ (k1 ++ (k2 ++ k3))
 
--- Four words at once: the round key that follows the round key k, at the round constant c. `proofs/Schedule.antt` shows that it is.
-unfoldable pub nextRoundKey : ℕ → List ℕ → List ℕ
-nextRoundKey c k =
-    let k0 = xorWord (word (λ i. getD k i 0)) (xorWord (subWord (rotWord (word (λ i. getD k (12 + i) 0)))) (rcon c)) in
+-- Four words at once: each word of the round key k is added to the word before it, and the first to t.
+abbrev pub added : List ℕ → List ℕ → List ℕ
+added k t =
+    let k0 = xorWord (word (λ i. getD k i 0)) t in
     let k1 = xorWord (word (λ i. getD k (4 + i) 0)) k0 in
     let k2 = xorWord (word (λ i. getD k (8 + i) 0)) k1 in
     let k3 = xorWord (word (λ i. getD k (12 + i) 0)) k2 in
     columns k0 k1 k2 k3
+
+-- The round key that follows the round key k, at the round constant c. `proofs/Schedule.antt` shows that it does.
+unfoldable pub nextRoundKey : ℕ → List ℕ → List ℕ
+nextRoundKey c k = added k (xorWord (subWord (rotWord (word (λ i. getD k (12 + i) 0)))) (rcon c))

@@ -8,7 +8,7 @@ use lib.ListN.{length, getD, drop, drop-of-length-le}
 use lib.Seq.{drop-cons}
 use lib.Bits.{bitXor}
 use Rattle.field.specs.Sbox.{sbox, sboxTable}
-use Rattle.field.specs.Block.{tabulatedFrom, block, xor, substituted}
+use Rattle.field.specs.Block.{tabulatedFrom, tabulated, block, xor, substituted}
 use Rattle.field.proofs.Sum.{xor-twice, byte-xor}
 use Rattle.field.proofs.Inverse.{sbox-entry}
 
@@ -25,8 +25,11 @@ from-bytes f h zero i k = zero-lt-suc 255
 from-bytes f h (suc n) i zero = h i
 from-bytes f h (suc n) i (suc k) = from-bytes f h n (suc i) k
 
+pub tabulated-bytes : (f : ℕ → ℕ) → ((i : ℕ) → f i < 256) → (n : ℕ) → Bytes (tabulated f n)
+tabulated-bytes f h n = from-bytes f h n 0
+
 pub block-of : (f : ℕ → ℕ) → ((i : ℕ) → f i < 256) → Block (block f)
-block-of f h = record { sixteen = refl; bytes = from-bytes f h 16 0 }
+block-of f h = record { sixteen = refl; bytes = tabulated-bytes f h 16 }
 
 pub block-same : (f g : ℕ → ℕ) → ((i : ℕ) → f i ≡ g i) → block f ≡ block g
 block-same f g h = λ j. block (λ i. h i j)

@@ -78,3 +78,7 @@ module _ (f g : ℕ → ℕ) (hf : Linear f) (hg : Linear g) where
   -- two linear maps that agree at 1, 2, 4 .. 128 agree at each byte
   pub linear-same : tabulated (λ k. f (2 ^ k)) 8 ≡ tabulated (λ k. g (2 ^ k)) 8 → (x : ℕ) → x < 256 → f x ≡ g x
   linear-same e x lt = upTo 8 (same-at (λ k. f (2 ^ k)) (λ k. g (2 ^ k)) 8 e) x lt
+
+-- a product by a constant is a byte, by a test over the bytes
+pub times-byte : (c : ℕ) → tabulated (λ b. times c b / 256) 256 ≡ tabulated (λ b. 0) 256 → (b : ℕ) → b < 256 → times c b < 256
+times-byte c e b h = omega (arith, same-at (λ b. times c b / 256) (λ b. 0) 256 e b h)

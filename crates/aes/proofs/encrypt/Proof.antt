@@ -1,0 +1,20 @@
+use Rattle.aes.specs.AesEnc.{aesEnc}
+use borrow.Author.Needs.{needs}
+use Rattle.aes.proofs.encrypt.Statement.{statement}
+use Rattle.aes.proofs.encrypt.Tie as tie
+
+sbox-table-requires : tie.Need-sbox-table-requires
+sbox-table-requires c κs = search needs
+
+expand-requires : tie.Need-expand-requires
+expand-requires c κs = search needs
+
+encipher-requires : tie.Need-encipher-requires
+encipher-requires c κs = search needs
+
+returns : tie.Need-returns
+unfolding aesEnc
+returns c = cc
+
+pub encrypt-spec : {M : Type 1} → statement M
+encrypt-spec = tie.close (tie.spec sbox-table-requires expand-requires encipher-requires returns)

@@ -1,0 +1,3 @@
+pub mod InvSbox
+pub mod InvCipher
+pub mod AesDec
