@@ -1,0 +1,5 @@
+pub mod InverseSbox
+pub mod Columns
+pub mod Maps
+pub mod Inverse
+pub mod Fits
