@@ -1,14 +1,14 @@
 -- Blocks: sixteen bytes. A block is what stands at its places; the exclusive or of two blocks is a block, and undoes itself.
 use mathlib.Core.Path.{_≡_, refl, sym, ap, _∙_}
 use mathlib.Core.List.{List, [], _∷_}
-use Prim.Native.Nat.{ℕ, zero, suc, _+_, _<_}
+use Prim.Native.Nat.{ℕ, zero, suc, _+_, _<_, _≤_}
 use native.Mathlib.Nat.{zero-lt-suc}
 use native.Mathlib.Omega.{arith}
-use lib.ListN.{length, getD, drop, drop-of-length-le}
-use lib.Seq.{drop-cons}
+use lib.ListN.{length, getD, take, drop}
+use lib.Seq.{drop-cons, take-all}
 use lib.Bits.{bitXor}
 use Rattle.field.specs.Sbox.{sbox, sboxTable}
-use Rattle.field.specs.Block.{tabulatedFrom, tabulated, block, xor, substituted}
+use Rattle.field.specs.Block.{tabulatedFrom, tabulated, block, firstBlock, xor, substituted}
 use Rattle.field.proofs.Sum.{xor-twice, byte-xor}
 use Rattle.field.proofs.Inverse.{sbox-entry}
 
@@ -34,13 +34,19 @@ block-of f h = record { sixteen = refl; bytes = tabulated-bytes f h 16 }
 pub block-same : (f g : ℕ → ℕ) → ((i : ℕ) → f i ≡ g i) → block f ≡ block g
 block-same f g h = λ j. block (λ i. h i j)
 
-rest : (s : List ℕ) (n i : ℕ) → i + n ≡ length s → tabulatedFrom (λ k. getD s k 0) i n ≡ drop i s
-rest s zero i e = sym (drop-of-length-le s {i = i} (omega arith))
-rest s (suc n) i e = ap {B = List ℕ} (λ l. getD s i 0 ∷ l) (rest s n (suc i) (omega arith)) ∙ sym (drop-cons s i 0 (omega arith))
+part-from : (s : List ℕ) (n i : ℕ) → i + n ≤ length s → tabulatedFrom (λ k. getD s k 0) i n ≡ take n (drop i s)
+part-from s zero i h = refl
+part-from s (suc n) i h =
+    ap {B = List ℕ} (λ l. getD s i 0 ∷ l) (part-from s n (suc i) (omega arith)) ∙ ap {B = List ℕ} (take (suc n)) (sym (drop-cons s i 0 (omega arith)))
+
+-- the first block of a list that has one
+pub first-block-is : (s : List ℕ) → 16 ≤ length s → firstBlock s ≡ take 16 s
+unfolding firstBlock
+first-block-is s h = part-from s 16 0 (omega arith)
 
 -- a list of sixteen is what stands at its sixteen places
 pub whole : (s : List ℕ) → length s ≡ 16 → block (λ i. getD s i 0) ≡ s
-whole s e = rest s 16 0 (omega arith)
+whole s e = part-from s 16 0 (omega arith) ∙ take-all 16 s (omega arith)
 
 pub xor-is-block : (a b : List ℕ) → Bytes a → Bytes b → Block (xor a b)
 unfolding xor

@@ -6,6 +6,8 @@ use Rattle.field.proofs.sbox_table.Reads as sbox-table
 use Rattle.field.proofs.sbox_table.Kinds as sbox-table-kinds
 use Rattle.field.proofs.substitute.Reads as substitute
 use Rattle.field.proofs.substitute.Kinds as substitute-kinds
+use Rattle.field.proofs.first_block.Reads as first-block
+use Rattle.field.proofs.first_block.Kinds as first-block-kinds
 use Rattle.field.proofs.xor.Reads as xor
 use Rattle.field.proofs.xor.Kinds as xor-kinds
 use Rattle.field.proofs.times2.Reads as times2
@@ -16,6 +18,9 @@ sbox-table-one κs a x y s t p q = one p q
 
 pub substitute-one : OneAnswer 1 substitute-kinds.ps substitute-kinds.r substitute.Post (List ℕ) (λ κs r s. r)
 substitute-one κs a x y s t p q = one p q
+
+pub first-block-one : OneAnswer 1 first-block-kinds.ps first-block-kinds.r first-block.Post (List ℕ) (λ κs r s. r)
+first-block-one κs a x y s t p q = one p q
 
 pub xor-one : OneAnswer 0 xor-kinds.ps xor-kinds.r xor.Post (List ℕ) (λ κs r s. r)
 xor-one κs a x y s t p q = one p q

@@ -17,6 +17,10 @@ tabulated f n = tabulatedFrom f 0 n
 abbrev pub block : (ℕ → ℕ) → List ℕ
 block f = tabulated f 16
 
+-- The first sixteen bytes of s; past the end of s stands 0.
+unfoldable pub firstBlock : List ℕ → List ℕ
+firstBlock s = block (λ i. getD s i 0)
+
 -- The exclusive or of two blocks, byte by byte.
 unfoldable pub xor : List ℕ → List ℕ → List ℕ
 xor a b = block (λ i. bitXor (getD a i 0) (getD b i 0))

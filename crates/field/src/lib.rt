@@ -3,7 +3,7 @@ ghost use mathlib.Core.Path.{_≡_};
 ghost use Rattle.field.specs.Field.{times};
 ghost use Rattle.field.specs.Sbox.{sboxTable};
 ghost use lib.ListN.{getD};
-ghost use Rattle.field.specs.Block.{xor, substituted};
+ghost use Rattle.field.specs.Block.{firstBlock, xor, substituted};
 
 const SBOX: [u8; 256] = *b"\
     \x63\x7c\x77\x7b\xf2\x6b\x6f\xc5\x30\x01\x67\x2b\xfe\xd7\xab\x76\
@@ -63,6 +63,29 @@ pub fn xor(a: [u8; 16], b: [u8; 16]) -> [u8; 16]
         i += 1;
     }
     r
+}
+
+// The first sixteen bytes of s, and 0 where s ends before.
+// Ruled out: the last sixteen bytes; a place of s that is left out.
+pub fn first_block(s: &[u8]) -> [u8; 16]
+    ensures { λ r. ⌜ r ≡ firstBlock (now (s .entry)) ⌝ }
+{
+    let mut r = [0u8; 16];
+    let mut i = 0;
+    while i < 16 {
+        r[i] = byte_at(s, i);
+        i += 1;
+    }
+    r
+}
+
+fn byte_at(s: &[u8], i: usize) -> u8
+    ensures { λ r. ⌜ r ≡ getD (now (s .entry)) i 0 ⌝ }
+{
+    if i < s.len() {
+        return s[i];
+    }
+    0
 }
 
 // The product of b by x (4.2.1): a shift, and 0x1B added where x^8 comes up.

@@ -1,0 +1,7 @@
+pub mod Chains
+pub mod Mac
+pub mod Rooms
+pub mod Whole
+pub mod Undone
+pub mod MacBytes
+pub mod Unique

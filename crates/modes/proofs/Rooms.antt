@@ -1,0 +1,47 @@
+-- The answers of the calls that write into a lent room, each test taken or left.
+use mathlib.Core.Path.{_≡_, sym, ap, ap₂, _∙_}
+use mathlib.Core.Bool.{Bool, true, false}
+use mathlib.Core.List.{List, _++_}
+use Prim.Native.Nat.{ℕ, _%_, _<_, _≤_}
+use native.Mathlib.Nat.{le-refl}
+use lib.Dec.{eqb, leb}
+use lib.ListN.{length, take, drop}
+use lib.Seq.{take-all}
+use borrow.Author.Tests.{eq-eqb, ne-eqb, le-leb, lt-leb}
+use Rattle.modes.specs.Room.{Into, both, chains, macs, over, answered, left}
+use Rattle.modes.specs.declared.Chaining.the-variants.{Done, Refused}
+
+pub refused : (taken : Bool) (out room : List ℕ) → taken ≡ false → Into taken out room Refused room
+refused taken out room e = record { says = ap answered (sym e); leaves = ap (λ (b : Bool). left b out room) (sym e) }
+
+pub done : (taken : Bool) (out room after : List ℕ) → taken ≡ true → after ≡ over out room → Into taken out room Done after
+done taken out room after e f = record { says = ap answered (sym e); leaves = f ∙ ap (λ (b : Bool). left b out room) (sym e) }
+
+-- what a copy leaves: `out` over the first bytes
+pub copied : (out room after : List ℕ) → after ≡ take (length out) out ++ drop (length out) room → after ≡ over out room
+copied out room after e = e ∙ ap (λ (l : List ℕ). l ++ drop (length out) room) (take-all (length out) out (le-refl (length out)))
+
+-- ---- chaining
+
+pub part-of-block : (n m : ℕ) → (n % 16 ≡ 0 → ⊥) → chains n m ≡ false
+part-of-block n m h = ap (λ (b : Bool). both b (leb n m)) (ne-eqb (n % 16) 0 h)
+
+pub short-room : (n m : ℕ) → n % 16 ≡ 0 → m < n → chains n m ≡ false
+short-room n m e h = ap₂ both (eq-eqb (n % 16) 0 e) (lt-leb n m h)
+
+pub enough : (n m : ℕ) → n % 16 ≡ 0 → n ≤ m → chains n m ≡ true
+enough n m e h = ap₂ both (eq-eqb (n % 16) 0 e) (le-leb n m h)
+
+-- ---- the MAC
+
+pub no-mac-of-none : (n m : ℕ) → n < 1 → macs n m ≡ false
+no-mac-of-none n m h = ap (λ (b : Bool). both b (both (eqb (n % 16) 0) (leb 12 m))) (lt-leb 1 n h)
+
+pub no-mac-of-part : (n m : ℕ) → 1 ≤ n → (n % 16 ≡ 0 → ⊥) → macs n m ≡ false
+no-mac-of-part n m l h = ap₂ both (le-leb 1 n l) (ap (λ (b : Bool). both b (leb 12 m)) (ne-eqb (n % 16) 0 h))
+
+pub no-room-for-mac : (n m : ℕ) → 1 ≤ n → n % 16 ≡ 0 → m < 12 → macs n m ≡ false
+no-room-for-mac n m l e h = ap₂ both (le-leb 1 n l) (ap₂ both (eq-eqb (n % 16) 0 e) (lt-leb 12 m h))
+
+pub room-for-mac : (n m : ℕ) → 1 ≤ n → n % 16 ≡ 0 → 12 ≤ m → macs n m ≡ true
+room-for-mac n m l e h = ap₂ both (le-leb 1 n l) (ap₂ both (eq-eqb (n % 16) 0 e) (le-leb 12 m h))

@@ -1,0 +1,4 @@
+pub mod Blocks
+pub mod Cbc
+pub mod Cmac
+pub mod Room

@@ -1,0 +1,62 @@
+// What is built on AES-DEC: the two forms of chaining that the reader's side needs (ISO/IEC 29167-10 3.1.9 and 3.1.10).
+use modes::Chaining;
+ghost use Prim.Native.Nat.{_≤_};
+ghost use mathlib.Core.Path.{_≡_};
+ghost use lib.ListN.{length};
+ghost use Rattle.modes.specs.Room.{Into, chains, over};
+ghost use Rattle.modes_inverse.specs.CbcInv.{cbcDecAesInv, cbcEncAesInv};
+
+// CBC_DEC_AES_INV (IV, key, data) into the first bytes of the room. Refused as modes::cbc_enc_aes is.
+// Ruled out: the chain taken from the output block; AES-ENC in place of AES-DEC.
+pub fn cbc_dec_aes_inv(iv: [u8; 16], key: [u8; 16], input: &[u8], room: &mut [u8]) -> Chaining
+    ensures { λ r. ⌜ Into (chains (length (now (input .entry))) (length (now (room .entry)))) (cbcDecAesInv iv key (now (input .entry))) (now (room .entry)) r (now (room .exit)) ⌝ }
+{
+    if input.len() % 16 != 0 {
+        return Chaining::Refused;
+    }
+    if room.len() < input.len() {
+        return Chaining::Refused;
+    }
+    dec_inv_chain(iv, key, input, room);
+    Chaining::Done
+}
+
+// CBC_ENC_AES_INV (IV, key, data) into the first bytes of the room. Refused as modes::cbc_enc_aes is.
+// Ruled out: AES-ENC in place of AES-DEC, with which the round trip at home still closes; the chain taken from the input block.
+pub fn cbc_enc_aes_inv(iv: [u8; 16], key: [u8; 16], input: &[u8], room: &mut [u8]) -> Chaining
+    ensures { λ r. ⌜ Into (chains (length (now (input .entry))) (length (now (room .entry)))) (cbcEncAesInv iv key (now (input .entry))) (now (room .entry)) r (now (room .exit)) ⌝ }
+{
+    if input.len() % 16 != 0 {
+        return Chaining::Refused;
+    }
+    if room.len() < input.len() {
+        return Chaining::Refused;
+    }
+    enc_inv_chain(iv, key, input, room);
+    Chaining::Done
+}
+
+// Deciphers the blocks of the input into the room, each chained to the input block before it, until none is left.
+fn dec_inv_chain(iv: [u8; 16], key: [u8; 16], input: &[u8], room: &mut [u8])
+    requires { ⌜ length (now input) ≤ length (now room) ⌝ }
+    ensures { λ _. ⌜ now (room .exit) ≡ over (cbcDecAesInv iv key (now (input .entry))) (now (room .entry)) ⌝ }
+{
+    if 16 <= input.len() {
+        let block = field::first_block(input);
+        let output = field::xor(aes_inverse::decrypt(key, block), iv);
+        bytes::copy(&output, &mut *room);
+        dec_inv_chain(block, key, &input[16..], &mut room[16..]);
+    }
+}
+
+// Enciphers, by AES-DEC, the blocks of the input into the room, each chained to the output block before it, until none is left.
+fn enc_inv_chain(iv: [u8; 16], key: [u8; 16], input: &[u8], room: &mut [u8])
+    requires { ⌜ length (now input) ≤ length (now room) ⌝ }
+    ensures { λ _. ⌜ now (room .exit) ≡ over (cbcEncAesInv iv key (now (input .entry))) (now (room .entry)) ⌝ }
+{
+    if 16 <= input.len() {
+        let output = aes_inverse::decrypt(key, field::xor(field::first_block(input), iv));
+        bytes::copy(&output, &mut *room);
+        enc_inv_chain(output, key, &input[16..], &mut room[16..]);
+    }
+}
