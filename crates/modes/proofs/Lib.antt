@@ -3,5 +3,6 @@ pub mod Mac
 pub mod Rooms
 pub mod Whole
 pub mod Undone
+pub mod Results
 pub mod MacBytes
-pub mod Unique
+pub mod Fits

@@ -79,7 +79,8 @@ fn enc_chain(iv: [u8; 16], key: [u8; 16], input: &[u8], room: &mut [u8])
     ensures { λ _. ⌜ now (room .exit) ≡ over (cbcEncAes iv key (now (input .entry))) (now (room .entry)) ⌝ }
 {
     if 16 <= input.len() {
-        let output = aes::encrypt(key, field::xor(field::first_block(input), iv));
+        let block = field::first_block(input);
+        let output = aes::encrypt(key, field::xor(block, iv));
         bytes::copy(&output, &mut *room);
         enc_chain(output, key, &input[16..], &mut room[16..]);
     }

@@ -3,6 +3,7 @@ use modes::Chaining;
 ghost use Prim.Native.Nat.{_≤_};
 ghost use mathlib.Core.Path.{_≡_};
 ghost use lib.ListN.{length};
+ghost use Rattle.aes_inverse.specs.AesDec.{aesDec};
 ghost use Rattle.modes.specs.Room.{Into, chains, over};
 ghost use Rattle.modes_inverse.specs.CbcInv.{cbcDecAesInv, cbcEncAesInv};
 
@@ -43,7 +44,7 @@ fn dec_inv_chain(iv: [u8; 16], key: [u8; 16], input: &[u8], room: &mut [u8])
 {
     if 16 <= input.len() {
         let block = field::first_block(input);
-        let output = field::xor(aes_inverse::decrypt(key, block), iv);
+        let output = field::xor(way(key, block), iv);
         bytes::copy(&output, &mut *room);
         dec_inv_chain(block, key, &input[16..], &mut room[16..]);
     }
@@ -55,8 +56,16 @@ fn enc_inv_chain(iv: [u8; 16], key: [u8; 16], input: &[u8], room: &mut [u8])
     ensures { λ _. ⌜ now (room .exit) ≡ over (cbcEncAesInv iv key (now (input .entry))) (now (room .entry)) ⌝ }
 {
     if 16 <= input.len() {
-        let output = aes_inverse::decrypt(key, field::xor(field::first_block(input), iv));
+        let block = field::first_block(input);
+        let output = way(key, field::xor(block, iv));
         bytes::copy(&output, &mut *room);
         enc_inv_chain(output, key, &input[16..], &mut room[16..]);
     }
+}
+
+// The way of the cipher that both forms take: all that tells them from the forms over AES-ENC.
+fn way(key: [u8; 16], block: [u8; 16]) -> [u8; 16]
+    ensures { λ r. ⌜ r ≡ aesDec key block ⌝ }
+{
+    aes_inverse::decrypt(key, block)
 }
