@@ -1,7 +1,7 @@
 -- No second answer fits the contracts of this crate's exported functions.
 use mathlib.Core.List.{List}
 use Prim.Native.Nat.{ℕ}
-use Rattle.uniqueness.specs.OneAnswer.{OneAnswer, one}
+use Rattle.ground.specs.OneAnswer.{OneAnswer, one}
 use Rattle.aes.proofs.encrypt.Reads as encrypt
 use Rattle.aes.proofs.encrypt.Kinds as encrypt-kinds
 use Rattle.aes.proofs.key_expansion.Reads as key-expansion

@@ -1,7 +1,7 @@
 -- No second answer fits the contract of this crate's exported function.
 use mathlib.Core.List.{List}
 use Prim.Native.Nat.{ℕ}
-use Rattle.uniqueness.specs.OneAnswer.{OneAnswer, one}
+use Rattle.ground.specs.OneAnswer.{OneAnswer, one}
 use Rattle.aes_inverse.proofs.decrypt.Reads as decrypt
 use Rattle.aes_inverse.proofs.decrypt.Kinds as decrypt-kinds
 

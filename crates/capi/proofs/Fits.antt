@@ -2,7 +2,7 @@
 use mathlib.Core.List.{List}
 use Prim.Native.Nat.{ℕ}
 use denote.Ref.{now}
-use Rattle.uniqueness.specs.OneAnswer.{OneAnswer, one}
+use Rattle.ground.specs.OneAnswer.{OneAnswer, one}
 use Rattle.capi.proofs.roualint_aes_enc.Reads as aes-enc
 use Rattle.capi.proofs.roualint_aes_enc.Kinds as aes-enc-kinds
 use Rattle.capi.proofs.roualint_aes_dec.Reads as aes-dec

@@ -1,7 +1,7 @@
 -- No second answer fits the contracts of this crate's exported functions.
 use mathlib.Core.List.{List}
 use Prim.Native.Nat.{ℕ}
-use Rattle.uniqueness.specs.OneAnswer.{OneAnswer, one}
+use Rattle.ground.specs.OneAnswer.{OneAnswer, one}
 use Rattle.field.proofs.sbox_table.Reads as sbox-table
 use Rattle.field.proofs.sbox_table.Kinds as sbox-table-kinds
 use Rattle.field.proofs.substitute.Reads as substitute

@@ -2,7 +2,7 @@
 use mathlib.Core.List.{List}
 use Prim.Native.Nat.{ℕ}
 use denote.Ref.{now}
-use Rattle.uniqueness.specs.OneAnswer.{OneAnswer, one}
+use Rattle.ground.specs.OneAnswer.{OneAnswer, one}
 use Rattle.modes.specs.declared.Chaining.{Chaining}
 use Rattle.modes.proofs.number.Reads as number
 use Rattle.modes.proofs.number.Kinds as number-kinds

@@ -8,14 +8,15 @@ use lib.Dec.{eqb, leb}
 use lib.ListN.{length, take, drop}
 use lib.Seq.{take-all}
 use borrow.Author.Tests.{eq-eqb, ne-eqb, le-leb, lt-leb}
-use Rattle.modes.specs.Room.{Into, both, chains, macs, over, answered, left}
+use Rattle.ground.specs.Choice.{pick, both}
+use Rattle.modes.specs.Room.{Into, chains, macs, over}
 use Rattle.modes.specs.declared.Chaining.the-variants.{Done, Refused}
 
 pub refused : (taken : Bool) (out room : List ℕ) → taken ≡ false → Into taken out room Refused room
-refused taken out room e = record { says = ap answered (sym e); leaves = ap (λ (b : Bool). left b out room) (sym e) }
+refused taken out room e = record { says = ap (λ (b : Bool). pick b Done Refused) (sym e); leaves = ap (λ (b : Bool). pick b (over out room) room) (sym e) }
 
 pub done : (taken : Bool) (out room after : List ℕ) → taken ≡ true → after ≡ over out room → Into taken out room Done after
-done taken out room after e f = record { says = ap answered (sym e); leaves = f ∙ ap (λ (b : Bool). left b out room) (sym e) }
+done taken out room after e f = record { says = ap (λ (b : Bool). pick b Done Refused) (sym e); leaves = f ∙ ap (λ (b : Bool). pick b (over out room) room) (sym e) }
 
 -- what a copy leaves: `out` over the first bytes
 pub copied : (out room after : List ℕ) → after ≡ take (length out) out ++ drop (length out) room → after ≡ over out room

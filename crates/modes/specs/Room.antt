@@ -1,10 +1,11 @@
 -- What a chaining or MAC call answers, and what its room holds afterwards (the house rules' number 8).
 use mathlib.Core.Path.{_≡_}
 use Prim.Native.Nat.{ℕ, _%_}
-use mathlib.Core.Bool.{Bool, true, false}
+use mathlib.Core.Bool.{Bool}
 use mathlib.Core.List.{List, _++_}
 use lib.Dec.{eqb, leb}
 use lib.ListN.{length, drop}
+use Rattle.ground.specs.Choice.{pick, both}
 use Rattle.modes.specs.Cmac.{macBytes}
 use Rattle.modes.specs.declared.Chaining.{Chaining}
 use Rattle.modes.specs.declared.Chaining.the-variants.{Done, Refused}
@@ -13,10 +14,6 @@ use Rattle.modes.specs.declared.Chaining.the-variants.{Done, Refused}
 abbrev pub numberOf : Chaining → ℕ
 numberOf Done = 0
 numberOf Refused = 8
-
-abbrev pub both : Bool → Bool → Bool
-both true b = b
-both false b = false
 
 -- Chaining n bytes into a room of m is taken: they are whole blocks, and there is room for as many.
 abbrev pub chains : ℕ → ℕ → Bool
@@ -31,14 +28,6 @@ abbrev pub over : List ℕ → List ℕ → List ℕ
 over out room = out ++ drop (length out) room
 
 -- What a call that is taken, or is not, answers, and what it leaves in the room it was lent.
-abbrev pub answered : Bool → Chaining
-answered true = Done
-answered false = Refused
-
-abbrev pub left : Bool → List ℕ → List ℕ → List ℕ
-left true out room = over out room
-left false out room = room
-
 pub record Into (taken : Bool) (out room : List ℕ) (answer : Chaining) (after : List ℕ) : Type 0 where
-  pub says : answer ≡ answered taken
-  pub leaves : after ≡ left taken out room
+  pub says : answer ≡ pick taken Done Refused
+  pub leaves : after ≡ pick taken (over out room) room

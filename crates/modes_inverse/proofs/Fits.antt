@@ -2,7 +2,7 @@
 use mathlib.Core.List.{List}
 use Prim.Native.Nat.{ℕ}
 use denote.Ref.{now}
-use Rattle.uniqueness.specs.OneAnswer.{OneAnswer, one}
+use Rattle.ground.specs.OneAnswer.{OneAnswer, one}
 use Rattle.modes.specs.declared.Chaining.{Chaining}
 use Rattle.modes_inverse.proofs.cbc_dec_aes_inv.Reads as cbc-dec-aes-inv
 use Rattle.modes_inverse.proofs.cbc_dec_aes_inv.Kinds as cbc-dec-aes-inv-kinds
