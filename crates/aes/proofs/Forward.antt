@@ -1,15 +1,15 @@
 -- What each map of the cipher makes of bytes is a block of bytes; and so AES-ENC of a block, under every key.
-use mathlib.Core.Path.{_≡_, refl}
+use mathlib.Core.Path.{refl}
 use mathlib.Core.Bool.{Bool, true, false}
-use mathlib.Core.List.{List, [], _∷_}
+use mathlib.Core.List.{List, []}
 use Prim.Native.Nat.{ℕ, zero, suc, _+_, _*_, _/_, _%_, _<_}
 use native.Mathlib.Nat.{zero-lt-suc}
 use lib.Dec.{lit<, eqb}
-use lib.ListN.{length, getD}
+use lib.ListN.{getD}
 use lib.Bits.{bitXor}
 use Rattle.field.specs.Field.{times, remainder, polynomialProduct}
 use Rattle.field.specs.Sbox.{sbox}
-use Rattle.field.specs.Block.{tabulatedFrom, block, xor}
+use Rattle.field.specs.Block.{tabulatedFrom, xor}
 use Rattle.field.proofs.Sum.{byte-xor}
 use Rattle.field.proofs.Product.{times-byte}
 use Rattle.field.proofs.Inverse.{sbox-byte}
@@ -51,7 +51,7 @@ roundConstant-byte zero = lit< tt
 roundConstant-byte (suc zero) = lit< tt
 roundConstant-byte (suc (suc j)) = times2-byte (roundConstant (suc j)) (roundConstant-byte (suc j))
 
-rcon-bytes : (j : ℕ) → Bytes (rcon (roundConstant j))
+rcon-bytes : (j : ℕ) → Bytes (rcon j)
 rcon-bytes j zero = roundConstant-byte j
 rcon-bytes j (suc zero) = lit< tt
 rcon-bytes j (suc (suc zero)) = lit< tt
@@ -60,7 +60,7 @@ rcon-bytes j (suc (suc (suc (suc i)))) = lit< tt
 
 turned-bytes : (b : Bool) (j : ℕ) (t : List ℕ) → Bytes t → Bytes (turned b j t)
 turned-bytes true j t h =
-    tabulated-bytes (λ i. bitXor (getD (subWord (rotWord t)) i 0) (getD (rcon (roundConstant j)) i 0))
+    tabulated-bytes (λ i. bitXor (getD (subWord (rotWord t)) i 0) (getD (rcon j) i 0))
     (λ i. byte-xor (tabulated-bytes (λ k. sbox (getD (rotWord t) k 0)) (λ k. sbox-byte _ (tabulated-bytes (λ m. getD t ((m + 1) % 4) 0) (λ m. h _) 4 k)) 4 i) (rcon-bytes j i)) 4
 turned-bytes false j t h = h
 

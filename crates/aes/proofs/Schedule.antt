@@ -1,14 +1,13 @@
 -- Each round key of KeyExpansion is the next of the one before it.
-use mathlib.Core.Path.{_≡_, refl, sym, ap, _∙_}
-use mathlib.Core.Bool.{Bool, true, false}
-use mathlib.Core.List.{List, [], _∷_}
-use Prim.Native.Nat.{ℕ, zero, suc, _+_, _*_, _/_, _%_}
+use mathlib.Core.Path.{_≡_, sym, ap, _∙_}
+use mathlib.Core.List.{List}
+use Prim.Native.Nat.{ℕ, suc, _+_, _*_, _/_, _%_}
 use native.Mathlib.Omega.{arith}
 use lib.Dec.{eqb}
 use lib.ListN.{length, getD}
-use Rattle.field.specs.Block.{block}
 use Rattle.field.proofs.Block.{whole}
-use Rattle.aes.specs.KeyExpansion.{word, xorWord, turned, roundConstant, w, roundKey, columns, nextRoundKey}
+use Rattle.aes.specs.KeyExpansion.{word, xorWord, turned, roundConstant, w, roundKey}
+use Rattle.aes.specs.NextRoundKey.{columns, nextRoundKey}
 
 -- word i + 4, where i is j words into the four of round n
 step : (key : List ℕ) (n j i m r : ℕ) → i ≡ suc (suc (suc (suc j))) → (4 + j) % 4 ≡ r → (4 + j) / 4 ≡ suc n → m ≡ suc (suc (suc j))

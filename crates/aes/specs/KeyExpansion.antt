@@ -1,7 +1,7 @@
 -- KeyExpansion, FIPS 197 section 5.2, at the four words of an AES-128 key. A word is four bytes.
 use Prim.Native.Nat.{ℕ, zero, suc, _+_, _*_, _/_, _%_}
 use mathlib.Core.Bool.{Bool, true, false}
-use mathlib.Core.List.{List, [], _∷_, _++_}
+use mathlib.Core.List.{List, [], _∷_}
 use lib.Dec.{eqb}
 use lib.ListN.{getD}
 use lib.Bits.{bitXor}
@@ -28,12 +28,16 @@ roundConstant zero = 0
 roundConstant (suc zero) = 1
 roundConstant (suc (suc j)) = times 2 (roundConstant (suc j))
 
+-- A word of which only the first byte is not 0.
+abbrev pub firstOnly : ℕ → List ℕ
+firstOnly c = c ∷ 0 ∷ 0 ∷ 0 ∷ []
+
 abbrev pub rcon : ℕ → List ℕ
-rcon c = c ∷ 0 ∷ 0 ∷ 0 ∷ []
+rcon j = firstOnly (roundConstant j)
 
 -- What is added to w[i - 4]: w[i - 1], and at each fourth word that word turned, substituted and with Rcon[i / 4] added.
 abbrev pub turned : Bool → ℕ → List ℕ → List ℕ
-turned true j t = xorWord (subWord (rotWord t)) (rcon (roundConstant j))
+turned true j t = xorWord (subWord (rotWord t)) (rcon j)
 turned false j t = t
 
 -- w[i]
@@ -51,20 +55,3 @@ roundKey key n = block (λ i. getD (w key (4 * n + i / 4)) (i % 4) 0)
 -- The round keys of the rounds 0 to 10.
 unfoldable pub keyExpansion : List ℕ → List (List ℕ)
 keyExpansion key = tabulated (roundKey key) 11
-
--- Four words as the columns of a round key.
-abbrev pub columns : List ℕ → List ℕ → List ℕ → List ℕ → List ℕ
-columns k0 k1 k2 k3 = k0 ++ (k1 ++ (k2 ++ k3))
-
--- Four words at once: each word of the round key k is added to the word before it, and the first to t.
-abbrev pub added : List ℕ → List ℕ → List ℕ
-added k t =
-    let k0 = xorWord (word (λ i. getD k i 0)) t in
-    let k1 = xorWord (word (λ i. getD k (4 + i) 0)) k0 in
-    let k2 = xorWord (word (λ i. getD k (8 + i) 0)) k1 in
-    let k3 = xorWord (word (λ i. getD k (12 + i) 0)) k2 in
-    columns k0 k1 k2 k3
-
--- The round key that follows the round key k, at the round constant c. `proofs/Schedule.antt` shows that it does.
-unfoldable pub nextRoundKey : ℕ → List ℕ → List ℕ
-nextRoundKey c k = added k (xorWord (subWord (rotWord (word (λ i. getD k (12 + i) 0)))) (rcon c))

@@ -1,3 +1,4 @@
 pub mod Cipher
 pub mod KeyExpansion
+pub mod NextRoundKey
 pub mod AesEnc

@@ -1,10 +1,9 @@
 // AES-128 encryption (FIPS 197). There is no inverse cipher here: a tag has none.
 ghost use mathlib.Core.Path.{_≡_};
-ghost use lib.Bits.{bitXor};
-ghost use Rattle.field.specs.Field.{times};
 ghost use Rattle.field.specs.Sbox.{sboxTable};
-ghost use Rattle.aes.specs.Cipher.{subBytes, shiftRows, mixColumns, addRoundKey, cipher};
-ghost use Rattle.aes.specs.KeyExpansion.{keyExpansion, nextRoundKey};
+ghost use Rattle.aes.specs.Cipher.{mixed, subBytes, shiftRows, mixColumns, addRoundKey, cipher};
+ghost use Rattle.aes.specs.KeyExpansion.{keyExpansion};
+ghost use Rattle.aes.specs.NextRoundKey.{nextRoundKey};
 ghost use Rattle.aes.specs.AesEnc.{aesEnc};
 
 // AES-ENC(key, data) of one block.
@@ -68,7 +67,7 @@ pub fn mix_columns(s: [u8; 16]) -> [u8; 16]
 
 // A byte of a mixed column: a stands in its own row, b, c and d in the rows below it.
 fn mix(a: u8, b: u8, c: u8, d: u8) -> u8
-    ensures { λ r. ⌜ r ≡ bitXor (bitXor (times 2 a) (times 3 b)) (bitXor c d) ⌝ }
+    ensures { λ r. ⌜ r ≡ mixed a b c d ⌝ }
 {
     (field::times2(a) ^ (field::times2(b) ^ b)) ^ (c ^ d)
 }

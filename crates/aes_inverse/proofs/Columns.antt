@@ -2,12 +2,14 @@
 -- and there they agree where they agree at the eight bits.
 use mathlib.Core.Path.{_≡_, refl, sym, ap, ap₂, _∙_}
 use Prim.Native.Nat.{ℕ, _^_, _<_}
-use mathlib.Core.List.{List, [], _∷_}
+use mathlib.Core.List.{List, _∷_}
 use lib.Bits.{bitXor, xor-zero-r, xor-comm}
 use Rattle.field.specs.Field.{times, remainder, polynomialProduct}
 use Rattle.field.specs.Block.{tabulated}
+use Rattle.aes.specs.Cipher.{mixed}
+use Rattle.aes_inverse.specs.InvCipher.{unmixed}
 use Rattle.field.proofs.Sum.{xor-swap}
-use Rattle.field.proofs.Product.{Linear, times-linear, linear-same}
+use Rattle.field.proofs.Product.{times-linear, linear-same}
 
 abbrev pub Column : Type 0
 Column = ℕ → ℕ → ℕ → ℕ → ℕ
@@ -47,13 +49,6 @@ module _ (F G : Column) (f : Additive F) (g : Additive G) where
       (ap₂ bitXor (linear-same (λ x. F 0 0 x 0) (λ x. G 0 0 x 0) (λ x y. f 0 0 x 0 0 0 y 0) (λ x y. g 0 0 x 0 0 0 y 0) e₃ c hc)
       (linear-same (λ x. F 0 0 0 x) (λ x. G 0 0 0 x) (λ x y. f 0 0 0 x 0 0 0 y) (λ x y. g 0 0 0 x 0 0 0 y) e₄ d hd)))
       ∙ sym (on-axes G g a b c d)
-
--- a byte of MixColumns, and one of InvMixColumns, from the four bytes below it
-abbrev pub mixed : Column
-mixed a b c d = bitXor (bitXor (times 2 a) (times 3 b)) (bitXor c d)
-
-abbrev pub unmixed : Column
-unmixed a b c d = bitXor (bitXor (times 0x0E a) (times 0x0B b)) (bitXor (times 0x0D c) (times 0x09 d))
 
 module _ (A B C D : Column) (ha : Additive A) (hb : Additive B) (hc : Additive C) (hd : Additive D) where
   mixed-additive : Additive (λ a b c d. mixed (A a b c d) (B a b c d) (C a b c d) (D a b c d))

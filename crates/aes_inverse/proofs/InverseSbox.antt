@@ -1,15 +1,12 @@
 -- The inverse S-box undoes the S-box, and the S-box the inverse S-box, at every byte.
 use mathlib.Core.Path.{_≡_, refl, ap, _∙_}
-use mathlib.Core.List.{List}
-use Prim.Native.Nat.{ℕ, _+_, _*_, _/_, _<_}
+use Prim.Native.Nat.{ℕ, _/_, _<_}
 use native.Mathlib.Omega.{arith}
 use lib.ListN.{getD}
 use Rattle.field.specs.Field.{inverse}
-use Rattle.field.specs.Sbox.{sbox, affine, affineBit, bit, fromBits}
-use Rattle.field.specs.Block.{substituted, block}
+use Rattle.field.specs.Sbox.{sbox, sboxTable, affine, affineBit, bit, fromBits}
 use Rattle.field.proofs.Table.{same-at, entry-at}
-use Rattle.field.proofs.Inverse.{inverse-byte, inverse-twice}
-use Rattle.field.proofs.Block.{Bytes, block-same}
+use Rattle.field.proofs.Inverse.{inverse-byte, inverse-twice, sbox-byte, sbox-entry}
 use Rattle.aes_inverse.specs.InvSbox.{invAffine, invAffineBit, invSbox, invSboxTable}
 
 invAffine-affine : (b : ℕ) → b < 256 → invAffine (affine b) ≡ b
@@ -39,9 +36,13 @@ pub sbox-invSbox : (b : ℕ) → b < 256 → sbox (invSbox b) ≡ b
 unfolding invSbox sbox
 sbox-invSbox b h = ap affine (inverse-twice (invAffine b) (invAffine-byte b h)) ∙ affine-invAffine b h
 
--- through the inverse S-box's table each byte becomes its inverse S-box
-pub substituted-invSbox : (t s : List ℕ) → t ≡ invSboxTable → Bytes s → substituted t s ≡ block (λ i. invSbox (getD s i 0))
-unfolding substituted invSboxTable
-substituted-invSbox t s e h =
-    block-same (λ i. getD t (getD s i 0) 0) (λ i. invSbox (getD s i 0))
-    (λ i. ap (λ (l : List ℕ). getD l (getD s i 0) 0) e ∙ entry-at 0 invSbox 256 (getD s i 0) (h i))
+-- the same of the two tables: the second undoes the first, and the first the second
+inverse-entry : (b : ℕ) → b < 256 → getD invSboxTable b 0 ≡ invSbox b
+unfolding invSboxTable
+inverse-entry b h = entry-at 0 invSbox 256 b h
+
+pub tables-back : (b : ℕ) → b < 256 → getD invSboxTable (getD sboxTable b 0) 0 ≡ b
+tables-back b h = ap (λ (x : ℕ). getD invSboxTable x 0) (sbox-entry b h) ∙ inverse-entry (sbox b) (sbox-byte b h) ∙ invSbox-sbox b h
+
+pub tables-forth : (b : ℕ) → b < 256 → getD sboxTable (getD invSboxTable b 0) 0 ≡ b
+tables-forth b h = ap (λ (x : ℕ). getD sboxTable x 0) (inverse-entry b h) ∙ sbox-entry (invSbox b) (invSbox-byte b h) ∙ sbox-invSbox b h

@@ -1,19 +1,19 @@
 -- What each map of InvCipher makes of bytes is a block of bytes; and each map of the one cipher is undone by that of the other.
-use mathlib.Core.Path.{_≡_, refl, ap, _∙_}
-use mathlib.Core.List.{List, [], _∷_}
+use mathlib.Core.Path.{_≡_, refl, _∙_}
+use mathlib.Core.List.{List}
 use Prim.Native.Nat.{ℕ, _+_, _-_, _*_, _/_, _%_, _<_}
-use lib.ListN.{length, getD}
+use lib.ListN.{getD}
 use Rattle.field.specs.Field.{times, remainder, polynomialProduct}
 use Rattle.field.specs.Sbox.{sbox}
 use Rattle.field.specs.Block.{block}
 use Rattle.field.proofs.Sum.{byte-xor}
 use Rattle.field.proofs.Product.{times-byte}
 use Rattle.field.proofs.Block.{Bytes, Block, block-of, block-same, whole}
-use Rattle.aes.specs.Cipher.{at, subBytes, shiftRows, mixColumns, mixedByte}
+use Rattle.aes.specs.Cipher.{mixed, at, subBytes, shiftRows, mixColumns, mixedByte}
 use Rattle.aes_inverse.specs.InvSbox.{invSbox}
-use Rattle.aes_inverse.specs.InvCipher.{invSubBytes, invShiftRows, invMixColumns, unmixedByte}
+use Rattle.aes_inverse.specs.InvCipher.{unmixed, invSubBytes, invShiftRows, invMixColumns, unmixedByte}
 use Rattle.aes_inverse.proofs.InverseSbox.{invSbox-byte, invSbox-sbox, sbox-invSbox}
-use Rattle.aes_inverse.proofs.Columns.{Column, mixed, unmixed, after, unmixed-mixed, mixed-unmixed}
+use Rattle.aes_inverse.proofs.Columns.{Column, after, unmixed-mixed, mixed-unmixed}
 
 times9-byte : (b : ℕ) → b < 256 → times 0x09 b < 256
 unfolding times remainder polynomialProduct

@@ -1,6 +1,5 @@
 // AES-128 decryption (FIPS 197, section 5.3). Only the reader's side has it: the reader decrypts to send.
 ghost use mathlib.Core.Path.{_≡_};
-ghost use lib.Bits.{bitXor};
 ghost use Rattle.field.specs.Field.{times};
 ghost use Rattle.aes.specs.Cipher.{addRoundKey};
 ghost use Rattle.aes_inverse.specs.InvSbox.{invSboxTable};

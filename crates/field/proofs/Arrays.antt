@@ -10,13 +10,10 @@ use denote.Array.{Array}
 use lib.ListN.{length}
 use borrow.Kind.Array.{eInt, good-length}
 use borrow.Author.Needs.{elem-fits}
-use Rattle.field.proofs.Block.{Bytes, Block}
+use Rattle.field.proofs.Block.{Bytes}
 
 pub array-length : (n : ℕ) (xs : List ℕ) (vs : List Val) → Is (Array (UInt w8) n) xs vs → length xs ≡ n
 array-length n xs vs p = good-length (eInt w8) n xs vs p
 
 pub array-bytes : (n : ℕ) (xs : List ℕ) (vs : List Val) → Is (Array (UInt w8) n) xs vs → Bytes xs
 array-bytes n xs vs p i = elem-fits w8 w8 xs (p .0) i (p .1 .1) tt .fits
-
-pub array-block : (xs : List ℕ) (vs : List Val) → Is (Array (UInt w8) 16) xs vs → Block xs
-array-block xs vs p = record { sixteen = array-length 16 xs vs p; bytes = array-bytes 16 xs vs p }

@@ -1,16 +1,15 @@
 -- Blocks: sixteen bytes. A block is what stands at its places; the exclusive or of two blocks is a block, and undoes itself.
 use mathlib.Core.Path.{_≡_, refl, sym, ap, _∙_}
-use mathlib.Core.List.{List, [], _∷_}
+use mathlib.Core.List.{List, _∷_}
 use Prim.Native.Nat.{ℕ, zero, suc, _+_, _<_, _≤_}
 use native.Mathlib.Nat.{zero-lt-suc}
 use native.Mathlib.Omega.{arith}
 use lib.ListN.{length, getD, take, drop}
 use lib.Seq.{drop-cons, take-all}
 use lib.Bits.{bitXor}
-use Rattle.field.specs.Sbox.{sbox, sboxTable}
 use Rattle.field.specs.Block.{tabulatedFrom, tabulated, block, firstBlock, xor, substituted}
 use Rattle.field.proofs.Sum.{xor-twice, byte-xor}
-use Rattle.field.proofs.Inverse.{sbox-entry}
+use Rattle.field.proofs.Table.{entry-at}
 
 -- each element is a byte, and so is the 0 past the end
 abbrev pub Bytes : List ℕ → Type 0
@@ -56,7 +55,8 @@ pub xor-undone : (a b : List ℕ) → length a ≡ 16 → xor (xor a b) b ≡ a
 unfolding xor
 xor-undone a b e = block-same (λ i. bitXor (bitXor (getD a i 0) (getD b i 0)) (getD b i 0)) (λ i. getD a i 0) (λ i. xor-twice (getD a i 0) (getD b i 0)) ∙ whole a e
 
--- through the S-box's table each byte becomes its S-box
-pub substituted-sbox : (t s : List ℕ) → t ≡ sboxTable → Bytes s → substituted t s ≡ block (λ i. sbox (getD s i 0))
+-- through the table of f each byte becomes its f
+pub substituted-by : (f : ℕ → ℕ) (t s : List ℕ) → t ≡ tabulated f 256 → Bytes s → substituted t s ≡ block (λ i. f (getD s i 0))
 unfolding substituted
-substituted-sbox t s e h = block-same (λ i. getD t (getD s i 0) 0) (λ i. sbox (getD s i 0)) (λ i. sbox-entry t (getD s i 0) e (h i))
+substituted-by f t s e h =
+    block-same (λ i. getD t (getD s i 0) 0) (λ i. f (getD s i 0)) (λ i. ap (λ (l : List ℕ). getD l (getD s i 0) 0) e ∙ entry-at 0 f 256 (getD s i 0) (h i))

@@ -1,6 +1,5 @@
 -- `inverse` is the inverse of the field: a byte, whose product with b is 1; and that of 0 is 0. And what follows of the S-box.
-use mathlib.Core.Path.{_≡_, refl, sym, ap, _∙_}
-use mathlib.Core.List.{List}
+use mathlib.Core.Path.{_≡_, refl}
 use Prim.Native.Nat.{ℕ, _+_, _*_, _/_, _<_, min}
 use native.Mathlib.Omega.{arith}
 use lib.ListN.{getD}
@@ -37,6 +36,6 @@ unfolding sbox
 sbox-byte b h = omega (arith, affine-byte (inverse b) (inverse-byte b h))
 
 -- an entry of the S-box's table is the S-box
-pub sbox-entry : (t : List ℕ) (b : ℕ) → t ≡ sboxTable → b < 256 → getD t b 0 ≡ sbox b
+pub sbox-entry : (b : ℕ) → b < 256 → getD sboxTable b 0 ≡ sbox b
 unfolding sboxTable
-sbox-entry t b e h = ap (λ (l : List ℕ). getD l b 0) e ∙ entry-at 0 sbox 256 b h
+sbox-entry b h = entry-at 0 sbox 256 b h

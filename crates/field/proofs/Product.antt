@@ -1,5 +1,5 @@
 -- The product of the field is linear in its second factor; and two linear maps that agree at the eight bits agree at each byte.
-use mathlib.Core.Path.{_≡_, refl, sym, ap, ap₂, _∙_, subst}
+use mathlib.Core.Path.{_≡_, refl, sym, ap, ap₂, _∙_}
 use mathlib.Core.Logic.{_⊎_, inl, inr, ⊎-elim}
 use Prim.Native.Nat.{ℕ, zero, suc, _+_, _-_, _*_, _/_, _%_, _^_, _<_, _≤_}
 use native.Mathlib.Nat.{zero-mul, one-mul, two-pow-succ}
@@ -46,14 +46,8 @@ times-linear a b c = ap (remainder 7) (product-linear 8 a b c) ∙ remainder-lin
 pub sum-linear : (f g : ℕ → ℕ) → Linear f → Linear g → Linear (λ x. bitXor (f x) (g x))
 sum-linear f g hf hg a b = ap₂ bitXor (hf a b) (hg a b) ∙ xor-swap (f a) (f b) (g a) (g b)
 
-pub then-linear : (f g : ℕ → ℕ) → Linear f → Linear g → Linear (λ x. f (g x))
-then-linear f g hf hg a b = ap f (hg a b) ∙ hf (g a) (g b)
-
 pub itself-linear : Linear (λ x. x)
 itself-linear a b = refl
-
-pub nothing-linear : Linear (λ x. 0)
-nothing-linear a b = refl
 
 lt-or-le : (a b : ℕ) → (a < b) ⊎ (b ≤ a)
 lt-or-le a zero = inr (omega arith)

@@ -1,9 +1,9 @@
 -- What antt computes once over a whole table holds at each of its entries.
-use mathlib.Core.Path.{_≡_, refl, _∙_, sym, ap}
-use mathlib.Core.List.{List, [], _∷_}
-use Prim.Native.Nat.{ℕ, zero, suc, _+_, _<_, _≤_}
+use mathlib.Core.Path.{_≡_, _∙_, sym, ap}
+use mathlib.Core.List.{List}
+use Prim.Native.Nat.{ℕ, zero, suc, _+_, _<_}
 use native.Mathlib.Nat.{add-zero, zero-add, add-suc, suc-add, le-of-suc-le-suc, not-suc-le-zero}
-use lib.ListN.{length, getD}
+use lib.ListN.{getD}
 use Rattle.field.specs.Block.{tabulated, tabulatedFrom}
 
 module _ {A : Type 0} (d : A) (f : ℕ → A) where
@@ -19,9 +19,3 @@ module _ {A : Type 0} (d : A) (f : ℕ → A) where
 -- two functions with equal tables agree at each place; that the tables are equal is `refl`, computed
 pub same-at : (f g : ℕ → ℕ) (n : ℕ) → tabulated f n ≡ tabulated g n → (k : ℕ) → k < n → f k ≡ g k
 same-at f g n e k h = sym (entry-at 0 f n k h) ∙ ap (λ (t : List ℕ). getD t k 0) e ∙ entry-at 0 g n k h
-
--- past the end of a list stands 0
-pub past-end : (s : List ℕ) (i : ℕ) → length s ≤ i → getD s i 0 ≡ 0
-past-end [] i h = refl
-past-end (x ∷ s) zero h = absurd (not-suc-le-zero h)
-past-end (x ∷ s) (suc i) h = past-end s i (le-of-suc-le-suc h)

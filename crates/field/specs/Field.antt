@@ -22,6 +22,6 @@ unfoldable pub productOfSquares : ℕ → ℕ → ℕ
 productOfSquares zero b = 1
 productOfSquares (suc n) b = times b (productOfSquares n (times b b))
 
--- 4.4: the inverse of b is b^254, which is b^2 b^4 .. b^128; that of 0 is 0. `proofs/Inverse.antt` shows that it is the inverse.
+-- 4.4: the inverse of b is b^254, which is b^2 b^4 .. b^128. That of 0, which 5.1.1 sets, comes out as 0. `proofs/Inverse.antt` shows that it is the inverse.
 unfoldable pub inverse : ℕ → ℕ
 inverse b = productOfSquares 7 (times b b)

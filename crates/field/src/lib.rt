@@ -1,4 +1,4 @@
-// The field of 256 elements and blocks of sixteen bytes: what both ways of the cipher share (FIPS 197, sections 3 and 4).
+// The field of 256 elements and blocks of sixteen bytes: what both ways of the cipher share (FIPS 197, sections 3 and 4), with the S-box (5.1.1).
 ghost use mathlib.Core.Path.{_≡_};
 ghost use Rattle.field.specs.Field.{times};
 ghost use Rattle.field.specs.Sbox.{sboxTable};
@@ -88,7 +88,7 @@ fn byte_at(s: &[u8], i: usize) -> u8
     0
 }
 
-// The product of b by x (4.2.1): a shift, and 0x1B added where x^8 comes up.
+// The product of b by x (4.2): a shift, and 0x1B added where x^8 comes up.
 // Ruled out: another polynomial than 0x11B; the carry dropped.
 pub fn times2(b: u8) -> u8
     ensures { λ r. ⌜ r ≡ times 2 b ⌝ }

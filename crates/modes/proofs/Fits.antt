@@ -1,4 +1,5 @@
 -- No second answer fits the contracts of this crate's exported functions: neither another answer nor another byte in the room.
+use mathlib.Core.Bool.{Bool}
 use mathlib.Core.List.{List}
 use Prim.Native.Nat.{ℕ}
 use denote.Ref.{now}
@@ -6,6 +7,8 @@ use Rattle.ground.specs.OneAnswer.{OneAnswer, one}
 use Rattle.modes.specs.declared.Chaining.{Chaining}
 use Rattle.modes.proofs.number.Reads as number
 use Rattle.modes.proofs.number.Kinds as number-kinds
+use Rattle.modes.proofs.takes.Reads as takes
+use Rattle.modes.proofs.takes.Kinds as takes-kinds
 use Rattle.modes.proofs.cbc_enc_aes.Reads as cbc-enc-aes
 use Rattle.modes.proofs.cbc_enc_aes.Kinds as cbc-enc-aes-kinds
 use Rattle.modes.proofs.cbc_dec_aes.Reads as cbc-dec-aes
@@ -15,6 +18,9 @@ use Rattle.modes.proofs.cmac_96.Kinds as cmac-96-kinds
 
 pub number-one : OneAnswer 0 number-kinds.ps number-kinds.r number.Post ℕ (λ κs r s. r)
 number-one κs a x y s t p q = one p q
+
+pub takes-one : OneAnswer 0 takes-kinds.ps takes-kinds.r takes.Post Bool (λ κs r s. r)
+takes-one κs a x y s t p q = one p q
 
 pub cbc-enc-aes-one : OneAnswer 2 cbc-enc-aes-kinds.ps cbc-enc-aes-kinds.r cbc-enc-aes.Post (Chaining × List ℕ) (λ κs r s. (r, now (s .1 .1 .1 .0)))
 cbc-enc-aes-one κs a x y s t p q i = (one (p .says) (q .says) i, one (p .leaves) (q .leaves) i)

@@ -1,12 +1,12 @@
 -- The MAC's chain, block by block; and the doubling, byte by byte.
 use mathlib.Core.Path.{_≡_, refl, sym, ap, _∙_, subst}
-use mathlib.Core.List.{List, [], _∷_}
+use mathlib.Core.List.{List, _∷_}
 use Prim.Native.Nat.{ℕ, _+_, _*_, _/_, _%_, _≤_, _<_}
 use native.Mathlib.Omega.{arith}
-use lib.ListN.{length, getD, set, take, drop, length-drop}
+use lib.ListN.{length, getD, set, take, drop, length-drop, List·getD-eq-default}
 use lib.Bits.{bitXor, xor-shifted, xor-zero-r}
-use Rattle.field.specs.Block.{tabulated, block, xor}
-use Rattle.field.proofs.Table.{same-at, entry-at, past-end}
+use Rattle.field.specs.Block.{xor}
+use Rattle.field.proofs.Table.{same-at, entry-at}
 use Rattle.field.proofs.Fill.{Filled, one-more, filled}
 use Rattle.aes.specs.AesEnc.{aesEnc}
 use Rattle.modes.specs.Blocks.{wholeBlocks}
@@ -57,7 +57,7 @@ doubled-inner l i h b =
 doubled-last : (l : List ℕ) → length l ≡ 16 → bitXor (getD l 15 0 * 2 % 256) (getD l 0 0 / 128 * 0x87) ≡ doubledByte l 15
 unfolding shiftedLeft
 doubled-last l e =
-    let none : getD l 15 0 * 2 % 256 ≡ getD l 15 0 * 2 % 256 + getD l 16 0 / 128 = omega (arith, past-end l 16 (omega (arith, e))) in
+    let none : getD l 15 0 * 2 % 256 ≡ getD l 15 0 * 2 % 256 + getD l 16 0 / 128 = omega (arith, List·getD-eq-default l 0 {n = 16} (omega (arith, e))) in
     ap (λ (x : ℕ). bitXor x (getD l 0 0 / 128 * 0x87)) none
 
 -- fifteen bytes are filled, and the last is stored

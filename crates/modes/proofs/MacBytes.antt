@@ -4,7 +4,7 @@ use mathlib.Core.List.{List, [], _∷_, _++_}
 use Prim.Native.Nat.{ℕ, zero, suc, _+_, _*_, _/_, _%_, _<_}
 use native.Mathlib.Omega.{arith}
 use lib.Dec.{lit<}
-use lib.ListN.{length, getD, take, replicate}
+use lib.ListN.{length, getD, replicate}
 use lib.Seq.{length-take-le}
 use Rattle.field.specs.Block.{xor}
 use Rattle.field.proofs.Block.{Bytes, Block, block-of, xor-is-block}
@@ -46,12 +46,15 @@ module _ (key : List ℕ) (hk : Bytes key) where
   chain-block [] c b h = b
   chain-block (m ∷ ms) c b (bm, h) = chain-block ms (aesEnc key (xor c m)) (enc-block key (xor c m) hk (xor-is-block c m (b .bytes) (bm .bytes))) h
 
+  subkey-block : Block (subkey1 key)
+  unfolding subkey1
+  subkey-block = doubled-block _ (enc-block key (lastByte 0) hk (last-byte-block 0 (lit< tt)) .bytes)
+
   pub cmac-block : (s : List ℕ) → Bytes s → Block (cmac key s)
-  unfolding cmac subkey1
+  unfolding cmac
   cmac-block s h =
-      let k1 = doubled-block (aesEnc key (lastByte 0)) (enc-block key (lastByte 0) hk (last-byte-block 0 (lit< tt)) .bytes) in
-      chain-block (masked (doubled (aesEnc key (lastByte 0))) (wholeBlocks s)) (lastByte 0) (last-byte-block 0 (lit< tt))
-      (masked-blocks (doubled (aesEnc key (lastByte 0))) (wholeBlocks s) (k1 .bytes) (whole-are s h))
+      chain-block (masked (subkey1 key) (wholeBlocks s)) (lastByte 0) (last-byte-block 0 (lit< tt))
+      (masked-blocks (subkey1 key) (wholeBlocks s) (subkey-block .bytes) (whole-are s h))
 
   pub mac-length : (s : List ℕ) → Bytes s → length (cmac96 key s) ≡ 12
   unfolding cmac96

@@ -1,7 +1,7 @@
 -- A DEC form of chaining undoes the ENC form over the other way of the cipher: one theorem for the two pairs of ISO/IEC 29167-10 3.1.8 to 3.1.11.
 use mathlib.Core.Path.{_≡_, refl, ap, ap₂, _∙_}
 use mathlib.Core.List.{List, [], _∷_}
-use Prim.Native.Nat.{ℕ, zero, suc, _*_, _/_, _%_}
+use Prim.Native.Nat.{ℕ, suc, _*_, _/_, _%_}
 use lib.ListN.{length}
 use Rattle.field.specs.Block.{xor}
 use Rattle.field.proofs.Block.{Bytes, Block, xor-is-block, xor-undone}

@@ -1,4 +1,4 @@
--- Cipher block chaining over one way of a cipher, `F`, as ISO/IEC 29167-10 3.1.8 to 3.1.11 has it (SP 800-38A, section 6.2, where F is the way that is meant there).
+-- Cipher block chaining over one way of a cipher, `F`, as ISO/IEC 29167-10 3.1.8 to 3.1.11 has it (SP 800-38A, section 6.2, with AES-ENC to encrypt and AES-DEC to decrypt).
 -- I1, I2 and so on are the input blocks, O1, O2 and so on the output blocks.
 use Prim.Native.Nat.{ℕ}
 use mathlib.Core.List.{List, [], _∷_}
@@ -20,6 +20,6 @@ cbcDec F iv (i ∷ is) = xor (F i) iv ∷ cbcDec F i is
 unfoldable pub cbcEncAes : List ℕ → List ℕ → List ℕ → List ℕ
 cbcEncAes iv key input = joined (cbcEnc (aesEnc key) iv (wholeBlocks input))
 
--- 3.1.11: CBC_DEC_AES (IV, key, data), which takes what CBC_ENC_AES_INV made apart by encryption
+-- 3.1.11: CBC_DEC_AES (IV, key, data), which undoes CBC_ENC_AES_INV by encryption
 unfoldable pub cbcDecAes : List ℕ → List ℕ → List ℕ → List ℕ
 cbcDecAes iv key input = joined (cbcDec (aesEnc key) iv (wholeBlocks input))

@@ -1,6 +1,6 @@
 -- CMAC, NIST SP 800-38B, over AES-128, for input that is whole blocks, at least one: the last block is complete, so that K1 is added to it and K2 is never used
 -- (ISO/IEC 29167-10 3.1.13).
-use Prim.Native.Nat.{ℕ, zero, suc, _+_, _*_, _/_, _%_}
+use Prim.Native.Nat.{ℕ, _+_, _*_, _/_, _%_}
 use mathlib.Core.List.{List, [], _∷_}
 use lib.ListN.{getD, take}
 use Rattle.field.specs.Block.{block, xor}
@@ -11,11 +11,11 @@ use Rattle.modes.specs.Blocks.{wholeBlocks}
 abbrev pub lastByte : ℕ → List ℕ
 lastByte b = 0 ∷ 0 ∷ 0 ∷ 0 ∷ 0 ∷ 0 ∷ 0 ∷ 0 ∷ 0 ∷ 0 ∷ 0 ∷ 0 ∷ 0 ∷ 0 ∷ 0 ∷ b ∷ []
 
--- 4.2, 5.3: a block shifted to the left by one bit; the bit that falls out on the left is dropped.
+-- A block shifted to the left by one bit; the bit that falls out on the left is dropped.
 unfoldable pub shiftedLeft : List ℕ → List ℕ
 shiftedLeft l = block (λ i. getD l i 0 * 2 % 256 + getD l (i + 1) 0 / 128)
 
--- 6.1, steps 2 and 3: the doubling. Where the highest bit is 1, R_128 is added, which is 0x87 in the last byte.
+-- 6.1, step 2: the doubling. Where the highest bit is 1, R_128 (5.3) is added, which is 0x87 in the last byte.
 unfoldable pub doubled : List ℕ → List ℕ
 doubled l = xor (shiftedLeft l) (lastByte (getD l 0 0 / 128 * 0x87))
 

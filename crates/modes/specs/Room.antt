@@ -30,4 +30,5 @@ over out room = out ++ drop (length out) room
 -- What a call that is taken, or is not, answers, and what it leaves in the room it was lent.
 pub record Into (taken : Bool) (out room : List ℕ) (answer : Chaining) (after : List ℕ) : Type 0 where
   pub says : answer ≡ pick taken Done Refused
+  pub number : numberOf answer ≡ pick taken 0 8
   pub leaves : after ≡ pick taken (over out room) room

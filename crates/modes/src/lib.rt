@@ -24,19 +24,27 @@ pub fn number(c: Chaining) -> u8
     }
 }
 
+// Whether so many bytes are chained into a room of so many: they are whole blocks, and there is room for them.
+// Ruled out: one byte too little room taken; no block refused.
+pub fn takes(input: usize, room: usize) -> bool
+    ensures { λ r. ⌜ r ≡ chains input room ⌝ }
+{
+    if input % 16 != 0 {
+        return false;
+    }
+    input <= room
+}
+
 // CBC_ENC_AES (IV, key, data) into the first bytes of the room. Refused where the input is no whole number of blocks, or the room is shorter than it.
-// Ruled out: the chain taken from the input block; a byte written past the output; one byte too little room taken.
+// Ruled out: the chain taken from the input block; a byte written past the output.
 pub fn cbc_enc_aes(iv: [u8; 16], key: [u8; 16], input: &[u8], room: &mut [u8]) -> Chaining
     ensures { λ r. ⌜ Into (chains (length (now (input .entry))) (length (now (room .entry)))) (cbcEncAes iv key (now (input .entry))) (now (room .entry)) r (now (room .exit)) ⌝ }
 {
-    if input.len() % 16 != 0 {
-        return Chaining::Refused;
+    if takes(input.len(), room.len()) {
+        enc_chain(iv, key, input, room);
+        return Chaining::Done;
     }
-    if room.len() < input.len() {
-        return Chaining::Refused;
-    }
-    enc_chain(iv, key, input, room);
-    Chaining::Done
+    Chaining::Refused
 }
 
 // CBC_DEC_AES (IV, key, data) into the first bytes of the room. Refused as cbc_enc_aes is.
@@ -44,18 +52,15 @@ pub fn cbc_enc_aes(iv: [u8; 16], key: [u8; 16], input: &[u8], room: &mut [u8]) -
 pub fn cbc_dec_aes(iv: [u8; 16], key: [u8; 16], input: &[u8], room: &mut [u8]) -> Chaining
     ensures { λ r. ⌜ Into (chains (length (now (input .entry))) (length (now (room .entry)))) (cbcDecAes iv key (now (input .entry))) (now (room .entry)) r (now (room .exit)) ⌝ }
 {
-    if input.len() % 16 != 0 {
-        return Chaining::Refused;
+    if takes(input.len(), room.len()) {
+        dec_chain(iv, key, input, room);
+        return Chaining::Done;
     }
-    if room.len() < input.len() {
-        return Chaining::Refused;
-    }
-    dec_chain(iv, key, input, room);
-    Chaining::Done
+    Chaining::Refused
 }
 
 // AES-CMAC-96 (key, data) into the first 12 bytes of the room. Refused where the input is no whole number of blocks or none, or the room has under 12 bytes.
-// Ruled out: the second subkey; all 16 bytes written; no block taken.
+// Ruled out: the second subkey; all 16 bytes written; an input of no block accepted.
 pub fn cmac_96(key: [u8; 16], input: &[u8], room: &mut [u8]) -> Chaining
     ensures { λ r. ⌜ Into (macs (length (now (input .entry))) (length (now (room .entry)))) (cmac96 key (now (input .entry))) (now (room .entry)) r (now (room .exit)) ⌝ }
 {

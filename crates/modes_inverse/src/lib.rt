@@ -12,29 +12,23 @@ ghost use Rattle.modes_inverse.specs.CbcInv.{cbcDecAesInv, cbcEncAesInv}
 pub fn cbc_dec_aes_inv(iv: [u8; 16], key: [u8; 16], input: &[u8], room: &mut [u8]) -> Chaining
     ensures { λ r. ⌜ Into (chains (length (now (input .entry))) (length (now (room .entry)))) (cbcDecAesInv iv key (now (input .entry))) (now (room .entry)) r (now (room .exit)) ⌝ }
 {
-    if input.len() % 16 != 0 {
-        return Chaining::Refused;
+    if modes::takes(input.len(), room.len()) {
+        dec_inv_chain(iv, key, input, room);
+        return Chaining::Done;
     }
-    if room.len() < input.len() {
-        return Chaining::Refused;
-    }
-    dec_inv_chain(iv, key, input, room);
-    Chaining::Done
+    Chaining::Refused
 }
 
 // CBC_ENC_AES_INV (IV, key, data) into the first bytes of the room. Refused as modes::cbc_enc_aes is.
-// Ruled out: AES-ENC in place of AES-DEC, with which the round trip at home still closes; the chain taken from the input block.
+// Ruled out: AES-ENC in place of AES-DEC; the chain taken from the input block.
 pub fn cbc_enc_aes_inv(iv: [u8; 16], key: [u8; 16], input: &[u8], room: &mut [u8]) -> Chaining
     ensures { λ r. ⌜ Into (chains (length (now (input .entry))) (length (now (room .entry)))) (cbcEncAesInv iv key (now (input .entry))) (now (room .entry)) r (now (room .exit)) ⌝ }
 {
-    if input.len() % 16 != 0 {
-        return Chaining::Refused;
+    if modes::takes(input.len(), room.len()) {
+        enc_inv_chain(iv, key, input, room);
+        return Chaining::Done;
     }
-    if room.len() < input.len() {
-        return Chaining::Refused;
-    }
-    enc_inv_chain(iv, key, input, room);
-    Chaining::Done
+    Chaining::Refused
 }
 
 // Deciphers the blocks of the input into the room, each chained to the input block before it, until none is left.

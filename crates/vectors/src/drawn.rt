@@ -72,7 +72,7 @@ fn with_room(i: u64, x: u64, iv: [u8; 16], key: [u8; 16], input: &[u8], room: &m
     }
 }
 
-// 0 to 12 blocks, and in one case of four some bytes more.
+// 0 to 12 blocks, and in one case of four 0 to 15 bytes more.
 fn data_length(blocks: u8, whether: u8, more: u8) -> usize
     ensures { λ r. ⌜ r < 208 ⌝ }
 {

@@ -3,9 +3,8 @@ use mathlib.Core.List.{List, [], _∷_}
 use Prim.Native.Nat.{ℕ}
 use lib.ListN.{getD}
 use lib.Bits.{bitXor, xor-zero-r}
-use Rattle.field.specs.Sbox.{sbox}
 use Rattle.aes.specs.Cipher.{subBytes}
-use Rattle.aes.specs.KeyExpansion.{nextRoundKey, added}
+use Rattle.aes.specs.NextRoundKey.{nextRoundKey, added}
 use borrow.Author.Needs.{needs}
 use Rattle.aes.proofs.next_round_key.Statement.{statement}
 use Rattle.aes.proofs.next_round_key.Tie as tie

@@ -1,6 +1,7 @@
 use mathlib.Core.Path.{_∙_}
-use Rattle.field.proofs.Block.{substituted-sbox}
+use Rattle.field.proofs.Block.{substituted-by}
 use Rattle.field.proofs.Arrays.{array-bytes}
+use Rattle.field.specs.Sbox.{sbox, sboxTable}
 use Rattle.aes.specs.Cipher.{subBytes}
 use borrow.Author.Needs.{needs}
 use Rattle.aes.proofs.sub_bytes.Statement.{statement}
@@ -10,9 +11,9 @@ substitute-requires : tie.Need-substitute-requires
 substitute-requires c κs = search needs
 
 returns : tie.Need-returns
-unfolding subBytes
+unfolding subBytes sboxTable
 returns c = let a = c .before .args in
-    c .substitute .ensures ∙ substituted-sbox (a .table .now) (a .s) (c .before .pre) (array-bytes 16 (a .s) _ (c .before .good .1 .0))
+    c .substitute .ensures ∙ substituted-by sbox (a .table .now) (a .s) (c .before .pre) (array-bytes 16 (a .s) _ (c .before .good .1 .0))
 
 pub sub-bytes-spec : {M : Type 1} → statement M
 sub-bytes-spec = tie.close (tie.spec substitute-requires returns)

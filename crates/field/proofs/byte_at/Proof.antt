@@ -1,6 +1,6 @@
 use mathlib.Core.Path.{sym}
 use native.Mathlib.Omega.{arith}
-use Rattle.field.proofs.Table.{past-end}
+use lib.ListN.{List·getD-eq-default}
 use borrow.Author.Needs.{needs}
 use Rattle.field.proofs.byte_at.Statement.{statement}
 use Rattle.field.proofs.byte_at.Tie as tie
@@ -12,7 +12,7 @@ returns : tie.Need-returns
 returns c = search needs
 
 returns-2 : tie.Need-returns-2
-returns-2 c = sym (past-end (c .before .args .s .now) (c .before .args .i) (omega arith))
+returns-2 c = sym (List·getD-eq-default (c .before .args .s .now) 0 {n = c .before .args .i} (omega arith))
 
 pub byte-at-spec : {M : Type 1} → statement M
 byte-at-spec = tie.close (tie.spec shared-slice-read-result returns returns-2)

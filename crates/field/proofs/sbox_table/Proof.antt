@@ -3,10 +3,7 @@ use Rattle.field.specs.Field.{inverse, productOfSquares, times, remainde
 use Rattle.field.specs.Sbox.{sboxTable, sbox, affine, affineBit, bit, fromBits}
 use Rattle.field.proofs.sbox_table.Statement.{statement}
 use Rattle.field.proofs.sbox_table.Tie as tie
-use Rattle.field.proofs.sbox_table.Reads as reads
-use Rattle.field.proofs.sbox_table.Lts as lts
 
--- src/lib.rt:269:1
 returns : tie.Need-returns
 unfolding sboxTable sbox affine affineBit bit fromBits inverse productOfSquares times remainder polynomialProduct
 returns c = refl

@@ -1,9 +1,5 @@
-use mathlib.Core.Path.{sym, ap, _∙_}
-use mathlib.Core.List.{List}
 use native.Mathlib.Omega.{arith}
 use Rattle.field.proofs.Block.{first-block-is}
-use Rattle.modes.specs.Blocks.{wholeBlocks}
-use Rattle.modes.specs.Cmac.{masked, macChain}
 use Rattle.modes.proofs.Chains.{tail-part}
 use Rattle.modes.proofs.Mac.{mac-last, mac-more}
 use Prim.Native.Nat.{_/_}

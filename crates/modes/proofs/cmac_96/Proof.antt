@@ -22,7 +22,7 @@ returns-2 c = let a = c .before .before .before .before .args in
 
 returns-3 : tie.Need-returns-3
 returns-3 c = let a = c .before .before .before .before .before .args in
-    refused _ (cmac96 (a .key) (a .input .now)) (a .room .now) (no-room-for-mac (length (a .input .now)) (length (a .room .now)) (c .before .before .if1 .left) (c .before .if2 .left) (c .if3 .taken))
+    refused _ (cmac96 (a .key) (a .input .now)) (a .room .now) (no-room-for-mac (length (a .input .now)) (length (a .room .now)) (c .before .before .if1 .left) (c .before .if2 .left) (omega arith))
 
 first-subkey-requires : tie.Need-first-subkey-requires
 first-subkey-requires c κs = search needs
