@@ -1,0 +1,16 @@
+-- Laws that the proofs of this crate cite, and that crates above it may cite.
+pub mod Least
+pub mod Bounds
+pub mod Places
+pub mod Joins
+pub mod Range
+pub mod Laid
+pub mod Tests
+pub mod FirstByte
+pub mod Taken
+pub mod Inverse
+pub mod HeaderBack
+pub mod Told
+pub mod Shape
+pub mod Examples
+pub mod Fits

@@ -1,0 +1,21 @@
+-- `frames::bytes::ten` meets its contract. Assumes nothing.
+use mathlib.Core.Path.{_∙_}
+use Rattle.frames.proofs.Places.{bytes-drop}
+use borrow.Author.Needs.{needs}
+use Rattle.frames.proofs.bytes.ten.Statement.{statement}
+use Rattle.frames.proofs.bytes.ten.Tie as tie
+
+slice-aggregate-fill : tie.Need-slice-aggregate-fill
+slice-aggregate-fill c = search needs
+
+tail-requires : tie.Need-tail-requires
+tail-requires c κs = search needs
+
+fill-requires : tie.Need-fill-requires
+fill-requires c κs = search needs
+
+returns : tie.Need-returns
+returns c = let a = c .before .before .before .before .before .args in c .before .fill .ensures ∙ (rw (c .before .before .tail .ensures) (bytes-drop (a .m .now) 10 (a .at)))
+
+pub ten-spec : {M : Type 1} → statement M
+ten-spec = tie.close (tie.spec slice-aggregate-fill tail-requires fill-requires returns)

@@ -1,0 +1,19 @@
+-- `frames::constants::two_bytes` meets its contract. Assumes nothing.
+use mathlib.Core.Path.{refl}
+use Rattle.frames.specs.Constants.{twoBytes}
+use borrow.Author.Needs.{needs}
+use Rattle.frames.proofs.constants.two_bytes.Statement.{statement}
+use Rattle.frames.proofs.constants.two_bytes.Tie as tie
+
+cast-t3 : tie.Need-cast-t3
+cast-t3 c = search needs
+
+cast-t5 : tie.Need-cast-t5
+cast-t5 c = search needs
+
+returns : tie.Need-returns
+unfolding twoBytes
+returns c = refl
+
+pub two-bytes-spec : {M : Type 1} → statement M
+two-bytes-spec = tie.close (tie.spec cast-t3 cast-t5 returns)

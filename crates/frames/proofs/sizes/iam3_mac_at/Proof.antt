@@ -1,0 +1,23 @@
+-- `frames::sizes::iam3_mac_at` meets its contract. Assumes nothing.
+use native.Mathlib.Omega.{arith}
+use mathlib.Core.Path.{ap}
+use Prim.Native.Nat.{ℕ, _+_}
+use mathlib.Core.Bool.{true}
+use Rattle.frames.specs.Lengths.{iam3MacAt}
+use Rattle.frames.proofs.Least.{blocks-bound}
+use borrow.Author.Needs.{needs}
+use Rattle.frames.proofs.sizes.iam3_mac_at.Statement.{statement}
+use Rattle.frames.proofs.sizes.iam3_mac_at.Tie as tie
+
+blocks-length-requires : tie.Need-blocks-length-requires
+blocks-length-requires c κs = search needs
+
+add-result : tie.Need-add-result
+add-result c = let a = c .before .args in omega (arith, blocks-bound (a .size) true (a .blockcount))
+
+returns : tie.Need-returns
+unfolding iam3MacAt
+returns c = ap (λ (n : ℕ). 20 + n) (c .blocks-length .ensures)
+
+pub iam3-mac-at-spec : {M : Type 1} → statement M
+iam3-mac-at-spec = tie.close (tie.spec blocks-length-requires add-result returns)

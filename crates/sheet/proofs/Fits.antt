@@ -1,0 +1,26 @@
+-- No second answer fits the contract of an exported function, as the checker reads it from the source. Assumes nothing.
+use Prim.Native.Nat.{ℕ}
+use Rattle.sheet.specs.declared.Kept.{Kept}
+use Rattle.sheet.specs.declared.Judged.{Judged}
+use Rattle.sheet.specs.declared.Reading.{Reading}
+use Rattle.ground.specs.OneAnswer.{OneAnswer, one}
+use Rattle.sheet.proofs.number.Reads as number
+use Rattle.sheet.proofs.number.Kinds as number-kinds
+use Rattle.sheet.proofs.start.Reads as start
+use Rattle.sheet.proofs.start.Kinds as start-kinds
+use Rattle.sheet.proofs.judge.Reads as judge
+use Rattle.sheet.proofs.judge.Kinds as judge-kinds
+use Rattle.sheet.proofs.read.Reads as read
+use Rattle.sheet.proofs.read.Kinds as read-kinds
+
+pub number-one : OneAnswer 0 number-kinds.ps number-kinds.r number.Post ℕ (λ κs r s. r)
+number-one κs a x y s t p q = one p q
+
+pub start-one : OneAnswer 0 start-kinds.ps start-kinds.r start.Post Kept (λ κs r s. r)
+start-one κs a x y s t p q = one p q
+
+pub judge-one : OneAnswer 1 judge-kinds.ps judge-kinds.r judge.Post Judged (λ κs r s. r)
+judge-one κs a x y s t p q = one p q
+
+pub read-one : OneAnswer 1 read-kinds.ps read-kinds.r read.Post Reading (λ κs r s. r)
+read-one κs a x y s t p q = one p q

@@ -1,0 +1,30 @@
+use Rattle.sheet.specs.Records.{slotOf}
+use borrow.Author.Needs.{needs}
+use Rattle.sheet.proofs.bodies.slot_of.Statement.{statement}
+use Rattle.sheet.proofs.bodies.slot_of.Tie as tie
+
+shared-slice-read-area-of : tie.Need-shared-slice-read-area-of
+shared-slice-read-area-of c = search needs
+
+area-of-requires : tie.Need-area-of-requires
+area-of-requires c κs = search needs
+
+word-at-requires : tie.Need-word-at-requires
+word-at-requires c κs = search needs
+
+word-at-requires-2 : tie.Need-word-at-requires-2
+word-at-requires-2 c κs = search needs
+
+returns : tie.Need-returns
+unfolding slotOf
+returns c = cc
+
+pub slot-of-spec : {M : Type 1} → statement M
+slot-of-spec =
+    tie.close
+    (tie.spec
+    shared-slice-read-area-of
+    area-of-requires
+    word-at-requires
+    word-at-requires-2
+    returns)

@@ -1,0 +1,42 @@
+-- Paper 01, "The tag sheet": a whole sheet.
+use Prim.Native.Nat.{ℕ, zero, suc, _+_}
+use mathlib.Core.List.{List, [], _∷_}
+use Rattle.sheet.specs.Kinds.{kindOf, bodyLength}
+use Rattle.sheet.specs.Setups.{emptySetup, nothingKept}
+use Rattle.sheet.specs.Judgement.{judgedOf}
+use Rattle.sheet.specs.declared.Fault.{Fault}
+use Rattle.sheet.specs.declared.Fault.the-variants.{Cut, Tail}
+use Rattle.sheet.specs.declared.Finding.{Finding}
+use Rattle.sheet.specs.declared.Finding.the-variants.{Taken, Ended, Faulty}
+use Rattle.sheet.specs.declared.Verdict.the-variants.{Whole, Refused}
+use Rattle.sheet.specs.declared.Setup.{Setup}
+use Rattle.sheet.specs.declared.Kept.{Kept}
+use Rattle.sheet.specs.declared.Reading.{Reading}
+
+-- A refused sheet gives no tag.
+abbrev pub refusedAt : Fault → ℕ → Reading
+refusedAt f at = record { verdict = Refused f at; setup = emptySetup }
+
+abbrev pub whole : Setup → Reading
+whole s = record { verdict = Whole; setup = s }
+
+-- What follows from the finding on the record at a place, with the bytes t after its kind byte: the reading goes on behind it,
+-- or the sheet ends there (35 at the first byte that follows), or it is refused at that place.
+unfoldable pub after : Finding → Setup → ℕ → List ℕ → Reading → Reading
+after (Taken n) s at t r = r
+after Ended s at [] r = whole s
+after Ended s at (x ∷ t) r = refusedAt Tail (at + 1)
+after (Faulty f) s at t r = refusedAt f at
+
+-- The bytes from a place on. They are passed one by one: `body` of them belong to the record that was judged last, and the next is
+-- a kind byte. So the walk falls with the bytes themselves, and needs no other bound.
+unfoldable pub walk : List ℕ → ℕ → ℕ → Kept → Reading
+walk [] body at k = refusedAt Cut at
+walk (b ∷ t) (suc body) at k = walk t body (at + 1) k
+walk (b ∷ t) zero at k =
+    let j = judgedOf (b ∷ t) k in
+    after (j .finding) (j .kept .setup) at t (walk t (bodyLength (kindOf b)) (at + 1) (j .kept))
+
+-- What a sheet says, or the first refusal with its place.
+unfoldable pub readOf : List ℕ → Reading
+readOf s = walk s 0 0 nothingKept

@@ -1,0 +1,250 @@
+// The body of each kind of record: whether its rule holds, and what it says.
+use crate::Features;
+use crate::Key;
+use crate::PROFILES;
+use crate::Sizes;
+use crate::Slot;
+use crate::WORDS;
+use memory::Area;
+use memory::Lock;
+use memory::Profile;
+use memory::Word;
+ghost use mathlib.Core.Path.{_≡_};
+ghost use Prim.Native.Nat.{_+_, _<_, _≤_};
+ghost use lib.ListN.{length, take, drop};
+ghost use Rattle.sheet.specs.Records.{wordAt, allZero, areaOf, wordsIn, inside, featuresRule, featuresOf, sizesRule, sizesOf, keyRule, keyOf, profileRule, slotOf, lockRule, lockOf};
+
+pub(crate) fn wide(x: u8) -> u16
+    ensures { λ r. ⌜ (r ≡ x) × (r < 256) ⌝ }
+{
+    x as u16
+}
+
+pub(crate) fn long(x: u16) -> usize
+    ensures { λ r. ⌜ (r ≡ x) × (r < 65536) ⌝ }
+{
+    x as usize
+}
+
+pub(crate) fn word_at(b: &[u8], i: usize) -> u16
+    requires { ⌜ i + 1 < length (now b) ⌝ }
+    ensures { λ r. ⌜ r ≡ wordAt (now (b .entry)) i ⌝ }
+{
+    wide(b[i]) * 256 + wide(b[i + 1])
+}
+
+fn sixteen(b: &[u8], at: usize) -> [u8; 16]
+    requires { ⌜ at + 16 ≤ length (now b) ⌝ }
+    ensures { λ r. ⌜ r ≡ take 16 (drop at (now (b .entry))) ⌝ }
+{
+    let mut t = [0u8; 16];
+    let mut i = 0;
+    while i < 16 {
+        t[i] = b[at + i];
+        i += 1;
+    }
+    t
+}
+
+fn all_zero(k: [u8; 16]) -> bool
+    ensures { λ r. ⌜ r ≡ allZero k ⌝ }
+{
+    let mut i = 0;
+    while i < 16 {
+        if k[i] != 0 {
+            return false;
+        }
+        i += 1;
+    }
+    true
+}
+
+pub(crate) fn features_fit(b: &[u8]) -> bool
+    requires { ⌜ length (now b) ≡ 2 ⌝ }
+    ensures { λ r. ⌜ r ≡ featuresRule (now (b .entry)) ⌝ }
+{
+    let f = b[0];
+    let m = b[1];
+    if 64 <= f {
+        return false;
+    }
+    if 16 <= m {
+        return false;
+    }
+    if f / 16 % 2 == 1 {
+        return f / 8 % 2 == 1;
+    }
+    true
+}
+
+pub(crate) fn features_of(b: &[u8]) -> Features
+    requires { ⌜ length (now b) ≡ 2 ⌝ }
+    ensures { λ r. ⌜ r ≡ featuresOf (now (b .entry)) ⌝ }
+{
+    let f = b[0];
+    let m = b[1];
+    Features {
+        blocksize1: f / 1 % 2 == 1,
+        rev0: f / 2 % 2 == 1,
+        rev1: f / 4 % 2 == 1,
+        iam: f / 8 % 2 == 1,
+        iam3: f / 16 % 2 == 1,
+        mam: f / 32 % 2 == 1,
+        mode0: m / 1 % 2 == 1,
+        mode1: m / 2 % 2 == 1,
+        mode2: m / 4 % 2 == 1,
+        mode3: m / 8 % 2 == 1,
+    }
+}
+
+pub(crate) fn sizes_fit(b: &[u8]) -> bool
+    requires { ⌜ length (now b) ≡ 4 ⌝ }
+    ensures { λ r. ⌜ r ≡ sizesRule (now (b .entry)) ⌝ }
+{
+    if WORDS < word_at(b, 0) {
+        return false;
+    }
+    word_at(b, 2) <= WORDS
+}
+
+pub(crate) fn sizes_of(b: &[u8]) -> Sizes
+    requires { ⌜ length (now b) ≡ 4 ⌝ }
+    ensures { λ r. ⌜ r ≡ sizesOf (now (b .entry)) ⌝ }
+{
+    Sizes {
+        identity: word_at(b, 0),
+        user: word_at(b, 2),
+    }
+}
+
+fn area_of(a: u8) -> Area
+    ensures { λ r. ⌜ r ≡ areaOf a ⌝ }
+{
+    if a == 1 {
+        return Area::User;
+    }
+    Area::Identity
+}
+
+fn words_in(z: Sizes, a: u8) -> u16
+    ensures { λ r. ⌜ r ≡ wordsIn z a ⌝ }
+{
+    if a == 1 {
+        return z.user;
+    }
+    z.identity
+}
+
+// The end may lie past what a u16 holds, so it is compared and not computed.
+fn is_inside(z: Sizes, a: u8, first: u16, count: u16) -> bool
+    ensures { λ r. ⌜ r ≡ inside z a first count ⌝ }
+{
+    if 1 < a {
+        return false;
+    }
+    if count < 1 {
+        return false;
+    }
+    let words = words_in(z, a);
+    if words < first {
+        return false;
+    }
+    count <= words - first
+}
+
+pub(crate) fn key_fits(b: &[u8], id: u16) -> bool
+    requires { ⌜ length (now b) ≡ 36 ⌝ }
+    ensures { λ r. ⌜ r ≡ keyRule id (now (b .entry)) ⌝ }
+{
+    if wide(b[0]) < id {
+        return false;
+    }
+    let mac = b[1];
+    if 1 < mac {
+        return false;
+    }
+    if mac == 0 {
+        return all_zero(sixteen(b, 20));
+    }
+    true
+}
+
+pub(crate) fn key_of(b: &[u8]) -> Key
+    requires { ⌜ length (now b) ≡ 36 ⌝ }
+    ensures { λ r. ⌜ r ≡ keyOf (now (b .entry)) ⌝ }
+{
+    let enc = sixteen(b, 4);
+    let mackey = sixteen(b, 20);
+    Key {
+        id: b[0],
+        mac: b[1] == 1,
+        mpi: word_at(b, 2),
+        enc,
+        mackey,
+    }
+}
+
+pub(crate) fn profile_fits(b: &[u8], number: u8, z: Sizes) -> bool
+    requires { ⌜ length (now b) ≡ 6 ⌝ }
+    ensures { λ r. ⌜ r ≡ profileRule number z (now (b .entry)) ⌝ }
+{
+    let p = b[0];
+    if p < number {
+        return false;
+    }
+    if PROFILES <= p as usize {
+        return false;
+    }
+    is_inside(z, b[1], word_at(b, 2), word_at(b, 4))
+}
+
+pub(crate) fn slot_of(b: &[u8]) -> Slot
+    requires { ⌜ length (now b) ≡ 6 ⌝ }
+    ensures { λ r. ⌜ r ≡ slotOf (now (b .entry)) ⌝ }
+{
+    let area = area_of(b[1]);
+    let base = word_at(b, 2);
+    let words = word_at(b, 4);
+    let profile = Profile {
+        area,
+        base: Word(base),
+        words,
+    };
+    Slot {
+        present: true,
+        profile,
+    }
+}
+
+pub(crate) fn lock_fits(b: &[u8], area: u8, word: usize, z: Sizes) -> bool
+    requires { ⌜ length (now b) ≡ 5 ⌝ }
+    ensures { λ r. ⌜ r ≡ lockRule area word z (now (b .entry)) ⌝ }
+{
+    let a = b[0];
+    let first = word_at(b, 1);
+    let count = word_at(b, 3);
+    if !is_inside(z, a, first, count) {
+        return false;
+    }
+    if a < area {
+        return false;
+    }
+    if a == area {
+        return word <= long(first);
+    }
+    true
+}
+
+pub(crate) fn lock_of(b: &[u8]) -> Lock
+    requires { ⌜ length (now b) ≡ 5 ⌝ }
+    ensures { λ r. ⌜ r ≡ lockOf (now (b .entry)) ⌝ }
+{
+    let area = area_of(b[0]);
+    let first = word_at(b, 1);
+    let words = word_at(b, 3);
+    Lock {
+        area,
+        first: Word(first),
+        words,
+    }
+}

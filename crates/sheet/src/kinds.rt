@@ -1,0 +1,116 @@
+// The kinds of records, and the four checks before a record's values.
+use crate::Fault;
+use crate::KEYS;
+use crate::Kept;
+use crate::Kind;
+use crate::LOCKS;
+use crate::Opened;
+use crate::PROFILES;
+ghost use mathlib.Core.Path.{_≡_};
+ghost use Rattle.sheet.specs.Kinds.{kindOf, isUnknown, bodyLength, inOrder};
+ghost use Rattle.sheet.specs.Judgement.{tooMany, openedOf};
+
+pub(crate) fn kind_of(b: u8) -> Kind
+    ensures { λ r. ⌜ r ≡ kindOf b ⌝ }
+{
+    if b == 1 {
+        return Kind::FeatureRecord;
+    }
+    if b == 2 {
+        return Kind::SizeRecord;
+    }
+    if b == 3 {
+        return Kind::KeyRecord;
+    }
+    if b == 4 {
+        return Kind::ProfileRecord;
+    }
+    if b == 5 {
+        return Kind::LockRecord;
+    }
+    if b == 6 {
+        return Kind::EndRecord;
+    }
+    Kind::NoRecord
+}
+
+fn is_unknown(k: Kind) -> bool
+    ensures { λ r. ⌜ r ≡ isUnknown k ⌝ }
+{
+    match k {
+        Kind::FeatureRecord => false,
+        Kind::SizeRecord => false,
+        Kind::KeyRecord => false,
+        Kind::ProfileRecord => false,
+        Kind::LockRecord => false,
+        Kind::EndRecord => false,
+        Kind::NoRecord => true,
+    }
+}
+
+pub(crate) fn body_length(k: Kind) -> usize
+    ensures { λ r. ⌜ r ≡ bodyLength k ⌝ }
+{
+    match k {
+        Kind::FeatureRecord => 2,
+        Kind::SizeRecord => 4,
+        Kind::KeyRecord => 36,
+        Kind::ProfileRecord => 6,
+        Kind::LockRecord => 5,
+        Kind::EndRecord => 0,
+        Kind::NoRecord => 0,
+    }
+}
+
+fn in_order(last: u8, b: u8) -> bool
+    ensures { λ r. ⌜ r ≡ inOrder last b ⌝ }
+{
+    if last == 0 {
+        return b == 1;
+    }
+    if last == 1 {
+        return b == 2;
+    }
+    if b < 3 {
+        return false;
+    }
+    last <= b
+}
+
+fn too_many(q: Kind, kept: Kept) -> bool
+    ensures { λ r. ⌜ r ≡ tooMany q kept ⌝ }
+{
+    let keys = kept.setup.keys.count;
+    let profiles = kept.marks.profiles;
+    let locks = kept.setup.locks.count;
+    match q {
+        Kind::FeatureRecord => false,
+        Kind::SizeRecord => false,
+        Kind::KeyRecord => KEYS <= keys,
+        Kind::ProfileRecord => PROFILES <= profiles,
+        Kind::LockRecord => LOCKS <= locks,
+        Kind::EndRecord => false,
+        Kind::NoRecord => false,
+    }
+}
+
+// The four checks before the body's values, in the paper's order.
+pub(crate) fn opening(b: u8, left: usize, kept: Kept) -> Opened
+    ensures { λ r. ⌜ r ≡ openedOf b left kept ⌝ }
+{
+    let q = kind_of(b);
+    if is_unknown(q) {
+        return Opened::Shut(Fault::Unknown);
+    }
+    let last = kept.marks.last;
+    if !in_order(last, b) {
+        return Opened::Shut(Fault::Order);
+    }
+    if too_many(q, kept) {
+        return Opened::Shut(Fault::Many);
+    }
+    if left < body_length(q) {
+        return Opened::Shut(Fault::Cut);
+    }
+    Opened::Open
+}
