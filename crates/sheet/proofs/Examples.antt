@@ -1,4 +1,4 @@
--- Examples of paper 01 at the edges of a sheet, by computation. Assumes nothing.
+-- Examples of the scope paper at the edges of a sheet, by computation. Assumes nothing.
 use mathlib.Core.Path.{_≡_, refl}
 use mathlib.Core.Bool.{true, false}
 use mathlib.Core.List.{List, [], _∷_, _++_}

@@ -1,4 +1,4 @@
--- Paper 01, "The tag sheet": one record judged against those before it.
+-- The scope paper, "The tag sheet": one record judged against those before it.
 use Prim.Native.Nat.{ℕ, _+_}
 use mathlib.Core.Bool.{Bool, true, false, not}
 use mathlib.Core.List.{List, [], _∷_}

@@ -1,4 +1,4 @@
--- Paper 01, "The tag sheet": the kinds of records, and the numbers of the refusals.
+-- The scope paper, "The tag sheet": the kinds of records, and the numbers of the refusals.
 use Prim.Native.Nat.{ℕ}
 use mathlib.Core.Bool.{Bool, true, false}
 use lib.Dec.{eqb, leb}

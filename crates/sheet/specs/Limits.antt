@@ -1,4 +1,4 @@
--- The limits of paper 01, "The tag sheet". Each number stands here and nowhere else.
+-- The limits of The scope paper, "The tag sheet". Each number stands here and nowhere else.
 use Prim.Native.Nat.{ℕ, _+_, _*_}
 
 -- up to 16 records of each of the kinds 03, 04 and 05

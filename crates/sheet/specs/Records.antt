@@ -1,4 +1,4 @@
--- Paper 01, "The tag sheet": each kind's body b, its rule (33 where it fails) and what it says. Numbers go most significant first.
+-- The scope paper, "The tag sheet": each kind's body b, its rule (33 where it fails) and what it says. Numbers go most significant first.
 use Prim.Native.Nat.{ℕ, _+_, _*_, _/_, _%_, _^_}
 use mathlib.Core.Bool.{Bool, true}
 use mathlib.Core.List.{List, [], _∷_}

@@ -1,4 +1,4 @@
--- Paper 01, "The tag sheet": a whole sheet.
+-- The scope paper, "The tag sheet": a whole sheet.
 use Prim.Native.Nat.{ℕ, zero, suc, _+_}
 use mathlib.Core.List.{List, [], _∷_}
 use Rattle.sheet.specs.Kinds.{kindOf, bodyLength}

@@ -1,4 +1,4 @@
--- A setup within the rules of paper 01: what a sheet can say.
+-- A setup within the rules of the scope paper: what a sheet can say.
 use Prim.Native.Nat.{ℕ, _+_, _-_, _<_, _≤_}
 use mathlib.Core.Path.{_≡_}
 use mathlib.Core.Bool.{true, false}

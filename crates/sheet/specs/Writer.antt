@@ -1,4 +1,4 @@
--- The sheet of a setup, as paper 01 lays records out: what a writer has to write.
+-- The sheet of a setup, as the scope paper lays records out: what a writer has to write.
 use Prim.Native.Nat.{ℕ, _+_, _*_, _/_, _%_}
 use mathlib.Core.Bool.{Bool, true, false}
 use mathlib.Core.List.{List, [], _∷_, _++_}

@@ -1,4 +1,4 @@
-// The tag sheet of paper 01: what a soft tag is set up from. What each function means stands in specs/.
+// The tag sheet of the scope paper: what a soft tag is set up from. What each function means stands in specs/.
 mod bodies;
 mod kinds;
 mod records;
