@@ -1,8 +1,8 @@
 // 2,400 drawn calls of the chaining forms and the MAC, a fair part of them with lengths or rooms that are refused.
 ghost use Prim.Native.Nat.{_<_};
 ghost use lib.ListN.{length};
-use crate::draws;
-use crate::print;
+use lines::draws;
+use lines::print;
 
 const CASES: u64 = 2400;
 

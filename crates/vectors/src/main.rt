@@ -3,8 +3,6 @@
 //
 // A further section is a module with a `pub fn lines()` and a call of it here.
 mod drawn;
-mod draws;
-mod print;
 mod published;
 
 fn main() {

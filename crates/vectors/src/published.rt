@@ -1,7 +1,7 @@
 // The vectors that the papers print.
 ghost use Prim.Native.Nat.{_+_, _≤_};
 ghost use lib.ListN.{length};
-use crate::print;
+use lines::print;
 use modes::Chaining;
 
 // The key of FIPS 197, Appendix B, of SP 800-38A, Appendix F, and of SP 800-38B, D.1.

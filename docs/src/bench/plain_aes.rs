@@ -110,7 +110,7 @@ fn inv_mix_columns(state: &mut Block) {
     }
 }
 
-/// Times x in the field (FIPS 197, 4.2.1).
+/// Times x in the field (FIPS 197, 4.2).
 fn xtime(b: u8) -> u8 {
     (b << 1) ^ ((b >> 7) * 0x1b)
 }

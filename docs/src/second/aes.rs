@@ -76,7 +76,7 @@ static TABLES: LazyLock<Tables> = LazyLock::new(|| {
     tables
 });
 
-/// The byte whose product with x is 1, found by trying each; 0 for 0 (FIPS 197, 4.2 and 5.1.1).
+/// The byte whose product with x is 1, found by trying each; 0 for 0 (FIPS 197, 4.4 and 5.1.1).
 fn inverse(x: u8) -> u8 {
     (0..=255).find(|&y| product(x, y) == 1).unwrap_or(0)
 }

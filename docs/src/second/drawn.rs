@@ -26,7 +26,7 @@ pub fn lines(report: &mut Report) {
     report.line(&format!("cases {CASES} done {done} refused {}", CASES - done));
 }
 
-/// 0 to 12 blocks, and in one case of four some bytes more.
+/// 0 to 12 blocks, and in one case of four 0 to 15 bytes more.
 fn data_length(draws: &mut Draws) -> usize {
     let blocks = draws.number() % 13;
     let (whether, bytes) = (draws.number(), draws.number());

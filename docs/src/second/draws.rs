@@ -20,6 +20,11 @@ impl Draws {
         usize::from(self.byte())
     }
 
+    /// Two bytes as a number, the first being the more significant.
+    pub fn word(&mut self) -> usize {
+        256 * self.number() + self.number()
+    }
+
     pub fn bytes(&mut self, count: usize) -> Vec<u8> {
         (0..count).map(|_| self.byte()).collect()
     }
@@ -32,5 +37,10 @@ impl Draws {
 /// All bytes of a room as one number below 2^48: a polynomial in 257 modulo the largest prime below 2^48.
 /// Each byte counts one more than it is, so that zeros at the front and the length count too.
 pub fn digest(bytes: &[u8]) -> u64 {
-    bytes.iter().fold(0, |h, &b| (h * 257 + u64::from(b) + 1) % 281474976710597)
+    more(0, bytes)
+}
+
+/// The digest h goes on over further bytes.
+pub fn more(h: u64, bytes: &[u8]) -> u64 {
+    bytes.iter().fold(h, |h, &b| (h * 257 + u64::from(b) + 1) % 281474976710597)
 }

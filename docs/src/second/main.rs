@@ -1,12 +1,13 @@
 //! The second program: the same standards once more, in plain Rust with no crates.
 //!
-//! It is written from the papers alone (FIPS 197, SP 800-38A, SP 800-38B, ISO/IEC 29167-10) and shares no
-//! text with the proved crates. It writes on standard output what the program `vectors` must write, line for
-//! line. Where a paper prints the answer, its own answer is held against the printed one first; where any
-//! differ it says so on standard error and exits with status 1.
+//! It is written from the papers alone (FIPS 197, SP 800-38A, SP 800-38B, ISO/IEC 29167-10, the house rules of paper 01)
+//! and shares no text with the proved crates. Its one argument says what it writes on standard output: with `cipher`
+//! what the program `vectors` must write, with `setup` what `vectors_setup`, with `frames` what `vectors_frames` must write, line for line. Where a paper
+//! prints the answer, its own answer is held against the printed one first; where any differ, or where the drawn cases
+//! do not show enough of a thing, it says so on standard error and exits with status 1.
 //!
 //! A further section is a module with a `fn lines(report: &mut Report)` and a call of it here, in the order
-//! in which `vectors` prints it. It draws from `draws::Draws` and writes through `report::Report`.
+//! in which the proved program prints it. It draws from `draws::Draws` and writes through `report::Report`.
 //!
 //!     rustc -O --edition 2021 -o second docs/src/second/main.rs
 
@@ -14,17 +15,37 @@ mod aes;
 mod chaining;
 mod cmac;
 mod drawn;
+mod drawn_frames;
+mod drawn_sheets;
+mod drawn_windows;
 mod draws;
+mod frames;
 mod hex;
+mod memory;
 mod published;
 mod report;
 mod rooms;
+mod sheet;
+mod sketch;
 
 use std::process::ExitCode;
 
 fn main() -> ExitCode {
     let mut report = report::Report::new();
-    published::lines(&mut report);
-    drawn::lines(&mut report);
+    match std::env::args().nth(1).as_deref() {
+        Some("cipher") => {
+            published::lines(&mut report);
+            drawn::lines(&mut report);
+        }
+        Some("setup") => {
+            drawn_sheets::lines(&mut report);
+            drawn_windows::lines(&mut report);
+        }
+        Some("frames") => drawn_frames::lines(&mut report),
+        _ => {
+            eprintln!("one argument: cipher, setup or frames");
+            return ExitCode::from(2);
+        }
+    }
     report.finish()
 }

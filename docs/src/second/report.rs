@@ -31,6 +31,14 @@ impl Report {
         }
     }
 
+    /// Says what is not as it has to be.
+    pub fn expect(&mut self, what: &str, holds: bool) {
+        if !holds {
+            eprintln!("not so: {what}");
+            self.wrong += 1;
+        }
+    }
+
     /// An answer that a paper prints: held against it, then written as a line.
     pub fn held_line(&mut self, label: &str, computed: &[u8], printed: &str) {
         self.hold(label, computed, printed);

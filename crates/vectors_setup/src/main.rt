@@ -1,0 +1,16 @@
+// Sheets, windows and rights: the paper's examples and many drawn cases, each answer a line on standard output. The
+// file `stdout` has what a second program in plain Rust (docs/src/second) makes of the same cases, and the two must
+// agree in every byte.
+//
+// A further section is a module with a `pub fn lines()` and a call of it here.
+mod rights;
+mod scene;
+mod setup;
+mod sheets;
+mod windows;
+
+fn main() {
+    sheets::lines();
+    windows::lines();
+    rights::lines();
+}
