@@ -1,5 +1,5 @@
 -- Examples of the scope paper at the edges of a sheet, by computation. Assumes nothing.
-use mathlib.Core.Path.{_≡_, refl}
+use mathlib.Core.Path.{_≡_, refl, ap}
 use mathlib.Core.Bool.{true, false}
 use mathlib.Core.List.{List, [], _∷_, _++_}
 use Prim.Native.Nat.{ℕ, zero, suc, _+_}
@@ -10,10 +10,11 @@ use Rattle.sheet.specs.Kinds.{kindOf, inOrder}
 use Rattle.sheet.specs.Setups.{noFeatures, noKey, noSlot, noLock, emptySetup, noMarks, nothingKept}
 use Rattle.sheet.specs.Records.{areaOf, wordsIn, inside, allZero, featuresRule, featuresOf, sizesRule, sizesOf, keyRule, keyOf, profileRule, slotOf, lockRule, lockOf}
 use Rattle.sheet.specs.Judgement.{tooMany, openedOf, withFeatures, withSizes, withKey, withProfile, withLock, recordOf, judgedOf}
-use Rattle.sheet.specs.Sheet.{after, walk, readOf, whole, refusedAt}
+use Rattle.sheet.specs.Sheet.{after, walk, readOf, whole, refusedAt, verdictNumber, verdictPlace, readNumber, readPlace}
 use Rattle.sheet.specs.declared.Fault.the-variants.{Cut, Unknown, Order, Value, Many, Tail}
 use Rattle.sheet.specs.declared.Key.{Key}
 use Rattle.sheet.specs.declared.Kept.{Kept}
+use Rattle.sheet.specs.declared.Reading.{Reading}
 use Rattle.sheet.proofs.Bits.{tab}
 
 -- example (11): accepted, and it says nothing but two empty areas
@@ -30,6 +31,25 @@ example-12 = refl
 pub example-13 : (t : List ℕ) → readOf (0x02 ∷ t) ≡ refusedAt Order 0
 unfolding readOf walk after judgedOf openedOf tooMany kindOf inOrder nothingKept noMarks
 example-13 t = refl
+
+-- the same three by number and place
+abbrev number-of : Reading → ℕ
+number-of r = verdictNumber (r .verdict)
+
+abbrev place-of : Reading → ℕ
+place-of r = verdictPlace (r .verdict)
+
+pub number-11 : readNumber (0x01 ∷ 0x00 ∷ 0x00 ∷ 0x02 ∷ 0x00 ∷ 0x00 ∷ 0x00 ∷ 0x00 ∷ 0x06 ∷ []) ≡ 0
+unfolding readNumber
+number-11 = ap number-of example-11
+
+pub number-12 : (readNumber [] ≡ 30) × (readPlace [] ≡ 0)
+unfolding readNumber readPlace
+number-12 = (ap number-of example-12, ap place-of example-12)
+
+pub number-13 : (t : List ℕ) → (readNumber (0x02 ∷ t) ≡ 32) × (readPlace (0x02 ∷ t) ≡ 0)
+unfolding readNumber readPlace
+number-13 t = (ap number-of (example-13 t), ap place-of (example-13 t))
 
 -- 01 00 is 30 at 0
 pub cut-first : readOf (0x01 ∷ 0x00 ∷ []) ≡ refusedAt Cut 0
@@ -89,6 +109,11 @@ keys-from n (suc m) t = 0x03 ∷ n ∷ replicate 35 0 ++ keys-from (n + 1) m t
 pub seventeenth : readOf (0x01 ∷ 0x00 ∷ 0x00 ∷ 0x02 ∷ 0x00 ∷ 0x00 ∷ 0x00 ∷ 0x00 ∷ keys-from 0 16 (0x03 ∷ [])) ≡ refusedAt Many 600
 unfolding keys-from readOf walk after judgedOf openedOf tooMany kindOf inOrder recordOf withFeatures withSizes withKey featuresRule featuresOf sizesRule sizesOf keyRule keyOf allZero wordLimit keyLimit nothingKept noMarks emptySetup
 seventeenth = refl
+
+-- and though its KeyID, 00 again, is against its rule: 34 goes before 33
+pub seventeenth-again : readOf (0x01 ∷ 0x00 ∷ 0x00 ∷ 0x02 ∷ 0x00 ∷ 0x00 ∷ 0x00 ∷ 0x00 ∷ keys-from 0 16 (0x03 ∷ replicate 36 0)) ≡ refusedAt Many 600
+unfolding keys-from readOf walk after judgedOf openedOf tooMany kindOf inOrder recordOf withFeatures withSizes withKey featuresRule featuresOf sizesRule sizesOf keyRule keyOf allZero wordLimit keyLimit nothingKept noMarks emptySetup
+seventeenth-again = refl
 
 -- and wherever sixteen are kept, whatever follows its kind byte
 pub seventeenth-any : (t : List ℕ) (at : ℕ) (k : Kept) → k .marks .last ≡ 3 → k .setup .keys .count ≡ 16 → walk (0x03 ∷ t) 0 at k ≡ refusedAt Many at
