@@ -7,7 +7,8 @@ use Rattle.memory.specs.declared.BlockSize.{BlockSize}
 use Rattle.memory.specs.declared.BlockSize.the-variants.{Bits64, Bits16}
 use Rattle.frames.specs.Blocks.{blockBytes, headerLength, headerPart, dataLength, carried, dOf, blocksLength}
 use Rattle.frames.specs.Constants.{tam2Constant, iam3Constant, byMode, twoBytes, withPurpose}
-use Rattle.frames.specs.Fields.{sizeBit, sizeOf, selectBytes, selectCustom}
+use Rattle.memory.specs.Address.{blockSizeBit}
+use Rattle.frames.specs.Fields.{sizeOf, selectBytes, selectCustom}
 use Rattle.frames.specs.Header.{headerStart, headerOf}
 use Rattle.frames.specs.Lengths.{hasMac, macLength, iam3MacAt, iam3Length, tam2MacAt, tam2ReplyLength}
 use Rattle.frames.specs.Messages.{tam2Message, iam3Of}
@@ -44,7 +45,7 @@ pub headers : (headerOf (custom Bits64 1 0 1) ≡ 0x08 ∷ 0x00 ∷ 0x08 ∷ 0x0
     × (headerOf (custom Bits16 1 0 7) ≡ 0x88 ∷ 0x00 ∷ 0x38 ∷ 0x00 ∷ [])
     × (headerOf (custom Bits16 1 2 1) ≡ 0x88 ∷ 0x01 ∷ 0x08 ∷ 0x00 ∷ [])
     × (headerOf (custom Bits16 1 0 0) ≡ 0x88 ∷ 0x00 ∷ 0x00 ∷ 0x00 ∷ [])
-unfolding headerOf headerStart headerLength sizeBit
+unfolding headerOf headerStart headerLength blockSizeBit
 headers = (refl, refl, refl, refl, refl)
 
 -- Annex F, Table F.17: a TAM2 message of Rev 1 for five 16-bit blocks, ProtMode 3, and the length of its reply
@@ -56,7 +57,7 @@ f17 = record { rev = true; rfu = 0; keyid = 0; ichallenge = challenge; custom = 
 
 pub f17-message : tam2Message f17
     ≡ 0x38 ∷ 0x00 ∷ 0x96 ∷ 0x56 ∷ 0x44 ∷ 0x02 ∷ 0x37 ∷ 0x57 ∷ 0x96 ∷ 0xC6 ∷ 0x96 ∷ 0x64 ∷ 0x10 ∷ 0x00 ∷ 0x43 ∷ []
-unfolding tam2Message selectBytes sizeBit
+unfolding tam2Message selectBytes blockSizeBit
 f17-message = refl
 
 pub f18-length : tam2ReplyLength Bits16 true 4 3 ≡ 44

@@ -83,7 +83,7 @@ kind-range b k h e =
       subst (λ (j : Kind). b < high j) e (ltb→lt b (high (kindOf b)) (T-right (leb (low (kindOf b)) b) (ltb b (high (kindOf b))) t)),
     )
 
--- and each byte in that range is of the kind
+-- and each byte in that range is of the kind; for every kind but Unsupported, whose bytes are not one range
 inside : Kind → ℕ → Bool
 inside k b = pick (both (leb (low k) b) (ltb b (high k))) (eqb (place (kindOf b)) (place k)) true
 

@@ -5,6 +5,7 @@ use mathlib.Core.Bool.{Bool}
 use mathlib.Core.List.{List}
 use Prim.Native.Nat.{ℕ}
 use denote.Ref.{now}
+use Rattle.memory.specs.declared.Block.{Block}
 use Rattle.frames.specs.declared.Kind.{Kind}
 use Rattle.frames.specs.declared.Tam1.{Tam1}
 use Rattle.frames.specs.declared.Tam2.{Tam2}
@@ -21,6 +22,8 @@ use Rattle.frames.proofs.sizes.header_length.Reads as header-length
 use Rattle.frames.proofs.sizes.header_length.Kinds as header-length-kinds
 use Rattle.frames.proofs.sizes.data_length.Reads as data-length
 use Rattle.frames.proofs.sizes.data_length.Kinds as data-length-kinds
+use Rattle.frames.proofs.sizes.block_asked.Reads as block-asked
+use Rattle.frames.proofs.sizes.block_asked.Kinds as block-asked-kinds
 use Rattle.frames.proofs.sizes.d_of.Reads as d-of
 use Rattle.frames.proofs.sizes.d_of.Kinds as d-of-kinds
 use Rattle.frames.proofs.sizes.blocks_length.Reads as blocks-length
@@ -100,6 +103,9 @@ header-length-one κs a x y s t p q = one p q
 
 pub data-length-one : OneAnswer 0 data-length-kinds.ps data-length-kinds.r data-length.Post ℕ (λ κs r s. r)
 data-length-one κs a x y s t p q = one p q
+
+pub block-asked-one : OneAnswer 0 block-asked-kinds.ps block-asked-kinds.r block-asked.Post Block (λ κs r s. r)
+block-asked-one κs a x y s t p q = one p q
 
 pub d-of-one : OneAnswer 0 d-of-kinds.ps d-of-kinds.r d-of.Post ℕ (λ κs r s. r)
 d-of-one κs a x y s t p q = one p q

@@ -1,5 +1,6 @@
 -- Laws that the proofs of this crate cite, and that crates above it may cite.
 pub mod Least
+pub mod Asked
 pub mod Bounds
 pub mod Places
 pub mod Joins

@@ -8,6 +8,7 @@ use lib.Dec.{ltb, eqb}
 use Rattle.memory.specs.declared.BlockSize.{BlockSize}
 use Rattle.memory.specs.declared.BlockSize.the-variants.{Bits64, Bits16}
 use Rattle.ground.specs.Choice.{both}
+use Rattle.memory.specs.Address.{blockSizeBit}
 use Rattle.frames.specs.Fields.{sizeBit, sizeOf, bit, flag, customFits}
 use Rattle.frames.specs.Messages.{selectFits}
 use Rattle.frames.specs.declared.Custom.{Custom}
@@ -58,17 +59,17 @@ without-rfu rfu c protmode e = rw (select-range rfu c protmode e .rfu) at e
 
 -- a bit, and what it stands for
 pub size-bit-lt : (s : BlockSize) → sizeBit s < 2
-unfolding sizeBit
+unfolding blockSizeBit
 size-bit-lt Bits64 = omega arith
 size-bit-lt Bits16 = omega arith
 
 pub size-of-bit : (s : BlockSize) → sizeOf (sizeBit s) ≡ s
-unfolding sizeOf sizeBit
+unfolding sizeOf blockSizeBit
 size-of-bit Bits64 = refl
 size-of-bit Bits16 = refl
 
 pub bit-of-size : (b : ℕ) → b < 2 → sizeBit (sizeOf b) ≡ b
-unfolding sizeOf sizeBit
+unfolding sizeOf blockSizeBit
 bit-of-size zero h = refl
 bit-of-size (suc zero) h = refl
 bit-of-size (suc (suc b)) h = absurd (let w : ⊥ = omega arith in w)

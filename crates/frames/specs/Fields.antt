@@ -4,6 +4,7 @@ use mathlib.Core.Bool.{Bool, true, false}
 use mathlib.Core.List.{List, [], _∷_}
 use lib.Dec.{eqb, ltb}
 use lib.ListN.{getD}
+use Rattle.memory.specs.Address.{blockSizeBit}
 use Rattle.memory.specs.declared.BlockSize.{BlockSize}
 use Rattle.memory.specs.declared.BlockSize.the-variants.{Bits64, Bits16}
 use Rattle.ground.specs.Choice.{pick, both}
@@ -26,10 +27,9 @@ bit false = 0
 abbrev pub flag : ℕ → Bool
 flag b = eqb b 1
 
--- 9.2, BlockSize: 0 is 64-bit blocks, 1 is 16-bit blocks
-unfoldable pub sizeBit : BlockSize → ℕ
-sizeBit Bits64 = 0
-sizeBit Bits16 = 1
+-- 9.2, BlockSize: memory's, 0 for 64-bit blocks and 1 for 16-bit blocks
+abbrev pub sizeBit : BlockSize → ℕ
+sizeBit s = blockSizeBit s
 
 unfoldable pub sizeOf : ℕ → BlockSize
 sizeOf b = pick (eqb b 0) Bits64 Bits16

@@ -2,6 +2,7 @@
 pub mod Kinds
 pub mod Blocks
 pub mod Fields
+pub mod Asked
 pub mod Messages
 pub mod Lengths
 pub mod Header

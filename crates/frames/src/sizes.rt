@@ -1,8 +1,13 @@
 // How long things are, in bytes (9.2, and the tables of clause 9).
+use super::Custom;
 use super::Kind;
 use super::fields::iam3_of;
+use memory::Block;
 use memory::BlockSize;
+use memory::Profile;
+use memory::address;
 ghost use mathlib.Core.Path.{_≡_};
+ghost use Rattle.frames.specs.Asked.{blockAsked};
 ghost use Rattle.frames.specs.Blocks.{headerLength, dataLength, dOf, blocksLength};
 ghost use Rattle.frames.specs.Lengths.{macLength, iam3MacAt, iam3Length, tam2MacAt, tam2ReplyLength, iam3LengthFits, lengthFits};
 
@@ -25,6 +30,17 @@ pub fn data_length(size: BlockSize, blockcount: u8) -> usize
         BlockSize::Bits64 => n * 8,
         BlockSize::Bits16 => n * 2,
     }
+}
+
+// The block of memory that a message asks for (9.2). The data are its bytes, and it is never without words.
+// Ruled out: BlockCount taken for the number of blocks, and an Offset of 64-bit blocks taken as one of words.
+pub fn block_asked(profile: Profile, custom: Custom) -> Block
+    ensures { λ r. ⌜ r ≡ blockAsked profile custom ⌝ }
+{
+    let size = custom.blocksize;
+    let offset = custom.offset;
+    let count = custom.blockcount as u16 + 1;
+    address(profile, size, offset, count)
 }
 
 // D (9.2): the least number of 128-bit blocks that holds the header, where there is one, and the data.

@@ -9,6 +9,7 @@ use lib.ListN.{length, take, drop, replicate, length-append}
 use lib.Seq.{take-at, drop-at, take-all}
 use lib.Dec.{eqb, leb}
 use borrow.Author.Tests.{le-leb, lt-ltb, eqb-true}
+use Rattle.memory.specs.Address.{areaNumber}
 use Rattle.memory.specs.declared.Area.{Area}
 use Rattle.memory.specs.declared.Area.the-variants.{Identity, User}
 use Rattle.memory.specs.declared.Lock.{Lock}
@@ -69,7 +70,7 @@ sizes-fine z a b = rw (two-back (z .identity), two-back (z .user), le-leb (z .id
 
 -- areas
 pub area-back : (a : Area) → areaOf (areaByte a) ≡ a
-unfolding areaOf
+unfolding areaOf areaNumber
 area-back Identity = refl
 area-back User = refl
 

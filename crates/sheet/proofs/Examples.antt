@@ -1,18 +1,20 @@
 -- Examples of the scope paper at the edges of a sheet, by computation. Assumes nothing.
-use mathlib.Core.Path.{_≡_, refl}
+use mathlib.Core.Path.{_≡_, refl, ap}
 use mathlib.Core.Bool.{true, false}
 use mathlib.Core.List.{List, [], _∷_, _++_}
 use Prim.Native.Nat.{ℕ, zero, suc, _+_}
 use lib.ListN.{set, replicate}
-use Rattle.memory.specs.declared.Area.the-variants.{User}
+use Rattle.memory.specs.declared.Area.the-variants.{Identity, User}
 use Rattle.sheet.specs.Limits.{keyLimit, profileLimit, lockLimit, wordLimit}
 use Rattle.sheet.specs.Kinds.{kindOf, inOrder}
 use Rattle.sheet.specs.Setups.{noFeatures, noKey, noSlot, noLock, emptySetup, noMarks, nothingKept}
 use Rattle.sheet.specs.Records.{areaOf, wordsIn, inside, allZero, featuresRule, featuresOf, sizesRule, sizesOf, keyRule, keyOf, profileRule, slotOf, lockRule, lockOf}
 use Rattle.sheet.specs.Judgement.{tooMany, openedOf, withFeatures, withSizes, withKey, withProfile, withLock, recordOf, judgedOf}
-use Rattle.sheet.specs.Sheet.{after, walk, readOf, whole, refusedAt}
-use Rattle.sheet.specs.declared.Fault.the-variants.{Cut, Unknown, Order, Many, Tail}
+use Rattle.sheet.specs.Sheet.{after, walk, readOf, whole, refusedAt, verdictNumber, verdictPlace, readNumber, readPlace}
+use Rattle.sheet.specs.declared.Fault.the-variants.{Cut, Unknown, Order, Value, Many, Tail}
 use Rattle.sheet.specs.declared.Key.{Key}
+use Rattle.sheet.specs.declared.Kept.{Kept}
+use Rattle.sheet.specs.declared.Reading.{Reading}
 use Rattle.sheet.proofs.Bits.{tab}
 
 -- example (11): accepted, and it says nothing but two empty areas
@@ -29,6 +31,25 @@ example-12 = refl
 pub example-13 : (t : List ℕ) → readOf (0x02 ∷ t) ≡ refusedAt Order 0
 unfolding readOf walk after judgedOf openedOf tooMany kindOf inOrder nothingKept noMarks
 example-13 t = refl
+
+-- the same three by number and place
+abbrev number-of : Reading → ℕ
+number-of r = verdictNumber (r .verdict)
+
+abbrev place-of : Reading → ℕ
+place-of r = verdictPlace (r .verdict)
+
+pub number-11 : readNumber (0x01 ∷ 0x00 ∷ 0x00 ∷ 0x02 ∷ 0x00 ∷ 0x00 ∷ 0x00 ∷ 0x00 ∷ 0x06 ∷ []) ≡ 0
+unfolding readNumber
+number-11 = ap number-of example-11
+
+pub number-12 : (readNumber [] ≡ 30) × (readPlace [] ≡ 0)
+unfolding readNumber readPlace
+number-12 = (ap number-of example-12, ap place-of example-12)
+
+pub number-13 : (t : List ℕ) → (readNumber (0x02 ∷ t) ≡ 32) × (readPlace (0x02 ∷ t) ≡ 0)
+unfolding readNumber readPlace
+number-13 t = (ap number-of (example-13 t), ap place-of (example-13 t))
 
 -- 01 00 is 30 at 0
 pub cut-first : readOf (0x01 ∷ 0x00 ∷ []) ≡ refusedAt Cut 0
@@ -80,7 +101,7 @@ pub each-kind : readOf
 unfolding readOf walk after judgedOf openedOf tooMany kindOf inOrder recordOf withFeatures withSizes withKey withProfile withLock featuresRule featuresOf sizesRule sizesOf keyRule keyOf profileRule slotOf lockRule lockOf inside wordsIn areaOf allZero wordLimit keyLimit profileLimit lockLimit nothingKept noMarks emptySetup keyed
 each-kind = refl
 
--- a seventeenth key record is 34 at 600, whatever follows its kind byte
+-- a seventeenth key record is 34 at 600, though it is cut short too
 pub keys-from : ℕ → ℕ → List ℕ → List ℕ
 keys-from n zero t = t
 keys-from n (suc m) t = 0x03 ∷ n ∷ replicate 35 0 ++ keys-from (n + 1) m t
@@ -88,3 +109,51 @@ keys-from n (suc m) t = 0x03 ∷ n ∷ replicate 35 0 ++ keys-from (n + 1) m t
 pub seventeenth : readOf (0x01 ∷ 0x00 ∷ 0x00 ∷ 0x02 ∷ 0x00 ∷ 0x00 ∷ 0x00 ∷ 0x00 ∷ keys-from 0 16 (0x03 ∷ [])) ≡ refusedAt Many 600
 unfolding keys-from readOf walk after judgedOf openedOf tooMany kindOf inOrder recordOf withFeatures withSizes withKey featuresRule featuresOf sizesRule sizesOf keyRule keyOf allZero wordLimit keyLimit nothingKept noMarks emptySetup
 seventeenth = refl
+
+-- and though its KeyID, 00 again, is against its rule: 34 goes before 33
+pub seventeenth-again : readOf (0x01 ∷ 0x00 ∷ 0x00 ∷ 0x02 ∷ 0x00 ∷ 0x00 ∷ 0x00 ∷ 0x00 ∷ keys-from 0 16 (0x03 ∷ replicate 36 0)) ≡ refusedAt Many 600
+unfolding keys-from readOf walk after judgedOf openedOf tooMany kindOf inOrder recordOf withFeatures withSizes withKey featuresRule featuresOf sizesRule sizesOf keyRule keyOf allZero wordLimit keyLimit nothingKept noMarks emptySetup
+seventeenth-again = refl
+
+-- and wherever sixteen are kept, whatever follows its kind byte
+pub seventeenth-any : (t : List ℕ) (at : ℕ) (k : Kept) → k .marks .last ≡ 3 → k .setup .keys .count ≡ 16 → walk (0x03 ∷ t) 0 at k ≡ refusedAt Many at
+unfolding walk after judgedOf openedOf tooMany kindOf inOrder keyLimit
+seventeenth-any t at k l n = simp (l, n)
+
+-- 33: KeyIDs rise, so a second record of KeyID 05 is refused at its place
+pub equal-ids : readOf (0x01 ∷ 0x00 ∷ 0x00 ∷ 0x02 ∷ 0x00 ∷ 0x00 ∷ 0x00 ∷ 0x00 ∷ 0x03 ∷ 0x05 ∷ replicate 35 0 ++ (0x03 ∷ 0x05 ∷ replicate 35 0)) ≡ refusedAt Value 45
+unfolding readOf walk after judgedOf openedOf tooMany kindOf inOrder recordOf withFeatures withSizes withKey featuresRule featuresOf sizesRule sizesOf keyRule keyOf allZero wordLimit keyLimit nothingKept noMarks emptySetup
+equal-ids = refl
+
+-- a sheet with one word in each area, up to its third record
+abbrev one-word-each : List ℕ → List ℕ
+one-word-each t = 0x01 ∷ 0x00 ∷ 0x00 ∷ 0x02 ∷ 0x00 ∷ 0x01 ∷ 0x00 ∷ 0x01 ∷ t
+
+-- 33 at 8: a profile in area 2, a profile of no words, a profile and a lock that end one word past their area
+pub area-two : readOf (one-word-each (0x04 ∷ 0x00 ∷ 0x02 ∷ 0x00 ∷ 0x00 ∷ 0x00 ∷ 0x01 ∷ [])) ≡ refusedAt Value 8
+unfolding readOf walk after judgedOf openedOf tooMany kindOf inOrder recordOf withFeatures withSizes featuresRule featuresOf sizesRule sizesOf profileRule inside wordsIn wordLimit profileLimit nothingKept noMarks emptySetup
+area-two = refl
+
+pub no-words : readOf (one-word-each (0x04 ∷ 0x00 ∷ 0x00 ∷ 0x00 ∷ 0x00 ∷ 0x00 ∷ 0x00 ∷ [])) ≡ refusedAt Value 8
+unfolding readOf walk after judgedOf openedOf tooMany kindOf inOrder recordOf withFeatures withSizes featuresRule featuresOf sizesRule sizesOf profileRule inside wordsIn wordLimit profileLimit nothingKept noMarks emptySetup
+no-words = refl
+
+pub profile-past : readOf (one-word-each (0x04 ∷ 0x00 ∷ 0x00 ∷ 0x00 ∷ 0x00 ∷ 0x00 ∷ 0x02 ∷ [])) ≡ refusedAt Value 8
+unfolding readOf walk after judgedOf openedOf tooMany kindOf inOrder recordOf withFeatures withSizes featuresRule featuresOf sizesRule sizesOf profileRule inside wordsIn wordLimit profileLimit nothingKept noMarks emptySetup
+profile-past = refl
+
+pub lock-past : readOf (one-word-each (0x05 ∷ 0x01 ∷ 0x00 ∷ 0x00 ∷ 0x00 ∷ 0x02 ∷ [])) ≡ refusedAt Value 8
+unfolding readOf walk after judgedOf openedOf tooMany kindOf inOrder recordOf withFeatures withSizes featuresRule featuresOf sizesRule sizesOf lockRule inside wordsIn wordLimit lockLimit nothingKept noMarks emptySetup
+lock-past = refl
+
+-- a profile and a lock that end with their area are accepted
+pub at-the-end : readOf (one-word-each (0x04 ∷ 0x00 ∷ 0x00 ∷ 0x00 ∷ 0x00 ∷ 0x00 ∷ 0x01 ∷ 0x05 ∷ 0x01 ∷ 0x00 ∷ 0x00 ∷ 0x00 ∷ 0x01 ∷ 0x06 ∷ []))
+    ≡ whole (record {
+      features = noFeatures;
+      sizes = record { identity = 1; user = 1 };
+      keys = record { count = 0; table = replicate keyLimit noKey };
+      profiles = set (replicate profileLimit noSlot) 0 (record { present = true; profile = record { area = Identity; base = record { 0 = 0 }; words = 1 } });
+      locks = record { count = 1; table = set (replicate lockLimit noLock) 0 (record { area = User; first = record { 0 = 0 }; words = 1 }) };
+    })
+unfolding readOf walk after judgedOf openedOf tooMany kindOf inOrder recordOf withFeatures withSizes withProfile withLock featuresRule featuresOf sizesRule sizesOf profileRule slotOf lockRule lockOf inside wordsIn areaOf wordLimit keyLimit profileLimit lockLimit nothingKept noMarks emptySetup noFeatures
+at-the-end = refl

@@ -20,7 +20,7 @@ pub start-one : OneAnswer 0 start-kinds.ps start-kinds.r start.Post Kept (λ κs
 start-one κs a x y s t p q = one p q
 
 pub judge-one : OneAnswer 1 judge-kinds.ps judge-kinds.r judge.Post Judged (λ κs r s. r)
-judge-one κs a x y s t p q = one p q
+judge-one κs a x y s t p q = one (p .0) (q .0)
 
 pub read-one : OneAnswer 1 read-kinds.ps read-kinds.r read.Post Reading (λ κs r s. r)
-read-one κs a x y s t p q = one p q
+read-one κs a x y s t p q = one (p .0) (q .0)

@@ -9,6 +9,7 @@ use lib.ListN.{length, take, drop, replicate, length-take, length-drop, take-app
 use lib.Seq.{take-all, drop-drop}
 use lib.Dec.{eqb, leb, ltb}
 use borrow.Author.Tests.{leb-true, ltb-true, eqb-true, eqb-false, eq-eqb}
+use Rattle.memory.specs.Address.{areaNumber}
 use Rattle.ground.specs.Choice.{both, implies}
 use Rattle.sheet.specs.Limits.{profileLimit, wordLimit}
 use Rattle.sheet.specs.Records.{byteAt, wordAt, bit, allZero, areaOf, inside, featuresRule, featuresOf, sizesRule, sizesOf, keyRule, keyOf, profileRule, slotOf, lockRule, lockOf}
@@ -78,7 +79,7 @@ module _ (b : List ℕ) (bytes : Bytes b) (long : length b ≡ 4) (fine : sizesR
       (whole-list 4 b long)
 
 area-forth : (a : ℕ) → a ≤ 1 → areaByte (areaOf a) ≡ a
-unfolding areaOf
+unfolding areaOf areaNumber
 area-forth zero h = refl
 area-forth (suc zero) h = refl
 area-forth (suc (suc a)) h = absurd (omega arith)

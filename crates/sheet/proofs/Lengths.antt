@@ -9,6 +9,7 @@ use lib.ListN.{length, take, length-append}
 use native.Mathlib.Nat.{lt-of-lt-of-le}
 use lib.Dec.{leb, eqb}
 use borrow.Author.Tests.{leb-true}
+use Rattle.memory.specs.Address.{areaNumber}
 use Rattle.memory.specs.declared.Area.{Area}
 use Rattle.memory.specs.declared.Area.the-variants.{Identity, User}
 use Rattle.memory.specs.declared.Lock.{Lock}
@@ -93,6 +94,7 @@ two-bytes : (n : ℕ) → n < 65536 → Bytes (twoBytes n)
 two-bytes n h = (omega arith, (omega arith, tt))
 
 area-low : (a : Area) → areaByte a < 256
+unfolding areaNumber
 area-low Identity = omega arith
 area-low User = omega arith
 

@@ -4,6 +4,7 @@ pub mod Copies
 pub mod Openings
 pub mod Rules
 pub mod Judgements
+pub mod Verdicts
 pub mod Walks
 pub mod Fits
 pub mod Examples

@@ -6,12 +6,13 @@ use lib.ListN.{length, take, set}
 use lib.Dec.{leb, ltb}
 use Rattle.ground.specs.Choice.{pick}
 use Rattle.sheet.specs.Limits.{keyLimit, profileLimit, lockLimit}
-use Rattle.sheet.specs.Kinds.{kindOf, isUnknown, bodyLength, inOrder}
+use Rattle.sheet.specs.Kinds.{kindOf, isUnknown, bodyLength, inOrder, numberOf}
 use Rattle.sheet.specs.Records.{byteAt, wordAt, featuresRule, featuresOf, sizesRule, sizesOf, keyRule, keyOf, profileRule, slotOf, lockRule, lockOf}
 use Rattle.sheet.specs.declared.Kind.{Kind}
 use Rattle.sheet.specs.declared.Kind.the-variants.{FeatureRecord, SizeRecord, KeyRecord, ProfileRecord, LockRecord, EndRecord, NoRecord}
 use Rattle.sheet.specs.declared.Fault.{Fault}
 use Rattle.sheet.specs.declared.Fault.the-variants.{Cut, Unknown, Order, Value, Many}
+use Rattle.sheet.specs.declared.Finding.{Finding}
 use Rattle.sheet.specs.declared.Finding.the-variants.{Taken, Ended, Faulty}
 use Rattle.sheet.specs.declared.Opened.{Opened}
 use Rattle.sheet.specs.declared.Opened.the-variants.{Open, Shut}
@@ -118,3 +119,13 @@ onlyIf (Shut f) k j = refused f k
 unfoldable pub judgedOf : List ℕ → Kept → Judged
 judgedOf [] k = refused Cut k
 judgedOf (b ∷ t) k = onlyIf (openedOf b (length t) k) k (recordOf (kindOf b) (take (bodyLength (kindOf b)) t) k)
+
+-- the number of a finding; 0 for a record that is taken or that ends the sheet
+abbrev pub findingNumber : Finding → ℕ
+findingNumber (Taken n) = 0
+findingNumber Ended = 0
+findingNumber (Faulty f) = numberOf f
+
+-- the number by which the record with which these bytes start is refused, and 0 where it is not
+unfoldable pub judgedNumber : List ℕ → Kept → ℕ
+judgedNumber s k = findingNumber (judgedOf s k .finding)

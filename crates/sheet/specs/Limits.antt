@@ -1,4 +1,5 @@
--- The limits of The scope paper, "The tag sheet". Each number stands here and nowhere else.
+-- The limits of the scope paper, "The tag sheet". In specs/ each number stands here alone; the code has it once more, as the constants
+-- KEYS, PROFILES, LOCKS and WORDS, which no proof admits at another value.
 use Prim.Native.Nat.{ℕ, _+_, _*_}
 
 -- up to 16 records of each of the kinds 03, 04 and 05

@@ -2,6 +2,7 @@
 use mathlib.Core.Bool.{false}
 use lib.ListN.{replicate}
 use Rattle.memory.specs.declared.Area.the-variants.{Identity}
+use Rattle.memory.specs.Rights as rights
 use Rattle.memory.specs.declared.Lock.{Lock}
 use Rattle.sheet.specs.Limits.{keyLimit, profileLimit, lockLimit}
 use Rattle.sheet.specs.declared.Features.{Features}
@@ -21,7 +22,7 @@ unfoldable pub noSlot : Slot
 noSlot = record { present = false; profile = record { area = Identity; base = record { 0 = 0 }; words = 0 } }
 
 unfoldable pub noLock : Lock
-noLock = record { area = Identity; first = record { 0 = 0 }; words = 0 }
+noLock = rights.noLock
 
 unfoldable pub emptySetup : Setup
 emptySetup = record { features = noFeatures; sizes = record { identity = 0; user = 0 }; keys = record { count = 0; table = replicate keyLimit noKey }; profiles = replicate profileLimit noSlot; locks = record { count = 0; table = replicate lockLimit noLock } }

@@ -1,13 +1,14 @@
 -- The scope paper, "The tag sheet": a whole sheet.
 use Prim.Native.Nat.{ℕ, zero, suc, _+_}
 use mathlib.Core.List.{List, [], _∷_}
-use Rattle.sheet.specs.Kinds.{kindOf, bodyLength}
+use Rattle.sheet.specs.Kinds.{kindOf, bodyLength, numberOf}
 use Rattle.sheet.specs.Setups.{emptySetup, nothingKept}
 use Rattle.sheet.specs.Judgement.{judgedOf}
 use Rattle.sheet.specs.declared.Fault.{Fault}
 use Rattle.sheet.specs.declared.Fault.the-variants.{Cut, Tail}
 use Rattle.sheet.specs.declared.Finding.{Finding}
 use Rattle.sheet.specs.declared.Finding.the-variants.{Taken, Ended, Faulty}
+use Rattle.sheet.specs.declared.Verdict.{Verdict}
 use Rattle.sheet.specs.declared.Verdict.the-variants.{Whole, Refused}
 use Rattle.sheet.specs.declared.Setup.{Setup}
 use Rattle.sheet.specs.declared.Kept.{Kept}
@@ -40,3 +41,19 @@ walk (b ∷ t) zero at k =
 -- What a sheet says, or the first refusal with its place.
 unfoldable pub readOf : List ℕ → Reading
 readOf s = walk s 0 0 nothingKept
+
+-- the number of a verdict and its place; a whole sheet has 0 for both
+abbrev pub verdictNumber : Verdict → ℕ
+verdictNumber Whole = 0
+verdictNumber (Refused f at) = numberOf f
+
+abbrev pub verdictPlace : Verdict → ℕ
+verdictPlace Whole = 0
+verdictPlace (Refused f at) = at
+
+-- the number of a sheet's first refusal, and its place
+unfoldable pub readNumber : List ℕ → ℕ
+readNumber s = verdictNumber (readOf s .verdict)
+
+unfoldable pub readPlace : List ℕ → ℕ
+readPlace s = verdictPlace (readOf s .verdict)

@@ -3,8 +3,8 @@ use Prim.Native.Nat.{ℕ, _+_, _*_, _/_, _%_}
 use mathlib.Core.Bool.{Bool, true, false}
 use mathlib.Core.List.{List, [], _∷_, _++_}
 use lib.ListN.{take}
+use Rattle.memory.specs.Address.{areaNumber}
 use Rattle.memory.specs.declared.Area.{Area}
-use Rattle.memory.specs.declared.Area.the-variants.{Identity, User}
 use Rattle.memory.specs.declared.Lock.{Lock}
 use Rattle.memory.specs.declared.Profile.{Profile}
 use Rattle.ground.specs.Choice.{pick}
@@ -28,8 +28,7 @@ byteOf [] = 0
 byteOf (b ∷ bs) = bitOf b + 2 * byteOf bs
 
 abbrev pub areaByte : Area → ℕ
-areaByte Identity = 0
-areaByte User = 1
+areaByte a = areaNumber a
 
 -- the bodies of the records 01 to 05
 unfoldable pub featuresBody : Features → List ℕ

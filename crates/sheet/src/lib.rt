@@ -10,8 +10,8 @@ use memory::Word;
 ghost use mathlib.Core.Path.{_≡_};
 ghost use Rattle.sheet.specs.Kinds.{numberOf};
 ghost use Rattle.sheet.specs.Setups.{noKey, emptySetup, nothingKept};
-ghost use Rattle.sheet.specs.Judgement.{judgedOf};
-ghost use Rattle.sheet.specs.Sheet.{refusedAt, readOf};
+ghost use Rattle.sheet.specs.Judgement.{judgedOf, findingNumber, judgedNumber};
+ghost use Rattle.sheet.specs.Sheet.{refusedAt, readOf, verdictNumber, verdictPlace, readNumber, readPlace};
 
 // How many records there may be of the kinds 03, 04 and 05, and how many words an area may have.
 pub const KEYS: usize = 16;
@@ -242,6 +242,7 @@ pub fn start() -> Kept
 // Ruled out: a judgement that calls a seventeenth key record 33 for its values, and one that takes a record whose KeyID doesn't rise.
 pub fn judge(rest: &[u8], kept: Kept) -> Judged
     ensures { λ r. ⌜ r ≡ judgedOf (now (rest .entry)) kept ⌝ }
+    ensures { λ r. ⌜ findingNumber (r .finding) ≡ judgedNumber (now (rest .entry)) kept ⌝ }
 {
     if rest.len() == 0 {
         return Judged {
@@ -278,6 +279,7 @@ fn refuse(f: Fault, at: usize) -> Reading
 // Ruled out: a reader that takes every sheet, and one that keeps part of a sheet it refuses.
 pub fn read(s: &[u8]) -> Reading
     ensures { λ r. ⌜ r ≡ readOf (now (s .entry)) ⌝ }
+    ensures { λ r. ⌜ (verdictNumber (r .verdict) ≡ readNumber (now (s .entry))) × (verdictPlace (r .verdict) ≡ readPlace (now (s .entry))) ⌝ }
 {
     let mut at = 0;
     let mut kept = start();

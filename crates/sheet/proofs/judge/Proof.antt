@@ -1,11 +1,12 @@
 use native.Mathlib.Omega.{arith}
 use Rattle.sheet.proofs.Judgements.{judged-none, judged-shut, judged-open, body-fits, body-few, body-long}
+use Rattle.sheet.proofs.Verdicts.{judge-told}
 use borrow.Author.Needs.{needs}
 use Rattle.sheet.proofs.judge.Statement.{statement}
 use Rattle.sheet.proofs.judge.Tie as tie
 
 returns : tie.Need-returns
-returns c = judged-none (c .before .before .args .rest .now) (c .before .before .args .kept) (c .if1 .taken)
+returns c = let a = c .before .before .args in judge-told (a .rest .now) (a .kept) _ (judged-none (a .rest .now) (a .kept) (c .if1 .taken))
 
 shared-slice-read-b : tie.Need-shared-slice-read-b
 shared-slice-read-b c = search needs
@@ -48,11 +49,11 @@ judge-body-requires c κs = let a = c .before .before .before .before .before .b
 
 returns-2 : tie.Need-returns-2
 returns-2 c = let a = c .before .before .before .before .before .before .before .args in
-    judged-shut (a .rest .now) (a .kept) _ _ (c .before .before .before .before .before .if1 .left) (c .before .before .before .opening .ensures) (c .before .f .given .1)
+    judge-told (a .rest .now) (a .kept) _ (judged-shut (a .rest .now) (a .kept) _ _ (c .before .before .before .before .before .if1 .left) (c .before .before .before .opening .ensures) (c .before .f .given .1))
 
 returns-3 : tie.Need-returns-3
 returns-3 c = let a = c .before .before .before .before .before .before .before .before .before .before .args in
-    judged-open (a .rest .now) (a .kept) _ _ _ _ (c .before .before .before .before .before .before .before .before .if1 .left) (c .before .before .before .before .before .before .opening .ensures) (c .before .before .before .before .enum-told .given .1) (c .before .before .before .kind-of .ensures) (c .before .before .body-length .ensures) (c .judge-body .ensures)
+    judge-told (a .rest .now) (a .kept) _ (judged-open (a .rest .now) (a .kept) _ _ _ _ (c .before .before .before .before .before .before .before .before .if1 .left) (c .before .before .before .before .before .before .opening .ensures) (c .before .before .before .before .enum-told .given .1) (c .before .before .before .kind-of .ensures) (c .before .before .body-length .ensures) (c .judge-body .ensures))
 
 pub judge-spec : {M : Type 1} → statement M
 judge-spec =

@@ -1,6 +1,6 @@
 -- `frames::build::size_bit` meets its contract. Assumes nothing.
 use native.Mathlib.Omega.{arith}
-use Rattle.frames.specs.Fields.{sizeBit}
+use Rattle.memory.specs.Address.{blockSizeBit}
 use borrow.Author.Needs.{needs}
 use Rattle.frames.proofs.build.size_bit.Statement.{statement}
 use Rattle.frames.proofs.build.size_bit.Tie as tie
@@ -12,11 +12,11 @@ enum-told-2 : tie.Need-enum-told-2
 enum-told-2 c = search needs
 
 returns : tie.Need-returns
-unfolding sizeBit
+unfolding blockSizeBit
 returns c = (rw (c .enum-told .given .1), omega arith)
 
 returns-2 : tie.Need-returns-2
-unfolding sizeBit
+unfolding blockSizeBit
 returns-2 c = (rw (c .enum-told2 .given .1), omega arith)
 
 pub size-bit-spec : {M : Type 1} → statement M
