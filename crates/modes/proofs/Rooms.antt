@@ -39,6 +39,9 @@ second false b e = absurd (false≢true e)
 pub part-of-block : (n m : ℕ) → (n % 16 ≡ 0 → ⊥) → chains n m ≡ false
 part-of-block n m h = ap (λ (b : Bool). both b (leb n m)) (ne-eqb (n % 16) 0 h)
 
+pub enough : (n m : ℕ) → n % 16 ≡ 0 → n ≤ m → chains n m ≡ true
+enough n m e h = ap₂ both (eq-eqb (n % 16) 0 e) (le-leb n m h)
+
 -- what is taken has its room
 pub has-room : (n m : ℕ) → chains n m ≡ true → n ≤ m
 has-room n m e = leb-true n m (second (eqb (n % 16) 0) (leb n m) e)

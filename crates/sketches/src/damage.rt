@@ -159,10 +159,18 @@ fn key(room: &mut [u8], d: Damage, k: Pair) -> usize {
     match way {
         11 => set(room, sum(k.at, 1), id),
         12 => set(room, sum(k.at, 1), less(id, 1 + d.value % 3)),
-        13 => set(room, sum(k.at, 2), 2 + d.value % 254),
+        13 => set(room, sum(k.at, 2), past(2, d.value)),
         _ => absent(room, k.at, d),
     }
     k.at
+}
+
+// The first value that is not allowed, or one from there up to 255.
+fn past(first: usize, value: usize) -> usize {
+    if value % 2 == 0 {
+        return first;
+    }
+    sum(first, below(value, less(256, first)))
 }
 
 fn absent(room: &mut [u8], at: usize, d: Damage) {
@@ -188,10 +196,10 @@ fn profile(room: &mut [u8], d: Damage, p: Pair) -> usize {
     let number = get(room, sum(p.before, 1));
     let way = d.way;
     match way {
-        15 => set(room, sum(p.at, 1), 16 + d.value % 240),
+        15 => set(room, sum(p.at, 1), past(16, d.value)),
         16 => set(room, sum(p.at, 1), number),
         17 => set(room, sum(p.at, 1), less(number, 1 + d.value % 3)),
-        18 => set(room, sum(p.at, 2), 2 + d.value % 254),
+        18 => set(room, sum(p.at, 2), past(2, d.value)),
         19 => set_word(room, sum(p.at, 5), 0),
         20 => one_past(room, sum(p.at, 2)),
         21 => base_past(room, sum(p.at, 2), d),
@@ -234,7 +242,7 @@ fn lock(room: &mut [u8], d: Damage, l: Pair) -> usize {
     }
     let way = d.way;
     match way {
-        23 => set(room, sum(l.at, 1), 2 + d.value % 254),
+        23 => set(room, sum(l.at, 1), past(2, d.value)),
         24 => set_word(room, sum(l.at, 4), 0),
         25 => one_past(room, sum(l.at, 1)),
         26 => end_past(room, sum(l.at, 2), d.value),

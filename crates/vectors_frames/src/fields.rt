@@ -63,6 +63,14 @@ fn rfu_of(whether: usize, rfu: u8) -> u8 {
     0
 }
 
+// In one of sixteen the largest, in one of sixteen one more.
+fn offset_of(n: usize) -> usize {
+    if n % 8 == 0 {
+        return 4095 + n / 8 % 2;
+    }
+    n % 4160
+}
+
 fn select(bit: usize, x: u64) -> Selection {
     let profile = next(x);
     let offset = next_word(profile.x);
@@ -73,7 +81,7 @@ fn select(bit: usize, x: u64) -> Selection {
         custom: Custom {
             blocksize,
             profile: low(profile.n % 17),
-            offset: Offset(low_word(offset.n % 4160)),
+            offset: Offset(low_word(offset_of(offset.n))),
             blockcount: low(blockcount.n % 17),
         },
         protmode: low(protmode.n % 17),

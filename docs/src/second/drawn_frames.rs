@@ -110,7 +110,7 @@ fn drawn_fields(draws: &mut Draws) -> Fields {
     let (blocksize, rev) = (draws.number() % 2, draws.number() % 2);
     let (whether, rfu) = (draws.number() % 8, draws.number());
     let keyid = draws.number();
-    let (profile, offset, blockcount, protmode) = (draws.number() % 17, draws.word() % 4160, draws.number() % 17, draws.number() % 17);
+    let (profile, offset, blockcount, protmode) = (draws.number() % 17, offset(draws.word()), draws.number() % 17, draws.number() % 17);
     let number = |bytes: &[u8]| bytes.iter().fold(0, |sum, &byte| sum << 8 | u128::from(byte));
     Fields {
         blocksize: blocksize as u128,
@@ -123,6 +123,14 @@ fn drawn_fields(draws: &mut Draws) -> Fields {
         blockcount: blockcount as u128,
         protmode: protmode as u128,
         iresponse: number(&draws.bytes(16)),
+    }
+}
+
+/// In one of sixteen the largest, in one of sixteen one more.
+fn offset(word: usize) -> usize {
+    match word % 8 {
+        0 => 4095 + word / 8 % 2,
+        _ => word % 4160,
     }
 }
 

@@ -1,10 +1,11 @@
 //! Sheets: the paper's examples, the longest, 1,600 drawn and mostly damaged, each kind byte in each place, each cut.
 
+use crate::damage::{meant, Damage, WAYS};
 use crate::draws::{digest, Draws};
 use crate::hex::bytes;
 use crate::report::Report;
 use crate::sheet::{read, Refusal, Setup};
-use crate::sketch::{meant, Damage, Sketch, LONGEST, SMALL, WAYS};
+use crate::sketch::{Sketch, LONGEST, SMALL};
 
 const DRAWN: usize = 1600;
 

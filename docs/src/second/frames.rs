@@ -246,3 +246,21 @@ pub fn constant_bytes(value: u16, width: u32, purpose: u16) -> [u8; 2] {
         _ => (value << 4 | purpose).to_be_bytes(),
     }
 }
+
+/// A constant of Table 1 by its name.
+pub fn constant(name: &str) -> u16 {
+    CONSTANTS.iter().find(|(known, _, _)| *known == name).expect("a name of Table 1").1
+}
+
+/// The RFU bits of a kind's first byte.
+pub fn rfu_mask(kind: Kind) -> u8 {
+    let mut left = 8;
+    layout(kind).into_iter().take_while(|(part, _)| *part != Part::KeyId).fold(0, |mask, (part, width)| {
+        left -= width.min(left);
+        if part == Part::Rfu {
+            mask | ((1 << width) - 1) << left
+        } else {
+            mask
+        }
+    })
+}

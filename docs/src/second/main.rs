@@ -2,7 +2,8 @@
 //!
 //! It is written from the papers alone (FIPS 197, SP 800-38A, SP 800-38B, ISO/IEC 29167-10, the house rules of paper 01)
 //! and shares no text with the proved crates. Its one argument says what it writes on standard output: with `cipher`
-//! what the program `vectors` must write, with `setup` what `vectors_setup`, with `frames` what `vectors_frames` must write, line for line. Where a paper
+//! what the program `vectors` must write, with `setup` what `vectors_setup`, with `frames` what `vectors_frames`, with `tag` what
+//! `vectors_tag` must write, line for line; with `tag-input` what that program is fed with. Where a paper
 //! prints the answer, its own answer is held against the printed one first; where any differ, or where the drawn cases
 //! do not show enough of a thing, it says so on standard error and exits with status 1.
 //!
@@ -12,22 +13,35 @@
 //!     rustc -O --edition 2021 -o second docs/src/second/main.rs
 
 mod aes;
+mod annexf;
 mod chaining;
+mod choice;
 mod cmac;
+mod damage;
 mod drawn;
 mod drawn_frames;
 mod drawn_sheets;
+mod drawn_tag;
 mod drawn_windows;
 mod draws;
 mod frames;
 mod hex;
 mod memory;
+mod player;
 mod published;
+mod reader;
 mod report;
 mod rooms;
+mod scene;
+mod script;
 mod sheet;
 mod sketch;
+mod slips;
+mod tag;
+mod tally;
+mod wish;
 
+use std::io::Write;
 use std::process::ExitCode;
 
 fn main() -> ExitCode {
@@ -42,8 +56,16 @@ fn main() -> ExitCode {
             drawn_windows::lines(&mut report);
         }
         Some("frames") => drawn_frames::lines(&mut report),
+        Some("tag") => drawn_tag::lines(&mut report),
+        Some("tag-input") => {
+            let script = drawn_tag::script(&mut report);
+            if let Err(error) = std::io::stdout().write_all(&script) {
+                eprintln!("standard output: {error}");
+                return ExitCode::from(1);
+            }
+        }
         _ => {
-            eprintln!("one argument: cipher, setup or frames");
+            eprintln!("one argument: cipher, setup, frames, tag or tag-input");
             return ExitCode::from(2);
         }
     }

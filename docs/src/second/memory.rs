@@ -89,15 +89,15 @@ pub struct Memory {
 }
 
 impl Memory {
-    fn area(&mut self, area: Area) -> &mut Vec<u8> {
+    fn area(&self, area: Area) -> &Vec<u8> {
         match area {
-            Area::Identity => &mut self.identity,
-            Area::User => &mut self.user,
+            Area::Identity => &self.identity,
+            Area::User => &self.user,
         }
     }
 
     /// The words asked for. A call that names bytes outside its area is shown none.
-    pub fn window(&mut self, request: &Request) -> Vec<u8> {
+    pub fn window(&self, request: &Request) -> Vec<u8> {
         let area = self.area(request.area);
         let both = |word: usize| [area.get(2 * word).copied(), area.get(2 * word + 1).copied()];
         let bytes: Option<Vec<u8>> = request.addresses.clone().flat_map(both).collect();
@@ -110,7 +110,10 @@ impl Memory {
         if !inside || data.len() != request.bytes() {
             return;
         }
-        let area = self.area(request.area);
+        let area = match request.area {
+            Area::Identity => &mut self.identity,
+            Area::User => &mut self.user,
+        };
         for (word, pair) in request.addresses.clone().zip(data.chunks(2)) {
             area[2 * word] = pair[0];
             area[2 * word + 1] = pair[1];

@@ -1,0 +1,98 @@
+-- Only an IAM3 changes an area, and only bytes of the block that it addresses; and the words are then the ones that it carried.
+use mathlib.Core.Path.{_≡_, refl, sym, ap, _∙_, subst}
+use mathlib.Core.Bool.{Bool, true, false}
+use mathlib.Core.List.{List, [], _∷_}
+use mathlib.Core.Logic.{_⊎_, inl, inr}
+use Prim.Native.Nat.{ℕ, _+_, _≤_, _<_}
+use native.Mathlib.Omega.{arith}
+use lib.ListN.{length, getD}
+use Rattle.memory.specs.declared.Block.{Block}
+use Rattle.memory.specs.declared.Area.the-variants.{Identity, User}
+use Rattle.memory.specs.Areas.{storedIn, firstByte, byteCount}
+use Rattle.memory.proofs.Stores.{stored-outside, stored-length}
+use Rattle.frames.specs.declared.Kind.{Kind}
+use Rattle.frames.specs.declared.Kind.the-variants.{Tam1, Tam2, Iam1, Iam2, Iam3, Mam1, Mam2, Unsupported}
+use Rattle.frames.specs.Kinds.{kindOf}
+use Rattle.frames.specs.Messages.{iam3Of}
+use Rattle.sheet.specs.declared.Setup.{Setup}
+use Rattle.tag.specs.declared.Fault.{Fault}
+use Rattle.tag.specs.declared.Session.{Session}
+use Rattle.tag.specs.declared.Tag.{Tag}
+use Rattle.tag.specs.declared.Fault.the-variants.{NotSupported}
+use Rattle.tag.specs.States.{cleared}
+use Rattle.tag.specs.Records.{keyNamed, blockAsked}
+use Rattle.tag.specs.Opened.{openedData, wordsIn}
+use Rattle.tag.specs.Answers.{Answer, Call, refused, replied, letIn, ifFine, tam1Answer, tam2Answer, iam1Answer, iam2Answer, iam3Answer, mam1Answer, mam2Answer, byKind, answerOf}
+use Rattle.tag.proofs.Cases.{fine-case, answer-case}
+
+-- A byte that is none of the block's.
+abbrev pub Outside : Block → ℕ → Type 0
+Outside b i = (i < firstByte b) ⊎ (firstByte b + byteCount b ≤ i)
+
+-- Both areas are as they were.
+pub record Still (c : Call) (a : Answer) : Type 0 where
+  pub identity : a .identity ≡ c .identity
+  pub user : a .user ≡ c .user
+
+-- Every byte but those of the addressed block is as it was, in both areas, and none is added or lost.
+pub record Elsewhere (c : Call) (tag : Tag) (a : Answer) : Type 0 where
+  pub identity : (i : ℕ) → Outside (blockAsked (tag .setup) (iam3Of (c .message) .custom)) i → getD (a .identity) i 0 ≡ getD (c .identity) i 0
+  pub user : (i : ℕ) → Outside (blockAsked (tag .setup) (iam3Of (c .message) .custom)) i → getD (a .user) i 0 ≡ getD (c .user) i 0
+  pub identityLength : length (a .identity) ≡ length (c .identity)
+  pub userLength : length (a .user) ≡ length (c .user)
+
+module _ (c : Call) where
+  refusal-still : (f : Fault) (s : Session) → Still c (refused c f s)
+  unfolding refused
+  refusal-still f s = record { identity = refl; user = refl }
+
+  kind-still : (setup : Setup) (held : Session) (k : Kind) → (k ≡ Iam3 → ⊥) → Still c (byKind c setup held k)
+  unfolding byKind tam1Answer tam2Answer iam1Answer iam2Answer mam1Answer mam2Answer replied letIn
+  kind-still setup held Tam1 h = fine-case c (Still c) (λ f. refusal-still f cleared) _ _ (record { identity = refl; user = refl })
+  kind-still setup held Tam2 h = fine-case c (Still c) (λ f. refusal-still f cleared) _ _ (record { identity = refl; user = refl })
+  kind-still setup held Iam1 h = fine-case c (Still c) (λ f. refusal-still f cleared) _ _ (record { identity = refl; user = refl })
+  kind-still setup held Iam2 h = fine-case c (Still c) (λ f. refusal-still f cleared) _ _ (record { identity = refl; user = refl })
+  kind-still setup held Iam3 h = absurd (h refl)
+  kind-still setup held Mam1 h = fine-case c (Still c) (λ f. refusal-still f cleared) _ _ (record { identity = refl; user = refl })
+  kind-still setup held Mam2 h = fine-case c (Still c) (λ f. refusal-still f cleared) _ _ (record { identity = refl; user = refl })
+  kind-still setup held Unsupported h = refusal-still NotSupported cleared
+
+  -- a message that is no IAM3 changes no area
+  pub still : (tag : Tag) → ((first : ℕ) (rest : List ℕ) → c .message ≡ first ∷ rest → kindOf first ≡ Iam3 → ⊥) → Still c (answerOf c tag)
+  still tag h = answer-case c (Still c) (λ f. refusal-still f cleared) tag (λ f. refusal-still f (tag .session)) (λ first rest e o t. kind-still (tag .setup) (tag .session) (kindOf first) (h first rest e))
+
+  still-elsewhere : (tag : Tag) (a : Answer) → Still c a → Elsewhere c tag a
+  still-elsewhere tag a s = record {
+    identity = λ i o. ap (λ (l : List ℕ). getD l i 0) (s .identity);
+    user = λ i o. ap (λ (l : List ℕ). getD l i 0) (s .user);
+    identityLength = ap length (s .identity);
+    userLength = ap length (s .user);
+  }
+
+  iam3-elsewhere : (tag : Tag) → Elsewhere c tag (iam3Answer c (tag .setup) (tag .session))
+  unfolding iam3Answer letIn
+  iam3-elsewhere tag =
+      fine-case c (Elsewhere c tag) (λ f. still-elsewhere tag (refused c f cleared) (refusal-still f cleared)) _ _
+      (record {
+        identity = λ i o. stored-outside Identity _ _ _ i o;
+        user = λ i o. stored-outside User _ _ _ i o;
+        identityLength = stored-length Identity _ _ _;
+        userLength = stored-length User _ _ _;
+      })
+
+  kind-elsewhere : (tag : Tag) (k : Kind) → Elsewhere c tag (byKind c (tag .setup) (tag .session) k)
+  unfolding byKind
+  kind-elsewhere tag Iam3 = iam3-elsewhere tag
+  kind-elsewhere tag Tam1 = still-elsewhere tag _ (kind-still (tag .setup) (tag .session) Tam1 (λ e. (let z : _≡_ {A = ℕ} 0 1 = cc in omega arith)))
+  kind-elsewhere tag Tam2 = still-elsewhere tag _ (kind-still (tag .setup) (tag .session) Tam2 (λ e. (let z : _≡_ {A = ℕ} 0 1 = cc in omega arith)))
+  kind-elsewhere tag Iam1 = still-elsewhere tag _ (kind-still (tag .setup) (tag .session) Iam1 (λ e. (let z : _≡_ {A = ℕ} 0 1 = cc in omega arith)))
+  kind-elsewhere tag Iam2 = still-elsewhere tag _ (kind-still (tag .setup) (tag .session) Iam2 (λ e. (let z : _≡_ {A = ℕ} 0 1 = cc in omega arith)))
+  kind-elsewhere tag Mam1 = still-elsewhere tag _ (kind-still (tag .setup) (tag .session) Mam1 (λ e. (let z : _≡_ {A = ℕ} 0 1 = cc in omega arith)))
+  kind-elsewhere tag Mam2 = still-elsewhere tag _ (kind-still (tag .setup) (tag .session) Mam2 (λ e. (let z : _≡_ {A = ℕ} 0 1 = cc in omega arith)))
+  kind-elsewhere tag Unsupported = still-elsewhere tag _ (kind-still (tag .setup) (tag .session) Unsupported (λ e. (let z : _≡_ {A = ℕ} 0 1 = cc in omega arith)))
+
+  -- whatever the message, every byte outside the addressed block stays
+  pub elsewhere : (tag : Tag) → Elsewhere c tag (answerOf c tag)
+  elsewhere tag =
+      answer-case c (Elsewhere c tag) (λ f. still-elsewhere tag (refused c f cleared) (refusal-still f cleared)) tag
+      (λ f. still-elsewhere tag (refused c f (tag .session)) (refusal-still f (tag .session))) (λ first rest e o t. kind-elsewhere tag (kindOf first))

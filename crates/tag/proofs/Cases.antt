@@ -1,0 +1,48 @@
+-- What holds of every refusal, and of what each kind of message comes to where it is offered and in its turn, holds of the tag's answer.
+use mathlib.Core.Path.{_≡_, refl}
+use mathlib.Core.Bool.{Bool, true, false}
+use mathlib.Core.List.{List, [], _∷_}
+use Prim.Native.Nat.{ℕ}
+use lib.ListN.{length}
+use Rattle.ground.specs.Choice.{pick}
+use Rattle.sheet.specs.declared.Setup.{Setup}
+use Rattle.frames.specs.Kinds.{kindOf}
+use Rattle.tag.specs.declared.Fault.{Fault}
+use Rattle.tag.specs.declared.Fault.the-variants.{OtherError, NotSupported, OutOfTurn}
+use Rattle.tag.specs.declared.Session.{Session}
+use Rattle.tag.specs.declared.Tag.{Tag}
+use Rattle.tag.specs.declared.Verdict.{Verdict}
+use Rattle.tag.specs.declared.Verdict.the-variants.{Fine, Wrong}
+use Rattle.tag.specs.States.{cleared, inTurn}
+use Rattle.tag.specs.Checks.{judged}
+use Rattle.tag.specs.Records.{offered}
+use Rattle.tag.specs.Judged.{benchChecks}
+use Rattle.tag.specs.Answers.{Answer, Call, refused, ifFine, byKind, inOrder, ofMessage, ofBench, answerOf}
+
+module _ (c : Call) (P : Answer → Type 0) (initial : (f : Fault) → P (refused c f cleared)) where
+  pub fine-case : (v : Verdict) (a : Answer) → P a → P (ifFine c v a)
+  unfolding ifFine
+  fine-case Fine a h = h
+  fine-case (Wrong f) a h = initial f
+
+  picked : (b : Bool) (x y : Answer) → (b ≡ true → P x) → P y → P (pick b x y)
+  picked true x y h k = h refl
+  picked false x y h k = k
+
+  module _ (tag : Tag) (asItWas : (f : Fault) → P (refused c f (tag .session))) (kinds : (first : ℕ) (rest : List ℕ) → c .message ≡ first ∷ rest → offered (tag .setup .features) (kindOf first) ≡ true
+      → inTurn (tag .session .state) (kindOf first) ≡ true → P (byKind c (tag .setup) (tag .session) (kindOf first))) where
+    of-message : (m : List ℕ) → c .message ≡ m → P (ofMessage c (tag .setup) (tag .session) m)
+    unfolding ofMessage inOrder
+    of-message [] e = initial OtherError
+    of-message (first ∷ rest) e =
+        picked (offered (tag .setup .features) (kindOf first)) _ (refused c NotSupported cleared)
+        (λ o. picked (inTurn (tag .session .state) (kindOf first)) (byKind c (tag .setup) (tag .session) (kindOf first)) (refused c OutOfTurn cleared) (λ t. kinds first rest e o t) (initial OutOfTurn))
+        (initial NotSupported)
+
+    of-bench : (v : Verdict) → P (ofBench c (tag .setup) (tag .session) v)
+    of-bench Fine = of-message (c .message) refl
+    of-bench (Wrong f) = asItWas f
+
+    pub answer-case : P (answerOf c tag)
+    unfolding answerOf
+    answer-case = of-bench (judged (benchChecks (tag .setup) (length (c .draws)) (c .room) (length (c .identity)) (length (c .user))))

@@ -1,0 +1,32 @@
+-- What `find`, `slot` and `block_asked` gave is what the definitions name.
+use Prim.Native.Nat.{ℕ, _+_}
+use mathlib.Core.Path.{_≡_, _∙_}
+use mathlib.Core.Bool.{Bool}
+use mathlib.Core.List.{List}
+use lib.ListN.{take, getD}
+use Rattle.memory.specs.declared.Block.{Block}
+use Rattle.memory.specs.Address.{addressOf}
+use Rattle.sheet.specs.declared.Key.{Key}
+use Rattle.sheet.specs.declared.Slot.{Slot}
+use Rattle.sheet.specs.declared.Setup.{Setup}
+use Rattle.sheet.specs.Setups.{noSlot}
+use Rattle.frames.specs.declared.Custom.{Custom}
+use Rattle.tag.specs.Records.{hasKey, keyOf, keysOf, keyPresent, keyNamed, slotNamed, blockAsked}
+
+module _ (setup : Setup) where
+  pub present-named : {b : Bool} (keyid : ℕ) → b ≡ hasKey keyid (take (setup .keys .count) (setup .keys .table)) → b ≡ keyPresent setup keyid
+  unfolding keysOf
+  present-named keyid e = e
+
+  pub key-named : {k : Key} (keyid : ℕ) → k ≡ keyOf keyid (take (setup .keys .count) (setup .keys .table)) → k ≡ keyNamed setup keyid
+  unfolding keysOf
+  key-named keyid e = e
+
+  module _ (c : Custom) {s : Slot} (e : s ≡ getD (setup .profiles) (c .profile) noSlot) where
+    pub slot-named : s ≡ slotNamed setup (c .profile)
+    unfolding slotNamed
+    slot-named = e
+
+    pub block-named : {b : Block} → b ≡ addressOf (s .profile) (c .blocksize) (c .offset) (c .blockcount + 1) → b ≡ blockAsked setup c
+    unfolding slotNamed blockAsked
+    block-named h = rw e at h

@@ -1,0 +1,77 @@
+-- The lengths of the replies.
+use mathlib.Core.Path.{_≡_, refl}
+use mathlib.Core.Bool.{Bool, true, false}
+use mathlib.Core.List.{List, [], _++_}
+use Prim.Native.Nat.{ℕ, _+_, _%_, _≤_}
+use native.Mathlib.Omega.{arith}
+use lib.ListN.{length, take, drop, length-append}
+use lib.Seq.{length-take-le}
+use Rattle.ground.specs.Choice.{pick}
+use Rattle.aes.specs.AesEnc.{aesEnc}
+use Rattle.modes.specs.Cbc.{cbcEncAes}
+use Rattle.modes.specs.Cmac.{cmac96}
+use Rattle.sheet.specs.declared.Key.{Key}
+use Rattle.frames.specs.declared.Tam1.{Tam1}
+use Rattle.frames.specs.declared.Tam2.{Tam2}
+use Rattle.frames.specs.declared.Mam1.{Mam1}
+use Rattle.frames.specs.declared.Custom.{Custom}
+use Rattle.frames.specs.Blocks.{dataLength, blocksLength}
+use Rattle.frames.specs.Constants.{C-MAM1, tam2Constant, twoBytes}
+use Rattle.frames.specs.Fields.{customFits}
+use Rattle.frames.specs.Lengths.{hasMac, macLength, tam1ReplyLength, mam1ReplyLength, tam2MacAt, tam2ReplyLength, replyRoom}
+use Rattle.frames.proofs.Bounds.{tam2-reply-fits}
+use Rattle.frames.proofs.Range.{custom-range}
+use Rattle.tag.specs.Replies.{tamBlock, tam1Reply, carriedData, encrypts, tam2Body, withMac, tam2Reply, mam1Reply}
+use Rattle.tag.proofs.CipherLengths.{enc-sixteen, mac-twelve, cbc-whole}
+use Rattle.tag.proofs.Carried.{carried-long}
+
+pub tam-block-long : (enc constant draws ichallenge : List ℕ) → length (tamBlock enc constant draws ichallenge) ≡ 16
+unfolding tamBlock
+tam-block-long enc constant draws ichallenge = enc-sixteen enc (constant ++ (take 4 draws ++ ichallenge))
+
+pub tam1-long : (key : Key) (m : Tam1) (draws : List ℕ) → length (tam1Reply key m draws) ≡ tam1ReplyLength
+unfolding tam1Reply
+tam1-long key m draws = tam-block-long (key .enc) _ draws (m .ichallenge)
+
+pub mam1-long : (key : Key) (m : Mam1) (draws : List ℕ) → length draws ≡ 10 → length (mam1Reply key m draws) ≡ mam1ReplyLength
+unfolding mam1Reply
+mam1-long key m draws e =
+    let b = aesEnc (key .enc) (twoBytes C-MAM1 ++ (drop 6 draws ++ m .ichallenge)) in
+    omega (arith, length-append b (take 6 draws), enc-sixteen (key .enc) (twoBytes C-MAM1 ++ (drop 6 draws ++ m .ichallenge)), length-take-le 6 draws (omega arith))
+
+pub blocks-whole : (c : Custom) (rev : Bool) → blocksLength (c .blocksize) rev (c .blockcount) % 16 ≡ 0
+unfolding blocksLength
+blocks-whole c rev = omega arith
+
+-- chained or not, the data are as long
+chosen-long : (b : Bool) (a enc p : List ℕ) → length p % 16 ≡ 0 → length (pick b (cbcEncAes a enc p) p) ≡ length p
+chosen-long true a enc p e = cbc-whole a enc p e
+chosen-long false a enc p e = refl
+
+pub body-long : (protmode : ℕ) (a enc p : List ℕ) → length p % 16 ≡ 0 → length (pick (encrypts protmode) (cbcEncAes a enc p) p) ≡ length p
+body-long protmode = chosen-long (encrypts protmode)
+
+mac-or-none : (b : Bool) (mackey s : List ℕ) → length (pick b (cmac96 mackey s) []) ≡ pick b 12 0
+mac-or-none true mackey s = mac-twelve mackey s
+mac-or-none false mackey s = refl
+
+pub mac-long : (protmode : ℕ) (mackey s : List ℕ) → length (pick (hasMac protmode) (cmac96 mackey s) []) ≡ macLength protmode
+unfolding macLength
+mac-long protmode = mac-or-none (hasMac protmode)
+
+-- a block, data and perhaps a MAC
+pub made-long : (protmode n : ℕ) (mackey enc a p : List ℕ) → length a ≡ 16 → length p ≡ n → n % 16 ≡ 0
+    → (let s = a ++ pick (encrypts protmode) (cbcEncAes a enc p) p in length (s ++ pick (hasMac protmode) (cmac96 mackey s) []) ≡ 16 + n + macLength protmode)
+made-long protmode n mackey enc a p h e w =
+    let x = pick (encrypts protmode) (cbcEncAes a enc p) p in
+    omega (arith, length-append (a ++ x) (pick (hasMac protmode) (cmac96 mackey (a ++ x)) []), length-append a x, body-long protmode a enc p (omega arith), mac-long protmode mackey (a ++ x))
+
+module _ (key : Key) (m : Tam2) (words draws : List ℕ) (count : length words ≤ dataLength (m .custom .blocksize) (m .custom .blockcount)) where
+  pub tam2-long : length (tam2Reply key m words draws) ≡ tam2ReplyLength (m .custom .blocksize) (m .rev) (m .custom .blockcount) (m .protmode)
+  unfolding tam2Reply withMac tam2Body tam2ReplyLength tam2MacAt
+  tam2-long =
+      made-long (m .protmode) (blocksLength (m .custom .blocksize) (m .rev) (m .custom .blockcount)) (key .mackey) (key .enc) (tamBlock (key .enc) (twoBytes (tam2Constant (m .rev) (m .protmode))) draws (m .ichallenge))
+      (carriedData (m .rev) (m .custom) words) (tam-block-long (key .enc) _ draws (m .ichallenge)) (carried-long (m .rev) (m .custom) words count) (blocks-whole (m .custom) (m .rev))
+
+  pub tam2-most : customFits (m .custom) ≡ true → length (tam2Reply key m words draws) ≤ replyRoom
+  tam2-most fit = omega (arith, tam2-long, tam2-reply-fits (m .custom .blocksize) (m .rev) (m .custom .blockcount) (m .protmode) (custom-range (m .custom) fit .blockcount))

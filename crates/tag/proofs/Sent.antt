@@ -1,0 +1,110 @@
+-- The parts of an IAM3 as it was sent, and what is opened of them.
+use mathlib.Core.Path.{_≡_, refl, ap, _∙_}
+use mathlib.Core.Bool.{Bool, true, false}
+use mathlib.Core.List.{List, _++_}
+use Prim.Native.Nat.{ℕ, _+_, _-_, _%_, _≤_, _<_}
+use native.Mathlib.Omega.{arith}
+use lib.ListN.{length, take, drop, length-drop}
+use lib.Seq.{take-add, take-all, drop-drop, length-take-le}
+use Rattle.ground.specs.Choice.{pick, implies}
+use Rattle.field.specs.Block.{firstBlock}
+use Rattle.field.proofs.Block.{first-block-is}
+use Rattle.memory.specs.declared.BlockSize.{BlockSize}
+use Rattle.modes.specs.Cbc.{cbcDecAes}
+use Rattle.modes.specs.Cmac.{cmac96}
+use Rattle.modes.specs.declared.Chaining.{Chaining}
+use Rattle.modes.specs.Room.{Into, over}
+use Rattle.sheet.specs.declared.Key.{Key}
+use Rattle.frames.specs.declared.Custom.{Custom}
+use Rattle.frames.specs.declared.Iam3.{Iam3}
+use Rattle.frames.specs.Blocks.{blocksLength, headerLength, dataLength, headerPart, carried, dOf}
+use Rattle.frames.specs.Lengths.{hasMac, macLength}
+use Rattle.tag.specs.Opened.{same, sentBlock, sentData, sentMac, openedData, macFits}
+use Rattle.tag.specs.Replies.{encrypts}
+use Rattle.tag.proofs.Long.{cbc-dec-long}
+
+-- ---- lengths
+
+pub blocks-whole : (s : BlockSize) (header : Bool) (n : ℕ) → blocksLength s header n % 16 ≡ 0
+unfolding blocksLength
+blocks-whole s header n = omega arith
+
+-- header and data stand in the D blocks, and leave less than a block to fill
+pub blocks-hold : (s : BlockSize) (n : ℕ) → headerLength s + dataLength s n ≤ blocksLength s true n
+unfolding blocksLength dOf carried headerPart
+blocks-hold s n = omega arith
+
+pub blocks-tight : (s : BlockSize) (n : ℕ) → blocksLength s true n < headerLength s + dataLength s n + 16
+unfolding blocksLength dOf carried headerPart
+blocks-tight s n = omega arith
+
+-- n bytes of a list from a place on, where they are there
+pub part-long : (m : List ℕ) (a n : ℕ) → a + n ≤ length m → length (take n (drop a m)) ≡ n
+part-long m a n h = length-take-le n (drop a m) (omega (arith, length-drop a m))
+
+pub data-long : (c : Custom) (m : List ℕ) → 20 + blocksLength (c .blocksize) true (c .blockcount) ≤ length m → length (sentData c m) ≡ blocksLength (c .blocksize) true (c .blockcount)
+data-long c m h = part-long m 20 (blocksLength (c .blocksize) true (c .blockcount)) h
+
+-- ---- the parts as the code takes them
+
+-- the first block behind the fields
+pub first-sent : (m : List ℕ) → 20 ≤ length m → firstBlock (take (length m - 4) (drop 4 m)) ≡ sentBlock m
+first-sent m h =
+    ap firstBlock (take-all (length m - 4) (drop 4 m) (omega (arith, length-drop 4 m))) ∙ first-block-is (drop 4 m) (omega (arith, length-drop 4 m))
+
+-- what stands behind a place, to the end
+pub rest-sent : (m : List ℕ) (a : ℕ) → take (length m - a) (drop a m) ≡ drop a m
+rest-sent m a = take-all (length m - a) (drop a m) (omega (arith, length-drop a m))
+
+-- the bytes that the MAC covers
+pub covered : (m : List ℕ) (n : ℕ) → take (20 + n - 4) (drop 4 m) ≡ take 16 (drop 4 m) ++ take n (drop 20 m)
+covered m n =
+    let e : 20 + n - 4 ≡ 16 + n = omega arith in
+    ap (λ (k : ℕ). take k (drop 4 m)) e ∙ take-add 16 n (drop 4 m) ∙ ap (λ (l : List ℕ). take 16 (drop 4 m) ++ take n l) (drop-drop 16 4 m)
+
+pub data-sent : (m : List ℕ) (n : ℕ) → take (20 + n - 20) (drop 20 m) ≡ take n (drop 20 m)
+data-sent m n = let e : 20 + n - 20 ≡ n = omega arith in ap (λ (k : ℕ). take k (drop 20 m)) e
+
+-- ---- what is opened
+
+module _ (key : Key) (f : Iam3) (m : List ℕ) where
+  pub opened-chained : encrypts (f .protmode) ≡ true → openedData key f m ≡ cbcDecAes (sentBlock m) (key .enc) (sentData (f .custom) m)
+  unfolding openedData
+  opened-chained e = rw e
+
+  pub opened-plain : encrypts (f .protmode) ≡ false → openedData key f m ≡ sentData (f .custom) m
+  unfolding openedData
+  opened-plain e = rw e
+
+  pub opened-long : 20 + blocksLength (f .custom .blocksize) true (f .custom .blockcount) ≤ length m
+      → length (openedData key f m) ≡ blocksLength (f .custom .blocksize) true (f .custom .blockcount)
+  unfolding openedData
+  opened-long h =
+      let d = data-long (f .custom) m h in
+      picked (blocksLength (f .custom .blocksize) true (f .custom .blockcount)) (cbcDecAes (sentBlock m) (key .enc) (sentData (f .custom) m)) (sentData (f .custom) m) (encrypts (f .protmode)) (cbc-dec-long (sentBlock m) (key .enc) (sentData (f .custom) m) (omega (arith, blocks-whole (f .custom .blocksize) true (f .custom .blockcount))) ∙ d) d
+    where
+      picked : (n : ℕ) (a b : List ℕ) (t : Bool) → length a ≡ n → length b ≡ n → length (pick t a b) ≡ n
+      picked n a b true p q = p
+      picked n a b false p q = q
+
+  -- ---- the MAC
+
+  pub no-mac : macLength (f .protmode) ≡ 0 → macFits key f m ≡ true
+  unfolding macLength macFits
+  no-mac = without (hasMac (f .protmode)) (same (cmac96 (key .mackey) (sentBlock m ++ sentData (f .custom) m)) (sentMac (f .custom) m))
+    where
+      without : (t b : Bool) → pick {A = ℕ} t 12 0 ≡ 0 → implies t b ≡ true
+      without true b e = absurd (let w : ⊥ = omega arith in w)
+      without false b e = refl
+
+  pub with-mac : (macLength (f .protmode) ≡ 0 → ⊥) → macFits key f m ≡ same (cmac96 (key .mackey) (sentBlock m ++ sentData (f .custom) m)) (sentMac (f .custom) m)
+  unfolding macLength macFits
+  with-mac = having (hasMac (f .protmode)) (same (cmac96 (key .mackey) (sentBlock m ++ sentData (f .custom) m)) (sentMac (f .custom) m))
+    where
+      having : (t b : Bool) → (pick {A = ℕ} t 12 0 ≡ 0 → ⊥) → implies t b ≡ b
+      having true b h = refl
+      having false b h = absurd (h refl)
+
+-- what a call that is taken leaves in its room
+pub into-taken : (taken : Bool) (out room after : List ℕ) (answer : Chaining) → taken ≡ true → Into taken out room answer after → after ≡ over out room
+into-taken taken out room after answer e h = rw e at (h .leaves)

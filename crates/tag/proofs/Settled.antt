@@ -1,0 +1,109 @@
+-- What the step's proof asks of an IAM3: that its parts are there once its fields were judged, and what it comes to.
+use mathlib.Core.Path.{_≡_, refl, sym, ap, _∙_}
+use mathlib.Core.Bool.{Bool, true, false}
+use mathlib.Core.List.{List, []}
+use Prim.Native.Nat.{ℕ, zero, suc, _+_, _≤_, _<_}
+use native.Mathlib.Omega.{arith}
+use borrow.Author.Tests.{eqb-true, ne-eqb, le-ltb}
+use lib.Dec.{eqb, leb, ltb}
+use lib.ListN.{length}
+use Rattle.ground.specs.Choice.{pick, either, implies}
+use Rattle.aes.specs.AesEnc.{aesEnc}
+use Rattle.memory.specs.declared.Area.the-variants.{Identity, User}
+use Rattle.memory.specs.Areas.{storedIn}
+use Rattle.sheet.specs.declared.Features.{Features}
+use Rattle.sheet.specs.declared.Key.{Key}
+use Rattle.sheet.specs.declared.Setup.{Setup}
+use Rattle.frames.specs.declared.Kind.the-variants.{Iam3}
+use Rattle.frames.specs.Blocks.{blocksLength}
+use Rattle.frames.specs.Lengths.{hasMac, iam3MacAt, iam3Length, iam3LengthFits, lengthFits}
+use Rattle.frames.specs.Messages.{iam3Of}
+use Rattle.frames.proofs.Range.{both-left, both-right}
+use Rattle.tag.specs.declared.Session.{Session}
+use Rattle.tag.specs.declared.Fault.the-variants.{ProofWrong}
+use Rattle.tag.specs.declared.Outcome.the-variants.{Entered, Refused}
+use Rattle.tag.specs.declared.Verdict.{Verdict}
+use Rattle.tag.specs.declared.Verdict.the-variants.{Fine}
+use Rattle.tag.specs.States.{cleared, entered}
+use Rattle.tag.specs.Checks.{after, judged}
+use Rattle.tag.specs.Records.{modeOffered, modeSupported, keyNamed, blockAsked}
+use Rattle.tag.specs.Opened.{purposeIn, sentBlock, openedData, wordsIn, iam3Proof}
+use Rattle.tag.specs.Judged.{iam3Checks}
+use Rattle.tag.specs.Answers.{refused, Call, letIn, ifFine, iam3Answer}
+
+-- ---- the parts are there
+
+-- a ProtMode that is offered is one of four
+offered-below : (f : Features) (p : ℕ) → modeOffered f p ≡ true → p < 4
+unfolding modeOffered
+offered-below f zero e = omega arith
+offered-below f (suc zero) e = omega arith
+offered-below f (suc (suc zero)) e = omega arith
+offered-below f (suc (suc (suc zero))) e = omega arith
+offered-below f (suc (suc (suc (suc p)))) e =
+    let q = suc (suc (suc (suc p))) in
+    let none : false ≡ true =
+    rw (
+      ne-eqb q 0 (λ h. (let w : ⊥ = omega arith in w)),
+      ne-eqb q 1 (λ h. (let w : ⊥ = omega arith in w)),
+      ne-eqb q 2 (λ h. (let w : ⊥ = omega arith in w)),
+      ne-eqb q 3 (λ h. (let w : ⊥ = omega arith in w)),
+    ) at e in
+    absurd (let z : _≡_ {A = ℕ} 0 1 = cc in let w : ⊥ = omega arith in w)
+
+pub supported-below : (f : Features) (key : Key) (p : ℕ) → modeSupported f key p ≡ true → p < 4
+unfolding modeSupported
+supported-below f key p e = offered-below f p (both-left (modeOffered f p) (implies (hasMac p) (key .mac)) e)
+
+pub iam3-parts : (m : List ℕ) → lengthFits Iam3 m ≡ true → iam3Of m .protmode < 4
+    → 20 + blocksLength (iam3Of m .custom .blocksize) true (iam3Of m .custom .blockcount) ≤ length m
+unfolding lengthFits iam3LengthFits iam3Length iam3MacAt
+iam3-parts m e h =
+    let f = iam3Of m in
+    let n = iam3Length (f .custom .blocksize) (f .custom .blockcount) (f .protmode) in
+    let r = both-right (leb 4 (length m)) (either (ltb 3 (f .protmode)) (eqb (length m) n)) e in
+    let s : either (ltb 3 (f .protmode)) (eqb (length m) n) ≡ eqb (length m) n = ap (λ (t : Bool). either t (eqb (length m) n)) (le-ltb 3 (f .protmode) (omega arith)) in
+    let q = eqb-true (length m) n (sym s ∙ r) in
+    omega (arith, q)
+
+-- ---- what it comes to
+
+-- an answer that the proof decides
+decided : (c : Call) (t : Bool) (purpose : ℕ) (identity user : List ℕ)
+    → ifFine c (after t ProofWrong Fine) (letIn c purpose identity user)
+    ≡ record {
+      outcome = pick t (Entered purpose) (Refused ProofWrong);
+      session = pick t entered cleared;
+      reply = [];
+      identity = pick t identity (c .identity);
+      user = pick t user (c .user);
+    }
+unfolding ifFine letIn refused
+decided c true purpose identity user = refl
+decided c false purpose identity user = refl
+
+module _ (c : Call) (setup : Setup) (held : Session) where
+  abbrev named : Key
+  named = keyNamed setup (held .keyid)
+
+  abbrev proof : Bool
+  proof = iam3Proof named held (iam3Of (c .message)) (c .message)
+
+  abbrev words : List ℕ
+  words = wordsIn (iam3Of (c .message) .custom) (openedData named (iam3Of (c .message)) (c .message))
+
+  pub iam3-answered : judged (iam3Checks setup held (c .message)) ≡ after proof ProofWrong Fine
+      → iam3Answer c setup held
+      ≡ record {
+        outcome = pick proof (Entered (purposeIn (aesEnc (named .enc) (sentBlock (c .message))))) (Refused ProofWrong);
+        session = pick proof entered cleared;
+        reply = [];
+        identity = pick proof (storedIn Identity (blockAsked setup (iam3Of (c .message) .custom)) words (c .identity)) (c .identity);
+        user = pick proof (storedIn User (blockAsked setup (iam3Of (c .message) .custom)) words (c .user)) (c .user);
+      }
+  unfolding iam3Answer
+  iam3-answered e =
+      let b = blockAsked setup (iam3Of (c .message) .custom) in
+      let p = purposeIn (aesEnc (named .enc) (sentBlock (c .message))) in
+      ap (λ (v : Verdict). ifFine c v (letIn c p (storedIn Identity b words (c .identity)) (storedIn User b words (c .user)))) e
+      ∙ decided c proof p (storedIn Identity b words (c .identity)) (storedIn User b words (c .user))

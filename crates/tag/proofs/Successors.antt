@@ -1,0 +1,115 @@
+-- Annex A: a message that is accepted was in its turn, and each leads to the state that Table A.1 names. And what is held there: nothing in Initial and in IA-OK.
+use mathlib.Core.Path.{_≡_, refl}
+use mathlib.Core.Bool.{true}
+use mathlib.Core.List.{List, [], _∷_}
+use Prim.Native.Nat.{ℕ}
+use native.Mathlib.Omega.{arith}
+use Rattle.frames.specs.declared.Kind.{Kind}
+use Rattle.frames.specs.declared.Kind.the-variants.{Tam1, Tam2, Iam1, Iam2, Iam3, Mam1, Mam2, Unsupported}
+use Rattle.frames.specs.Kinds.{kindOf}
+use Rattle.sheet.specs.declared.Setup.{Setup}
+use Rattle.tag.specs.declared.State.{State}
+use Rattle.tag.specs.declared.State.the-variants.{Initial, IamInit, MamInit, IaOk}
+use Rattle.tag.specs.declared.Fault.{Fault}
+use Rattle.tag.specs.declared.Fault.the-variants.{NotSupported}
+use Rattle.tag.specs.declared.Session.{Session}
+use Rattle.tag.specs.declared.Outcome.the-variants.{Refused}
+use Rattle.tag.specs.declared.Tag.{Tag}
+use Rattle.tag.specs.declared.Verdict.{Verdict}
+use Rattle.tag.specs.States.{cleared, entered, poweredUp, inTurn}
+use Rattle.tag.specs.Records.{offered}
+use Rattle.tag.specs.Answers.{Answer, Call, refused, replied, letIn, ifFine, tam1Answer, tam2Answer, iam1Answer, iam2Answer, iam3Answer, mam1Answer, mam2Answer, byKind, answerOf}
+use Rattle.tag.proofs.Cases.{fine-case, answer-case}
+
+-- Table A.1, the last column.
+abbrev pub nextState : Kind → State
+nextState Tam1 = Initial
+nextState Tam2 = Initial
+nextState Iam1 = IamInit
+nextState Iam2 = IaOk
+nextState Iam3 = IaOk
+nextState Mam1 = MamInit
+nextState Mam2 = IaOk
+nextState Unsupported = Initial
+
+abbrev pub Accepted : Answer → Type 0
+Accepted a = (f : Fault) → a .outcome ≡ Refused f → ⊥
+
+-- What is known of an accepted message.
+pub record Successor (c : Call) (tag : Tag) (a : Answer) : Type 0 where
+  pub first : ℕ
+  pub rest : List ℕ
+  pub message : c .message ≡ first ∷ rest
+  pub offer : offered (tag .setup .features) (kindOf first) ≡ true
+  pub turn : inTurn (tag .session .state) (kindOf first) ≡ true
+  pub next : a .session .state ≡ nextState (kindOf first)
+
+module _ (c : Call) where
+  refusal-not : (P : Answer → Type 0) (f : Fault) (s : Session) → Accepted (refused c f s) → P (refused c f s)
+  unfolding refused
+  refusal-not P f s h = absurd (h f refl)
+
+  abbrev In : Kind → Answer → Type 0
+  In k a = a .session .state ≡ nextState k
+
+  abbrev Leads : Kind → Answer → Type 0
+  Leads k a = Accepted a → In k a
+
+  kind-leads : (setup : Setup) (held : Session) (k : Kind) → Leads k (byKind c setup held k)
+  unfolding byKind tam1Answer tam2Answer iam1Answer iam2Answer iam3Answer mam1Answer mam2Answer replied letIn cleared entered
+  kind-leads setup held Tam1 = fine-case c (Leads Tam1) (λ f. refusal-not (In Tam1) f cleared) _ _ (λ h. refl)
+  kind-leads setup held Tam2 = fine-case c (Leads Tam2) (λ f. refusal-not (In Tam2) f cleared) _ _ (λ h. refl)
+  kind-leads setup held Iam1 = fine-case c (Leads Iam1) (λ f. refusal-not (In Iam1) f cleared) _ _ (λ h. refl)
+  kind-leads setup held Iam2 = fine-case c (Leads Iam2) (λ f. refusal-not (In Iam2) f cleared) _ _ (λ h. refl)
+  kind-leads setup held Iam3 = fine-case c (Leads Iam3) (λ f. refusal-not (In Iam3) f cleared) _ _ (λ h. refl)
+  kind-leads setup held Mam1 = fine-case c (Leads Mam1) (λ f. refusal-not (In Mam1) f cleared) _ _ (λ h. refl)
+  kind-leads setup held Mam2 = fine-case c (Leads Mam2) (λ f. refusal-not (In Mam2) f cleared) _ _ (λ h. refl)
+  kind-leads setup held Unsupported = refusal-not (In Unsupported) NotSupported cleared
+
+  pub successor : (tag : Tag) → Accepted (answerOf c tag) → Successor c tag (answerOf c tag)
+  successor tag =
+      answer-case c (λ a. Accepted a → Successor c tag a) (λ f. refusal-not (Successor c tag) f cleared) tag (λ f. refusal-not (Successor c tag) f (tag .session))
+      (λ first rest e o t h. record { first = first; rest = rest; message = e; offer = o; turn = t; next = kind-leads (tag .setup) (tag .session) (kindOf first) h })
+
+-- ---- what is held
+
+-- In Initial and in IA-OK nothing is held: so any two tags in Initial with the same setup are equal.
+pub record Rested (s : Session) : Type 0 where
+  pub initial : s .state ≡ Initial → s ≡ cleared
+  pub iaOk : s .state ≡ IaOk → s ≡ entered
+
+cleared-rests : Rested cleared
+unfolding cleared
+cleared-rests = record { initial = λ e. refl; iaOk = λ e. (let z : _≡_ {A = ℕ} 0 1 = cc in absurd (omega arith)) }
+
+entered-rests : Rested entered
+unfolding entered
+entered-rests = record { initial = λ e. (let z : _≡_ {A = ℕ} 0 1 = cc in absurd (omega arith)); iaOk = λ e. refl }
+
+waiting-rests : (s : Session) → (s .state ≡ Initial → ⊥) → (s .state ≡ IaOk → ⊥) → Rested s
+waiting-rests s h k = record { initial = λ e. absurd (h e); iaOk = λ e. absurd (k e) }
+
+pub powered-up-rests : (setup : Setup) → Rested (poweredUp setup .session)
+unfolding poweredUp
+powered-up-rests setup = cleared-rests
+
+module _ (c : Call) where
+  refused-rests : (f : Fault) → Rested (refused c f cleared .session)
+  unfolding refused
+  refused-rests f = cleared-rests
+
+  kind-rests : (setup : Setup) (held : Session) (k : Kind) → Rested (byKind c setup held k .session)
+  unfolding byKind tam1Answer tam2Answer iam1Answer iam2Answer iam3Answer mam1Answer mam2Answer replied letIn
+  kind-rests setup held Tam1 = fine-case c (λ a. Rested (a .session)) (λ f. refused-rests f) _ _ cleared-rests
+  kind-rests setup held Tam2 = fine-case c (λ a. Rested (a .session)) (λ f. refused-rests f) _ _ cleared-rests
+  kind-rests setup held Iam1 = fine-case c (λ a. Rested (a .session)) (λ f. refused-rests f) _ _ (waiting-rests _ (λ e. (let z : _≡_ {A = ℕ} 0 1 = cc in omega arith)) (λ e. (let z : _≡_ {A = ℕ} 0 1 = cc in omega arith)))
+  kind-rests setup held Iam2 = fine-case c (λ a. Rested (a .session)) (λ f. refused-rests f) _ _ entered-rests
+  kind-rests setup held Iam3 = fine-case c (λ a. Rested (a .session)) (λ f. refused-rests f) _ _ entered-rests
+  kind-rests setup held Mam1 = fine-case c (λ a. Rested (a .session)) (λ f. refused-rests f) _ _ (waiting-rests _ (λ e. (let z : _≡_ {A = ℕ} 0 1 = cc in omega arith)) (λ e. (let z : _≡_ {A = ℕ} 0 1 = cc in omega arith)))
+  kind-rests setup held Mam2 = fine-case c (λ a. Rested (a .session)) (λ f. refused-rests f) _ _ entered-rests
+  kind-rests setup held Unsupported = refused-rests NotSupported
+
+  -- a call keeps it so
+  pub answer-rests : (tag : Tag) → Rested (tag .session) → Rested (answerOf c tag .session)
+  unfolding refused
+  answer-rests tag h = answer-case c (λ a. Rested (a .session)) (λ f. cleared-rests) tag (λ f. h) (λ first rest e o t. kind-rests (tag .setup) (tag .session) (kindOf first))

@@ -1,0 +1,105 @@
+-- What the fields of a TAM2 message, and the words that it asks for, come with.
+use mathlib.Core.Path.{_≡_, refl, ap, ap₂, _∙_}
+use mathlib.Core.Bool.{Bool, true, false, cond}
+use mathlib.Core.List.{List, [], _∷_}
+use Prim.Native.Nat.{ℕ, zero, suc, _+_, _*_, _/_, _%_, _≤_, _<_}
+use native.Mathlib.Omega.{arith}
+use native.Mathlib.Nat.{mul-assoc}
+use borrow.Author.Tests.{lt-ltb}
+use lib.Dec.{lit<}
+use lib.ListN.{length, take, drop}
+use Rattle.ground.specs.Choice.{both}
+use Rattle.field.proofs.Block.{Bytes}
+use Rattle.memory.specs.declared.BlockSize.{BlockSize}
+use Rattle.memory.specs.declared.BlockSize.the-variants.{Bits64, Bits16}
+use Rattle.memory.specs.declared.Area.{Area}
+use Rattle.memory.specs.declared.Area.the-variants.{Identity, User}
+use Rattle.memory.specs.declared.Block.{Block}
+use Rattle.memory.specs.Address.{stepOf, addressOf}
+use Rattle.memory.specs.Areas.{byteCount, firstByte, areaOf, within, partOf, windowOf}
+use Rattle.modes.proofs.Whole.{bytes-take}
+use Rattle.sheet.specs.declared.Setup.{Setup}
+use Rattle.frames.specs.declared.Custom.{Custom}
+use Rattle.frames.specs.Blocks.{blockBytes, dataLength}
+use Rattle.frames.specs.Fields.{byte, bytesFrom, sizeOf, customFits, selectCustom}
+use Rattle.frames.specs.Messages.{tam1Of, tam2Of, mam1Of}
+use Rattle.frames.proofs.Places.{bytes-length}
+use Rattle.tag.specs.Records.{blockAsked}
+use Rattle.tag.proofs.ReplyBytes.{Ten, drop-bytes}
+
+-- three bytes give fields that fit their bits
+pub select-custom-fits : (s : BlockSize) (x y z : ℕ) → x < 256 → y < 256 → z < 256 → customFits (selectCustom s x y z) ≡ true
+unfolding customFits selectCustom
+select-custom-fits s x y z hx hy hz =
+    ap₂ both (lt-ltb (x / 16) 16 (omega arith)) (ap₂ both (lt-ltb (x % 16 * 256 + y) 4096 (omega arith)) (lt-ltb (z / 16) 16 (omega arith)))
+
+module _ (m : List ℕ) (h : Bytes m) where
+  pub tam2-custom-fits : customFits (tam2Of m .custom) ≡ true
+  unfolding tam2Of
+  tam2-custom-fits = select-custom-fits (sizeOf (byte m 0 / 16 % 2)) (byte m 12) (byte m 13) (byte m 14) (h 12) (h 13) (h 14)
+
+  bytes-from : (n i : ℕ) → Bytes (bytesFrom m i n)
+  unfolding bytesFrom
+  bytes-from zero i k = lit< tt
+  bytes-from (suc n) i zero = h i
+  bytes-from (suc n) i (suc k) = bytes-from n (suc i) k
+
+  -- the three messages have their challenge in the same place
+  pub challenge-ten : Ten (bytesFrom m 2 10)
+  challenge-ten = record { ten = bytes-length m 2 10; bytes = bytes-from 10 2 }
+
+  pub tam1-challenge : Ten (tam1Of m .ichallenge)
+  unfolding tam1Of
+  tam1-challenge = challenge-ten
+
+  pub tam2-challenge : Ten (tam2Of m .ichallenge)
+  unfolding tam2Of
+  tam2-challenge = challenge-ten
+
+  pub mam1-challenge : Ten (mam1Of m .ichallenge)
+  unfolding mam1Of
+  mam1-challenge = challenge-ten
+
+-- the words of a block are at most its bytes, also where the block runs past its area
+cond-most : (b : Bool) (s : List ℕ) (n : ℕ) → length s ≤ n → length (cond b s []) ≤ n
+cond-most true s n h = h
+cond-most false s n h = omega arith
+
+take-most : (n : ℕ) (s : List ℕ) → length (take n s) ≤ n
+take-most zero s = omega arith
+take-most (suc n) [] = omega arith
+take-most (suc n) (x ∷ s) = let z = take-most n s in omega arith
+
+window-most : (identity user : List ℕ) (b : Block) → length (windowOf identity user b) ≤ byteCount b
+unfolding windowOf partOf
+window-most identity user b =
+    let area = areaOf (b .area) identity user in
+    cond-most (within b area) (take (byteCount b) (drop (firstByte b) area)) (byteCount b) (take-most (byteCount b) (drop (firstByte b) area))
+
+step-bytes : (s : BlockSize) → stepOf s * 2 ≡ blockBytes s
+unfolding stepOf blockBytes
+step-bytes Bits64 = refl
+step-bytes Bits16 = refl
+
+pub asked-bytes : (setup : Setup) (c : Custom) → byteCount (blockAsked setup c) ≡ dataLength (c .blocksize) (c .blockcount)
+unfolding blockAsked addressOf dataLength
+asked-bytes setup c = mul-assoc (c .blockcount + 1) (stepOf (c .blocksize)) 2 ∙ ap (λ (k : ℕ). (c .blockcount + 1) * k) (step-bytes (c .blocksize))
+
+pub words-most : (setup : Setup) (c : Custom) (identity user : List ℕ) → length (windowOf identity user (blockAsked setup c)) ≤ dataLength (c .blocksize) (c .blockcount)
+words-most setup c identity user = omega (arith, window-most identity user (blockAsked setup c), asked-bytes setup c)
+
+cond-bytes : (b : Bool) (s : List ℕ) → Bytes s → Bytes (cond b s [])
+cond-bytes true s h = h
+cond-bytes false s h = λ i. lit< tt
+
+area-bytes : (a : Area) (identity user : List ℕ) → Bytes identity → Bytes user → Bytes (areaOf a identity user)
+unfolding areaOf
+area-bytes Identity identity user h k = h
+area-bytes User identity user h k = k
+
+pub words-bytes : (b : Block) (identity user : List ℕ) → Bytes identity → Bytes user → Bytes (windowOf identity user b)
+unfolding windowOf partOf
+words-bytes b identity user h k =
+    let area = areaOf (b .area) identity user in
+    cond-bytes (within b area) (take (byteCount b) (drop (firstByte b) area))
+    (bytes-take (byteCount b) (drop (firstByte b) area) (drop-bytes (firstByte b) area (area-bytes (b .area) identity user h k)))

@@ -1,0 +1,9 @@
+pub mod States
+pub mod Checks
+pub mod Records
+pub mod Replies
+pub mod Opened
+pub mod Judged
+pub mod Answers
+pub mod Parts
+pub mod Runs

@@ -1,0 +1,242 @@
+// What a setup offers, and the record, the slot and the words that a message names.
+use super::State;
+use frames::Custom;
+use frames::Kind;
+use memory::Area;
+use memory::Block;
+use memory::BlockSize;
+use memory::Profile;
+use memory::Word;
+use sheet::Features;
+use sheet::Key;
+use sheet::Keys;
+use sheet::Slot;
+ghost use mathlib.Core.Path.{_≡_};
+ghost use mathlib.Core.Bool.{false};
+ghost use Prim.Native.Nat.{_+_};
+ghost use lib.ListN.{take, getD};
+ghost use Rattle.memory.specs.Address.{addressOf};
+ghost use Rattle.sheet.specs.Setups.{noKey, noSlot};
+ghost use Rattle.frames.specs.Lengths.{hasMac};
+ghost use Rattle.tag.specs.States.{atRest, afterIam1, afterMam1, inTurn};
+ghost use Rattle.tag.specs.Records.{offered, sizeOffered, revOffered, modeOffered, modeSupported, hasKey, keyOf};
+
+/// The record of a KeyID: whether there is one, and the record, all zero where there is none.
+pub struct Found {
+    pub present: bool,
+    pub key: Key,
+}
+
+/// Whether the tag has the message's method, step and feature.
+///
+/// Ruled out: IAM3 offered by the bit of IAM1 and IAM2; a message that is none of the seven offered.
+pub fn offered(f: Features, kind: Kind) -> bool
+    ensures { λ r. ⌜ r ≡ offered f kind ⌝ }
+{
+    match kind {
+        Kind::Tam1 => true,
+        Kind::Tam2 => true,
+        Kind::Iam1 => f.iam,
+        Kind::Iam2 => f.iam,
+        Kind::Iam3 => f.iam3,
+        Kind::Mam1 => f.mam,
+        Kind::Mam2 => f.mam,
+        Kind::Unsupported => false,
+    }
+}
+
+/// Whether the tag has blocks of this size (9.4.5).
+///
+/// Ruled out: 64-bit blocks refused; 16-bit blocks taken in every tag.
+pub fn size_offered(f: Features, size: BlockSize) -> bool
+    ensures { λ r. ⌜ r ≡ sizeOffered f size ⌝ }
+{
+    match size {
+        BlockSize::Bits64 => true,
+        BlockSize::Bits16 => f.blocksize1,
+    }
+}
+
+/// Whether the tag has this TAM2_Rev.
+///
+/// Ruled out: the two revisions exchanged; Rev 1 taken in every tag.
+pub fn rev_offered(f: Features, rev: bool) -> bool
+    ensures { λ r. ⌜ r ≡ revOffered f rev ⌝ }
+{
+    if rev {
+        return f.rev1;
+    }
+    f.rev0
+}
+
+// Whether the ProtMode is one of the sheet's.
+fn mode_offered(f: Features, protmode: u8) -> bool
+    ensures { λ r. ⌜ r ≡ modeOffered f protmode ⌝ }
+{
+    if protmode == 0 {
+        return f.mode0;
+    }
+    if protmode == 1 {
+        return f.mode1;
+    }
+    if protmode == 2 {
+        return f.mode2;
+    }
+    if protmode == 3 {
+        return f.mode3;
+    }
+    false
+}
+
+// Whether the ProtMode asks for a MAC (Table 3).
+fn has_mac(protmode: u8) -> bool
+    ensures { λ r. ⌜ r ≡ hasMac protmode ⌝ }
+{
+    if protmode == 2 {
+        return true;
+    }
+    protmode == 3
+}
+
+/// Whether the ProtMode is offered, and the record has the key for its MAC (9.2).
+///
+/// Ruled out: ProtMode 3 with a record that has no MAC key; ProtMode 4 taken for 0.
+pub fn mode_supported(f: Features, key: Key, protmode: u8) -> bool
+    ensures { λ r. ⌜ r ≡ modeSupported f key protmode ⌝ }
+{
+    if !mode_offered(f, protmode) {
+        return false;
+    }
+    if has_mac(protmode) {
+        return key.mac;
+    }
+    true
+}
+
+fn at_rest(state: State) -> bool
+    ensures { λ r. ⌜ r ≡ atRest state ⌝ }
+{
+    match state {
+        State::Initial => true,
+        State::IamInit => false,
+        State::MamInit => false,
+        State::IaOk => true,
+    }
+}
+
+fn after_iam1(state: State) -> bool
+    ensures { λ r. ⌜ r ≡ afterIam1 state ⌝ }
+{
+    match state {
+        State::Initial => false,
+        State::IamInit => true,
+        State::MamInit => false,
+        State::IaOk => false,
+    }
+}
+
+fn after_mam1(state: State) -> bool
+    ensures { λ r. ⌜ r ≡ afterMam1 state ⌝ }
+{
+    match state {
+        State::Initial => false,
+        State::IamInit => false,
+        State::MamInit => true,
+        State::IaOk => false,
+    }
+}
+
+/// Whether the state takes the message (Table A.1).
+///
+/// Ruled out: IAM1 taken between a challenge and its answer; MAM2 taken after IAM1.
+pub fn in_turn(state: State, kind: Kind) -> bool
+    ensures { λ r. ⌜ r ≡ inTurn state kind ⌝ }
+{
+    match kind {
+        Kind::Tam1 => true,
+        Kind::Tam2 => true,
+        Kind::Iam1 => at_rest(state),
+        Kind::Iam2 => after_iam1(state),
+        Kind::Iam3 => after_iam1(state),
+        Kind::Mam1 => at_rest(state),
+        Kind::Mam2 => after_mam1(state),
+        Kind::Unsupported => false,
+    }
+}
+
+// What is found where no record has the KeyID.
+fn absent() -> Found
+    ensures { λ r. ⌜ (r .present ≡ false) × (r .key ≡ noKey) ⌝ }
+{
+    Found {
+        present: false,
+        key: Key {
+            id: 0,
+            mac: false,
+            mpi: 0,
+            enc: [0u8; 16],
+            mackey: [0u8; 16],
+        },
+    }
+}
+
+/// The first record in use that has the KeyID.
+///
+/// Ruled out: an entry that no record filled, taken for KeyID 0; a last record that is never found.
+pub fn find(keys: Keys, keyid: u8) -> Found
+    ensures { λ r. ⌜ (r .present ≡ hasKey keyid (take (keys .count) (keys .table))) × (r .key ≡ keyOf keyid (take (keys .count) (keys .table))) ⌝ }
+{
+    let count = keys.count;
+    let table = keys.table;
+    let mut i = 0;
+    while i < 16 {
+        if count <= i {
+            return absent();
+        }
+        let key = table[i];
+        if key.id == keyid {
+            return Found { present: true, key };
+        }
+        i += 1;
+    }
+    absent()
+}
+
+// The slot that no record filled.
+fn no_slot() -> Slot
+    ensures { λ r. ⌜ r ≡ noSlot ⌝ }
+{
+    Slot {
+        present: false,
+        profile: Profile {
+            area: Area::Identity,
+            base: Word(0),
+            words: 0,
+        },
+    }
+}
+
+/// The slot of a profile's number, an empty one for 16 and more.
+///
+/// Ruled out: a number taken modulo 16; the slot of the next number.
+pub fn slot(profiles: [Slot; 16], profile: u8) -> Slot
+    ensures { λ r. ⌜ r ≡ getD profiles profile noSlot ⌝ }
+{
+    if 16 <= profile {
+        return no_slot();
+    }
+    let i = profile as usize;
+    profiles[i]
+}
+
+/// The words that a message asks for in its slot: BlockCount n stands for n + 1 data blocks (9.2).
+///
+/// Ruled out: BlockCount taken for the number of blocks; an Offset that counts words in both block sizes.
+pub fn block_asked(slot: Slot, custom: Custom) -> Block
+    ensures { λ r. ⌜ r ≡ addressOf (slot .profile) (custom .blocksize) (custom .offset) (custom .blockcount + 1) ⌝ }
+{
+    let profile = slot.profile;
+    let size = custom.blocksize;
+    let offset = custom.offset;
+    memory::address(profile, size, offset, custom.blockcount as u16 + 1)
+}
