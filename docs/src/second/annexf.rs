@@ -1,6 +1,6 @@
 //! The 18 examples of ISO/IEC 29167-10, Annex F, through the tag, each from power-up; and the messages with an IResponse
-//! made once more by the reader. Digits that the copy at hand has wrongly are those that the computation gives:
-//! one digit in F.12 and one in F.14, zeros too many in F.14, F.20, F.27 and F.30.
+//! made once more by the reader. Where the copy at hand has wrong digits (F.12, F.14) or too many zeros (F.20, F.27, F.30),
+//! the digits here are those that the computation gives.
 
 use crate::frames::{fields, kind_of, Fields, Kind};
 use crate::hex::bytes;
@@ -130,7 +130,10 @@ const EXAMPLES: [Example; 18] = [
     iam("F.23", &[IAM1, "50 2C79B76E2EF8B47F6DC4E861EA2F3D5E"], MEMORY),
     iam(
         "F.26",
-        &[IAM1, "58100011 AEB86FD061758873D80B9416C84E3692 2FA00D4893FCBDF38D05E97AF1238C9A A6DBD01167E8D88572AF307F8E7025B4"],
+        &[
+            IAM1,
+            "58100011 AEB86FD061758873D80B9416C84E3692 2FA00D4893FCBDF38D05E97AF1238C9A A6DBD01167E8D88572AF307F8E7025B4",
+        ],
         "AABBCCDDEEFF00010203040506070809756D",
     ),
     iam(
@@ -153,7 +156,10 @@ const EXAMPLES: [Example; 18] = [
     ),
     iam(
         "F.29",
-        &[IAM1, "5C100213 5D3F017B042E02228D26C90DBDB513DA 49E163B8C7A3316BA0A1E3EB62088358 624C8B0CDBE35E089F1C355F"],
+        &[
+            IAM1,
+            "5C100213 5D3F017B042E02228D26C90DBDB513DA 49E163B8C7A3316BA0A1E3EB62088358 624C8B0CDBE35E089F1C355F",
+        ],
         "A16A7665AABBCCDD5265676E756D5475756D",
     ),
     iam(
@@ -202,10 +208,17 @@ pub fn examples(report: &mut Report, script: &mut Script) {
                     report.expect(&format!("{} has Purpose 0", example.table), purpose.unwrap_or(0) == 0);
                 }
             }
-            report.hold(&format!("{} by the reader", example.table), &made(&bench, &call.message, example), message);
+            report.hold(
+                &format!("{} by the reader", example.table),
+                &made(&bench, &call.message, example),
+                message,
+            );
         }
         let state = bench.tag.session.name();
-        report.expect(&format!("{} leaves {}, not {state}", example.table, example.state), state == example.state);
+        report.expect(
+            &format!("{} leaves {}, not {state}", example.table, example.state),
+            state == example.state,
+        );
         report.hold(&format!("{} memory", example.table), &bench.memory.identity[..18], example.memory);
     }
 }

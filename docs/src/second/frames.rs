@@ -255,12 +255,15 @@ pub fn constant(name: &str) -> u16 {
 /// The RFU bits of a kind's first byte.
 pub fn rfu_mask(kind: Kind) -> u8 {
     let mut left = 8;
-    layout(kind).into_iter().take_while(|(part, _)| *part != Part::KeyId).fold(0, |mask, (part, width)| {
-        left -= width.min(left);
-        if part == Part::Rfu {
-            mask | ((1 << width) - 1) << left
-        } else {
-            mask
-        }
-    })
+    layout(kind)
+        .into_iter()
+        .take_while(|(part, _)| *part != Part::KeyId)
+        .fold(0, |mask, (part, width)| {
+            left -= width.min(left);
+            if part == Part::Rfu {
+                mask | ((1 << width) - 1) << left
+            } else {
+                mask
+            }
+        })
 }

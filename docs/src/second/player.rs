@@ -147,7 +147,9 @@ impl<'a> Player<'a> {
             let start = self.draws.number() as u128;
             f.keyid = (start..).map(|id| id % 256).find(|id| !known.contains(id)).expect("few records");
         }
-        let Some(reply) = self.send(kind, reader::asking(kind, f), slips) else { return false };
+        let Some(reply) = self.send(kind, reader::asking(kind, f), slips) else {
+            return false;
+        };
         let tchallenge = match kind {
             Kind::Iam1 => reply.try_into().expect("10 bytes"),
             Kind::Mam1 => reader::mam1_challenge(&key, &reply),
@@ -240,7 +242,11 @@ impl<'a> Player<'a> {
     fn send(&mut self, kind: Kind, mut message: Vec<u8>, slips: &[Slip]) -> Option<Vec<u8>> {
         slips::damage(self.draws, &mut message, slips);
         let draws = self.draws.bytes(10);
-        let more = if self.draws.number() % 8 == 0 { self.draws.number() % 29 } else { 0 };
+        let more = if self.draws.number() % 8 == 0 {
+            self.draws.number() % 29
+        } else {
+            0
+        };
         let mut call = Call {
             message,
             draws,

@@ -22,8 +22,8 @@
 //!     tag, call, number (0 for accepted), reply length, Purpose or -, state, digest of the room, digest of the areas
 //!
 //! Digests are those of draws.rs in 12 hexadecimal digits: of the whole room; of the identity area and on over the user
-//! area, both with the two bytes more. After the last call come two lines, `accepted` and `refused`, with how often each
-//! kind of message was accepted and each number given.
+//! area, both with the two bytes more. After the last call come two lines: `accepted`, with how often each kind of message
+//! was accepted (TAM1, TAM2, IAM1, IAM2, IAM3, MAM1, MAM2), and `refused`, with how often each number was given (1 to 7).
 
 use crate::draws::{digest, more};
 use crate::frames::{kind_of, Kind, KINDS};
@@ -117,7 +117,10 @@ pub fn run(script: &[u8], report: &mut Report) -> Counts {
     let mut bench = None;
     loop {
         let head = take(&mut rest, 11);
-        let n: Vec<usize> = head[1..].chunks(2).map(|two| 256 * usize::from(two[0]) + usize::from(two[1])).collect();
+        let n: Vec<usize> = head[1..]
+            .chunks(2)
+            .map(|two| 256 * usize::from(two[0]) + usize::from(two[1]))
+            .collect();
         match (head[0], &mut bench) {
             (1, _) => {
                 report.expect("a body of 512 bytes", n[0] + n[1] + n[2] <= 512 && n[1].max(n[2]) <= 160);
@@ -164,7 +167,9 @@ fn line(report: &mut Report, bench: &mut Bench, call: &Call, counts: &mut Counts
     let state = bench.tag.session.name();
     let areas = more(digest(&bench.memory.identity), &bench.memory.user);
     let (tag, calls, room) = (counts.tags, bench.calls, digest(&room));
-    report.line(&format!("{tag} {calls} {number} {length} {purpose} {state} {room:012x} {areas:012x}"));
+    report.line(&format!(
+        "{tag} {calls} {number} {length} {purpose} {state} {room:012x} {areas:012x}"
+    ));
 }
 
 /// Which of the seven kinds an accepted message is.

@@ -59,8 +59,8 @@ const MUTUAL: [Slip; 14] = [
 ];
 /// Few tags show an unknown BlockSize: it is here more than once.
 const WRITING: [Slip; 28] = [
-    Length, Cut, Empty, Rfu, Profile, Right, Size, Size, Size, Size, Mode, NoMac, End, Locked, Constant, Challenge, Old, Way, OtherKey, Header,
-    Filler, Mac, Covered, MacBefore, Chaining, TagDraws, Room, Area,
+    Length, Cut, Empty, Rfu, Profile, Right, Size, Size, Size, Size, Mode, NoMac, End, Locked, Constant, Challenge, Old, Way, OtherKey,
+    Header, Filler, Mac, Covered, MacBefore, Chaining, TagDraws, Room, Area,
 ];
 
 /// What is tried with a kind of message.
@@ -114,7 +114,11 @@ pub fn fault(draws: &mut Draws, call: &mut Call, slips: &[Slip]) {
             Room => call.room = [ROOM - 1, ROOM - 1, 0, which % ROOM][which % 4],
             Area => {
                 let lent = if which % 2 == 0 { &mut call.identity } else { &mut call.user };
-                *lent = if which / 2 % 2 == 0 && *lent > 0 { *lent - 1 } else { *lent + 1 + which / 4 % 2 };
+                *lent = if which / 2 % 2 == 0 && *lent > 0 {
+                    *lent - 1
+                } else {
+                    *lent + 1 + which / 4 % 2
+                };
             }
             _ => {}
         }

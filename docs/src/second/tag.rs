@@ -124,10 +124,6 @@ impl Tag {
         blocksize == 0 || self.setup.features[0]
     }
 
-    fn has_rev(&self, rev: u128) -> bool {
-        self.setup.features[1 + rev as usize]
-    }
-
     /// ProtModes 2 and 3 also need a MAC key.
     fn has_mode(&self, protmode: u128, key: &Key) -> bool {
         protmode < 4 && self.setup.features[6 + protmode as usize] && (protmode < 2 || key.mac)
@@ -160,13 +156,17 @@ impl Tag {
     /// 9.4.5 and 9.4.6, Tables 7 to 14.
     fn tam2(&self, f: Fields, draws: &[u8], memory: &Memory) -> Result<Taken, u8> {
         check(self.has_size(f.blocksize), NOT_SUPPORTED)?;
-        check(self.has_rev(f.rev), NOT_SUPPORTED)?;
+        check(self.setup.features[1 + f.rev as usize], NOT_SUPPORTED)?;
         check(f.rfu == 0, NOT_SUPPORTED)?;
         let key = self.key(f.keyid as u8)?;
         let asked = self.block(f, key)?;
         check(self.has_mode(f.protmode, key), NOT_SUPPORTED)?;
 
-        let name = if f.rev == 0 { "C_TAM2".to_string() } else { format!("C_TAM2_{}", f.protmode) };
+        let name = if f.rev == 0 {
+            "C_TAM2".to_string()
+        } else {
+            format!("C_TAM2_{}", f.protmode)
+        };
         let first = authentication_block(key, &name, &draws[..4], f);
         let mut data = if f.rev == 0 { Vec::new() } else { header(f) };
         data.extend(memory.window(&asked));
@@ -185,8 +185,7 @@ impl Tag {
     fn iam1(&self, f: Fields, draws: &[u8]) -> Result<Taken, u8> {
         check(f.rfu == 0, NOT_SUPPORTED)?;
         let keyid = self.key(f.keyid as u8)?.id;
-        let tchallenge = part(draws, 0);
-        Ok(replied(tchallenge.to_vec(), Session::IamInit(keyid, tchallenge)))
+        Ok(replied(draws.to_vec(), Session::IamInit(keyid, part(draws, 0))))
     }
 
     /// 9.5.5 and 9.5.6.

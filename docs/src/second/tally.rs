@@ -38,7 +38,9 @@ impl Tally {
             }
             _ => {}
         }
-        let Some(kind) = message.first().and_then(|&first| frames::kind_of(first)) else { return };
+        let Some(kind) = message.first().and_then(|&first| frames::kind_of(first)) else {
+            return;
+        };
         let judged = matches!(answer, Answer::Accepted(..) | Answer::Refused(5));
         *self.turns.entry((before, place(kind))).or_default() += usize::from(judged);
         if let Answer::Accepted(length, _) = answer {
@@ -60,7 +62,10 @@ impl Tally {
             for &a in &numbers {
                 for &b in numbers.iter().filter(|&&b| a < b && b < 7) {
                     let count = *self.pairs.get(&(place(kind), a, b, a)).unwrap_or(&0);
-                    report.expect(&format!("{a} before {b} in kind {} {count} times", place(kind) + 1), count >= EACH_PAIR);
+                    report.expect(
+                        &format!("{a} before {b} in kind {} {count} times", place(kind) + 1),
+                        count >= EACH_PAIR,
+                    );
                 }
             }
         }
@@ -69,7 +74,10 @@ impl Tally {
         for first in [0x20, 0x28, 0x30, 0x38, 0x58, 0x5c] {
             for mode in 0..4 {
                 let count = *self.forms.get(&(first, mode)).unwrap_or(&0);
-                report.expect(&format!("{first:02x} in ProtMode {mode} accepted {count} times"), count >= EACH_FORM);
+                report.expect(
+                    &format!("{first:02x} in ProtMode {mode} accepted {count} times"),
+                    count >= EACH_FORM,
+                );
             }
         }
         for state in ["Initial", "IAM-Init", "MAM-Init", "IA-OK"] {

@@ -40,7 +40,11 @@ fn any_block(draws: &mut Draws, setup: &Setup, key: &Key, slips: &[Slip]) -> Fie
     let profile = one_of(draws, &there);
     let words = setup.profiles[profile].map_or(1, |profile| profile.words);
     let small = draws.number() % 2;
-    let blocksize = if slips.contains(&Slip::Size) { 1 } else { small * usize::from(setup.features[0]) };
+    let blocksize = if slips.contains(&Slip::Size) {
+        1
+    } else {
+        small * usize::from(setup.features[0])
+    };
     let blocks = match draws.number() % 8 {
         0..=5 if words >= 64 => 16,
         0..=3 => 1 + draws.number() % 16,
@@ -75,7 +79,9 @@ fn one_of(draws: &mut Draws, list: &[usize]) -> usize {
 /// The right, the end and the locks, each as it should be or as a slip wants it; and what a slip needs to be seen: a MAC,
 /// chaining, filler.
 fn as_wished(setup: &Setup, f: Fields, key: &Key, iam3: bool, slips: &[Slip]) -> bool {
-    let Some(profile) = setup.profiles[f.profile as usize] else { return false };
+    let Some(profile) = setup.profiles[f.profile as usize] else {
+        return false;
+    };
     let size = BlockSize { bit: f.blocksize as usize };
     let asked = request(&profile, size, f.offset as usize, f.blockcount as usize + 1);
     let wanted = |slip: Slip| slips.contains(&slip);
