@@ -1,4 +1,9 @@
 // One way in which a drawn sheet breaks a rule.
+use super::places::Pair;
+use super::places::chosen;
+use super::places::or_all;
+use super::places::seventeenth;
+use super::places::start;
 use super::sketch::Sketch;
 use super::sketch::Wish;
 use lines::numbers::below;
@@ -19,13 +24,6 @@ pub struct Damage {
     pub other: usize,
     pub more: usize,
     pub x: u64,
-}
-
-// A record of a kind, and the one before it where there has to be one; else itself.
-struct Pair {
-    found: bool,
-    before: usize,
-    at: usize,
 }
 
 // The place of no record.
@@ -57,13 +55,6 @@ fn many(d: Damage) -> usize {
         39 => 1 + d.value % 3,
         _ => 0,
     }
-}
-
-fn or_all(all: bool, most: usize, n: usize) -> usize {
-    if all {
-        return most;
-    }
-    n
 }
 
 pub fn wish(d: Damage) -> Wish {
@@ -294,71 +285,4 @@ fn length(room: &mut [u8], s: Sketch, d: Damage) -> usize {
 fn longer(room: &mut [u8], n: usize, count: usize, b: usize) -> usize {
     repeat(room, n, count, b);
     sum(n, count)
-}
-
-fn seventeenth(s: Sketch, kind: usize) -> usize {
-    match kind {
-        1 => nth(8, 37, 16),
-        2 => nth(s.profiles, 7, 16),
-        _ => nth(s.locks, 6, 16),
-    }
-}
-
-fn nth(from: usize, each: usize, i: usize) -> usize {
-    sum(from, times(each, i))
-}
-
-fn count(from: usize, to: usize, each: usize) -> usize {
-    if each == 0 {
-        return 0;
-    }
-    less(to, from) / each
-}
-
-fn chosen(from: usize, to: usize, each: usize, which: usize, behind: bool) -> Pair {
-    let n = count(from, to, each);
-    let skip = or_all(behind, 1, 0);
-    if n <= skip {
-        return Pair {
-            found: false,
-            before: 0,
-            at: 0,
-        };
-    }
-    let i = below(which, less(n, skip));
-    Pair {
-        found: true,
-        before: nth(from, each, i),
-        at: nth(from, each, sum(i, skip)),
-    }
-}
-
-// How many records there are.
-pub fn records(s: Sketch) -> usize {
-    let k = count(8, s.profiles, 37);
-    let p = count(s.profiles, s.locks, 7);
-    let l = count(s.locks, s.end, 6);
-    sum(3, sum(k, sum(p, l)))
-}
-
-// Where a record starts; past the last one they are counted again.
-pub fn start(s: Sketch, which: usize) -> usize {
-    let r = below(which, records(s));
-    if r < 2 {
-        return 3 * r;
-    }
-    let k = count(8, s.profiles, 37);
-    let i = r - 2;
-    if i < k {
-        return nth(8, 37, i);
-    }
-    behind_keys(s, i - k)
-}
-
-fn behind_keys(s: Sketch, i: usize) -> usize {
-    let p = count(s.profiles, s.locks, 7);
-    if i < p {
-        return nth(s.profiles, 7, i);
-    }
-    nth(s.locks, 6, i - p)
 }

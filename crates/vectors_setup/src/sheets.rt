@@ -5,6 +5,7 @@ use lines::numbers::sum;
 use lines::print;
 use sheet::Verdict;
 use sketches::damage;
+use sketches::places;
 use sketches::sketch;
 use sketches::sketch::Sketch;
 
@@ -113,7 +114,7 @@ fn kinds_in(from: usize, room: &mut [u8], s: Sketch, t: Tally) -> Tally {
 
 // Record r with another kind byte, which is then put back.
 fn with_kind(i: usize, room: &mut [u8], s: Sketch, r: usize, kind: usize, t: Tally) -> Tally {
-    let at = damage::start(s, r);
+    let at = places::start(s, r);
     set(room, at, kind);
     let u = judged_part(b"kind ", i, room, sum(s.end, 1), t);
     set(room, at, kind_of(r));
