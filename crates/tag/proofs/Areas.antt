@@ -46,7 +46,7 @@ module _ (c : Call) where
   unfolding refused
   refusal-still f s = record { identity = refl; user = refl }
 
-  kind-still : (setup : Setup) (held : Session) (k : Kind) → (k ≡ Iam3 → ⊥) → Still c (byKind c setup held k)
+  pub kind-still : (setup : Setup) (held : Session) (k : Kind) → (k ≡ Iam3 → ⊥) → Still c (byKind c setup held k)
   unfolding byKind tam1Answer tam2Answer iam1Answer iam2Answer mam1Answer mam2Answer replied letIn
   kind-still setup held Tam1 h = fine-case c (Still c) (λ f. refusal-still f cleared) _ _ (record { identity = refl; user = refl })
   kind-still setup held Tam2 h = fine-case c (Still c) (λ f. refusal-still f cleared) _ _ (record { identity = refl; user = refl })

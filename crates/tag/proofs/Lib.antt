@@ -18,6 +18,10 @@ pub mod ReplyLengths
 pub mod Sent
 pub mod Tam2Made
 pub mod Cases
+pub mod Reacting
+pub mod Openings
+pub mod Closings
 pub mod Kept
 pub mod Successors
 pub mod Areas
+pub mod Turning

@@ -19,7 +19,7 @@ listed s n e = sym (filled (λ k. getD s k 0) n s n (le-refl n) (le-refl n, e, �
 first-four : (s : List ℕ) → length s ≡ 10 → getD s 0 0 ∷ getD s 1 0 ∷ getD s 2 0 ∷ getD s 3 0 ∷ [] ≡ take 4 s
 first-four s e = λ i. take 4 (listed s 10 e i)
 
-last-four : (s : List ℕ) → length s ≡ 10 → getD s 6 0 ∷ getD s 7 0 ∷ getD s 8 0 ∷ getD s 9 0 ∷ [] ≡ drop 6 s
+pub last-four : (s : List ℕ) → length s ≡ 10 → getD s 6 0 ∷ getD s 7 0 ∷ getD s 8 0 ∷ getD s 9 0 ∷ [] ≡ drop 6 s
 last-four s e = λ i. drop 6 (listed s 10 e i)
 
 -- the reply to MAM1 from its parts

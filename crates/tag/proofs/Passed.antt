@@ -6,7 +6,7 @@ use mathlib.Core.Bool.{Bool, true, false, false≢true}
 use mathlib.Core.List.{List}
 use lib.Dec.{leb, ltb}
 use lib.ListN.{length}
-use borrow.Author.Tests.{eqb-true, ltb-true, ltb-false, ne-eqb, le-ltb, not-true}
+use borrow.Author.Tests.{eqb-true, leb-true, ltb-true, ltb-false, ne-eqb, le-ltb, not-true}
 use Rattle.ground.specs.Choice.{both}
 use Rattle.memory.specs.Address.{overruns}
 use Rattle.sheet.specs.declared.Features.{Features}
@@ -15,11 +15,11 @@ use Rattle.sheet.specs.declared.Setup.{Setup}
 use Rattle.frames.specs.declared.Kind.{Kind}
 use Rattle.frames.specs.declared.Kind.the-variants.{Tam2, Iam3}
 use Rattle.frames.specs.Messages.{tam2Of, iam3Of}
-use Rattle.frames.specs.Lengths.{tam2Length, iam3FieldsLength, iam3Length, lengthFits, iam3LengthFits}
+use Rattle.frames.specs.Lengths.{tam2Length, iam3FieldsLength, iam3Length, lengthFits, iam3LengthFits, replyRoom}
 use Rattle.tag.specs.declared.Verdict.the-variants.{Fine}
 use Rattle.tag.specs.Checks.{judged}
 use Rattle.tag.specs.Records.{sizeOffered, modeOffered, modeSupported, keyPresent, keyNamed, slotNamed, blockAsked}
-use Rattle.tag.specs.Judged.{openingChecks, tam2Checks}
+use Rattle.tag.specs.Judged.{drawBytes, benchChecks, openingChecks, tam2Checks}
 use Rattle.tag.specs.Parts.{iam3BlockChecks, iam3MiddleChecks, iam3FieldChecks}
 use Rattle.tag.proofs.Lines.{first-holds, others-hold}
 
@@ -38,6 +38,16 @@ module _ (f : Features) (key : Key) (p : ℕ) (h : modeSupported f key p ≡ tru
 
   pub mode-below : p < 4
   mode-below = tested (ltb p 4) refl
+
+-- The bench: the draws and the room.
+module _ (setup : Setup) (draws room identity user : ℕ) (h : judged (benchChecks setup draws room identity user) ≡ Fine) where
+  pub bench-draws : draws ≡ drawBytes
+  unfolding benchChecks
+  bench-draws = eqb-true _ _ (first-holds _ _ h)
+
+  pub bench-room : replyRoom ≤ room
+  unfolding benchChecks
+  bench-room = leb-true _ _ (first-holds _ _ (others-hold _ _ h))
 
 -- TAM1, IAM1, MAM1: the length and the record.
 module _ (kind : Kind) (rfu keyid : ℕ) (setup : Setup) (m : List ℕ) (h : judged (openingChecks kind rfu keyid setup m) ≡ Fine) where

@@ -1,4 +1,4 @@
--- What the step's proof asks of an IAM3: that its parts are there once its fields were judged, and what it comes to.
+-- What an IAM3 comes to, once its fields were judged: its proof decides.
 use mathlib.Core.Path.{_≡_, refl, sym, ap, _∙_}
 use mathlib.Core.Bool.{Bool, true, false}
 use mathlib.Core.List.{List, []}
@@ -30,43 +30,6 @@ use Rattle.tag.specs.Records.{modeOffered, modeSupported, keyNamed, bloc
 use Rattle.tag.specs.Opened.{purposeIn, sentBlock, openedData, wordsIn, iam3Proof}
 use Rattle.tag.specs.Judged.{iam3Checks}
 use Rattle.tag.specs.Answers.{refused, Call, letIn, ifFine, iam3Answer}
-
--- ---- the parts are there
-
--- a ProtMode that is offered is one of four
-offered-below : (f : Features) (p : ℕ) → modeOffered f p ≡ true → p < 4
-unfolding modeOffered
-offered-below f zero e = omega arith
-offered-below f (suc zero) e = omega arith
-offered-below f (suc (suc zero)) e = omega arith
-offered-below f (suc (suc (suc zero))) e = omega arith
-offered-below f (suc (suc (suc (suc p)))) e =
-    let q = suc (suc (suc (suc p))) in
-    let none : false ≡ true =
-    rw (
-      ne-eqb q 0 (λ h. (let w : ⊥ = omega arith in w)),
-      ne-eqb q 1 (λ h. (let w : ⊥ = omega arith in w)),
-      ne-eqb q 2 (λ h. (let w : ⊥ = omega arith in w)),
-      ne-eqb q 3 (λ h. (let w : ⊥ = omega arith in w)),
-    ) at e in
-    absurd (let z : _≡_ {A = ℕ} 0 1 = cc in let w : ⊥ = omega arith in w)
-
-pub supported-below : (f : Features) (key : Key) (p : ℕ) → modeSupported f key p ≡ true → p < 4
-unfolding modeSupported
-supported-below f key p e = offered-below f p (both-left (modeOffered f p) (implies (hasMac p) (key .mac)) e)
-
-pub iam3-parts : (m : List ℕ) → lengthFits Iam3 m ≡ true → iam3Of m .protmode < 4
-    → 20 + blocksLength (iam3Of m .custom .blocksize) true (iam3Of m .custom .blockcount) ≤ length m
-unfolding lengthFits iam3LengthFits iam3Length iam3MacAt
-iam3-parts m e h =
-    let f = iam3Of m in
-    let n = iam3Length (f .custom .blocksize) (f .custom .blockcount) (f .protmode) in
-    let r = both-right (leb 4 (length m)) (either (ltb 3 (f .protmode)) (eqb (length m) n)) e in
-    let s : either (ltb 3 (f .protmode)) (eqb (length m) n) ≡ eqb (length m) n = ap (λ (t : Bool). either t (eqb (length m) n)) (le-ltb 3 (f .protmode) (omega arith)) in
-    let q = eqb-true (length m) n (sym s ∙ r) in
-    omega (arith, q)
-
--- ---- what it comes to
 
 -- an answer that the proof decides
 decided : (c : Call) (t : Bool) (purpose : ℕ) (identity user : List ℕ)

@@ -1,5 +1,5 @@
 -- What the fields of a TAM2 message, and the words that it asks for, come with.
-use mathlib.Core.Path.{_≡_, refl, ap, ap₂, _∙_}
+use mathlib.Core.Path.{_≡_, refl, sym, ap, ap₂, _∙_, subst}
 use mathlib.Core.Bool.{Bool, true, false, cond}
 use mathlib.Core.List.{List, [], _∷_}
 use Prim.Native.Nat.{ℕ, zero, suc, _+_, _*_, _/_, _%_, _≤_, _<_}
@@ -103,3 +103,8 @@ words-bytes b identity user h k =
     let area = areaOf (b .area) identity user in
     cond-bytes (within b area) (take (byteCount b) (drop (firstByte b) area))
     (bytes-take (byteCount b) (drop (firstByte b) area) (drop-bytes (firstByte b) area (area-bytes (b .area) identity user h k)))
+
+-- the same of the words that the code has
+pub words-fit : (setup : Setup) (c : Custom) (identity user : List ℕ) {b : Block} {words : List ℕ} → b ≡ blockAsked setup c → words ≡ windowOf identity user b
+    → length words ≤ dataLength (c .blocksize) (c .blockcount)
+words-fit setup c identity user e w = subst (λ (l : List ℕ). length l ≤ dataLength (c .blocksize) (c .blockcount)) (sym (w ∙ ap (windowOf identity user) e)) (words-most setup c identity user)

@@ -7,3 +7,4 @@ pub mod Judged
 pub mod Answers
 pub mod Parts
 pub mod Runs
+pub mod Reactions

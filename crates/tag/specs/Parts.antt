@@ -18,6 +18,10 @@ use Rattle.frames.specs.declared.Iam3.{Iam3 as Iam3Fields}
 use Rattle.frames.specs.Messages.{iam3Of}
 use Rattle.frames.specs.Lengths.{lengthFits}
 use Rattle.tag.specs.declared.Fault.the-variants.{OtherError, NotSupported, MemoryOverrun, MemoryWriteError, ProofWrong}
+use Rattle.tag.specs.declared.Outcome.{Outcome}
+use Rattle.tag.specs.declared.Outcome.the-variants.{Replied, Entered, Refused}
+use Rattle.tag.specs.declared.Session.{Session}
+use Rattle.tag.specs.States.{cleared, entered}
 use Rattle.tag.specs.Checks.{Check, _else_}
 use Rattle.tag.specs.Records.{sizeOffered, revOffered, modeSupported, keyPresent, keyNamed, slotNamed, blockAsked}
 
@@ -62,3 +66,9 @@ iam3MiddleChecks setup key f =
 -- IAM3, all but the proof.
 unfoldable pub iam3FieldChecks : Setup → Key → List ℕ → List Check
 iam3FieldChecks setup key m = (lengthFits Iam3 m else OtherError) ∷ iam3MiddleChecks setup key (iam3Of m)
+
+-- 9.5.9: what is held after an IAM3 whose proof was judged.
+unfoldable pub sessionAfter : Outcome → Session
+sessionAfter (Replied n) = cleared
+sessionAfter (Entered purpose) = entered
+sessionAfter (Refused f) = cleared

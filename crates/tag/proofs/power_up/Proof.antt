@@ -1,0 +1,19 @@
+use mathlib.Core.Path.{ap}
+use Rattle.tag.specs.declared.Session.{Session}
+use Rattle.tag.specs.States.{poweredUp}
+use borrow.Author.Needs.{needs}
+use Rattle.tag.proofs.power_up.Statement.{statement}
+use Rattle.tag.proofs.power_up.Tie as tie
+use Rattle.tag.proofs.power_up.Reads as reads
+use Rattle.tag.proofs.power_up.Lts as lts
+use Rattle.tag.proofs.kinds.cleared.Reads as cleared-reads
+
+cleared-requires : tie.Need-cleared-requires
+cleared-requires c κs = search needs
+
+returns : tie.Need-returns
+unfolding poweredUp
+returns c = ap (λ (s : Session). record { setup = c .before .args .setup; session = s }) (c .cleared .ensures)
+
+pub power-up-spec : {M : Type 1} → statement M
+power-up-spec = tie.close (tie.spec cleared-requires returns)

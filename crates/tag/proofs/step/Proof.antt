@@ -1,0 +1,52 @@
+-- `tag::step` meets its contract.
+use mathlib.Core.Path.{sym, _∙_}
+use Rattle.tag.proofs.Passed.{bench-draws, bench-room}
+use Rattle.tag.proofs.Turning.{bench-wrong, bench-fine}
+use borrow.Author.Needs.{needs}
+use Rattle.tag.proofs.step.Statement.{statement}
+use Rattle.tag.proofs.step.Tie as tie
+
+bench-requires : tie.Need-bench-requires
+bench-requires c κs = search needs
+
+enum-known-verdict : tie.Need-enum-known-verdict
+enum-known-verdict c = search needs
+
+returns : tie.Need-returns
+returns c = let a = c .before .before .before .before .before .before .before .before .before .before .before .args in bench-wrong (a .tag) (a .message .now) (a .draws .now) (a .room .now) (a .identity .now) (a .user .now) _ (c .before .before .before .bench .ensures) _ (c .before .verdict .given .1)
+
+enum-told : tie.Need-enum-told
+enum-told c = search needs
+
+ten-requires : tie.Need-ten-requires
+ten-requires c κs = let a = c .before .before .before .before .before .before .before .before .before .before .args in bench-draws (a .tag .setup) _ _ _ _ (sym (c .before .before .bench .ensures) ∙ c .enum-told .given .1)
+
+take-requires : tie.Need-take-requires
+take-requires c κs = let a = c .before .before .before .before .before .before .before .before .before .before .before .before .before .before .args in bench-room (a .tag .setup) _ _ _ _ (sym (c .before .before .before .before .before .before .bench .ensures) ∙ c .before .before .before .before .enum-told .given .1)
+
+same-length : tie.Need-same-length
+same-length c = search needs
+
+same-length-2 : tie.Need-same-length-2
+same-length-2 c = search needs
+
+same-length-3 : tie.Need-same-length-3
+same-length-3 c = search needs
+
+returns-2 : tie.Need-returns-2
+returns-2 c = let a = c .before .before .before .before .before .before .before .before .before .before .before .before .before .before .before .before .before .before .before .before .before .before .args in bench-fine (a .tag) (a .message .now) (a .draws .now) (a .room .now) (a .identity .now) (a .user .now) _ (c .before .before .before .before .before .before .before .before .before .before .before .before .before .before .bench .ensures) _ _ _ _ _ (c .before .before .before .before .before .before .before .before .before .before .before .before .enum-told .given .1) (c .before .before .before .before .before .before .before .before .before .before .before .ten .ensures) (c .before .before .before .before .before .before .before .take .ensures)
+
+pub step-spec : {M : Type 1} → statement M
+step-spec =
+    tie.close
+    (tie.spec
+    bench-requires
+    enum-known-verdict
+    returns
+    enum-told
+    ten-requires
+    take-requires
+    same-length
+    same-length-2
+    same-length-3
+    returns-2)
