@@ -32,7 +32,7 @@ use Rattle.tag.specs.declared.Verdict.the-variants.{Fine, Wrong}
 use Rattle.tag.specs.States.{cleared, entered}
 use Rattle.tag.specs.Checks.{judged}
 use Rattle.tag.specs.Judged.{iam2Checks, mam2Checks, iam3Checks}
-use Rattle.tag.specs.Parts.{closingChecks, iam3FieldChecks, sessionAfter}
+use Rattle.tag.specs.Parts.{closingChecks, iam3FieldChecks, heldAfter}
 use Rattle.tag.specs.Records.{keyNamed, blockAsked}
 use Rattle.tag.specs.Opened.{iamProof, mamProof, purposeIn, sentBlock, openedData, wordsIn, iam3Proof}
 use Rattle.tag.specs.Answers.{Answer, Call, iam2Answer, iam3Answer, mam2Answer}
@@ -96,8 +96,8 @@ iam3-whole setup k m f v w x e =
     subst (λ (g : Iam3Fields). iam3HeadLength + blocksLength (g .custom .blocksize) true (g .custom .blockcount) ≤ length m) (sym e) (omega (arith, l))
 
 -- what is held after its proof
-after-proof : (t : Bool) (purpose : ℕ) → sessionAfter (pick t (Entered purpose) (Refused ProofWrong)) ≡ pick t entered cleared
-unfolding sessionAfter
+after-proof : (t : Bool) (purpose : ℕ) → heldAfter (pick t (Entered purpose) (Refused ProofWrong)) ≡ pick t entered cleared
+unfolding heldAfter
 after-proof true purpose = refl
 after-proof false purpose = refl
 
@@ -119,14 +119,14 @@ module _ (setup : Setup) (held : Session) (m : List ℕ) (k : Key) (ke : k ≡ k
     pub iam3-settled : (o : Outcome) (s : Session) (i′ u′ : List ℕ) → v ≡ Fine
         → (o ≡ pick (iam3Proof k held f m) (Entered (purposeIn (aesEnc (k .enc) (sentBlock m)))) (Refused ProofWrong))
         × (i′ ≡ pick (iam3Proof k held f m) (storedIn Identity b (wordsIn (f .custom) (openedData k f m)) i) i)
-        × (u′ ≡ pick (iam3Proof k held f m) (storedIn User b (wordsIn (f .custom) (openedData k f m)) u) u) → s ≡ sessionAfter o
+        × (u′ ≡ pick (iam3Proof k held f m) (storedIn User b (wordsIn (f .custom) (openedData k f m)) u) u) → s ≡ heldAfter o
         → ReactsIn (iam3Answer call setup held) room (record { outcome = o; session = s }) room i′ u′
     unfolding judged
     iam3-settled o s i′ u′ x h t =
         let a = iam3-answered call setup held (ap judged (iam3-line setup m held) ∙ then-fine _ (iam3FieldChecks setup (keyNamed setup (held .keyid)) m) (fields-judged ∙ x)) in
         let out = h .0 ∙ (λ j. pick (iam3Proof (ke j) held (e j) m) (Entered (purposeIn (aesEnc (ke j .enc) (sentBlock m)))) (Refused ProofWrong)) in
         subst (λ (y : Answer). ReactsIn y room (record { outcome = o; session = s }) room i′ u′) (sym a) (record {
-          reacts = record { outcome = out; session = t ∙ ap sessionAfter out ∙ after-proof (iam3Proof (keyNamed setup (held .keyid)) held (iam3Of m) m) (purposeIn (aesEnc (keyNamed setup (held .keyid) .enc) (sentBlock m))); reply = refl };
+          reacts = record { outcome = out; session = t ∙ ap heldAfter out ∙ after-proof (iam3Proof (keyNamed setup (held .keyid)) held (iam3Of m) m) (purposeIn (aesEnc (keyNamed setup (held .keyid) .enc) (sentBlock m))); reply = refl };
           identity = h .1 ∙ (λ j. pick (iam3Proof (ke j) held (e j) m) (storedIn Identity (asked j) (wordsIn (e j .custom) (openedData (ke j) (e j) m)) i) i);
           user = h .2 ∙ (λ j. pick (iam3Proof (ke j) held (e j) m) (storedIn User (asked j) (wordsIn (e j .custom) (openedData (ke j) (e j) m)) u) u);
         })

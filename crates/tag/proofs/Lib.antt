@@ -25,3 +25,6 @@ pub mod Kept
 pub mod Successors
 pub mod Areas
 pub mod Turning
+pub mod Fits
+pub mod Played
+pub mod ReplyLayouts

@@ -7,4 +7,5 @@ pub mod Judged
 pub mod Answers
 pub mod Parts
 pub mod Runs
+pub mod Plays
 pub mod Reactions

@@ -68,7 +68,7 @@ unfoldable pub iam3FieldChecks : Setup → Key → List ℕ → List Check
 iam3FieldChecks setup key m = (lengthFits Iam3 m else OtherError) ∷ iam3MiddleChecks setup key (iam3Of m)
 
 -- 9.5.9: what is held after an IAM3 whose proof was judged.
-unfoldable pub sessionAfter : Outcome → Session
-sessionAfter (Replied n) = cleared
-sessionAfter (Entered purpose) = entered
-sessionAfter (Refused f) = cleared
+unfoldable pub heldAfter : Outcome → Session
+heldAfter (Replied n) = cleared
+heldAfter (Entered purpose) = entered
+heldAfter (Refused f) = cleared

@@ -27,7 +27,7 @@ ghost use lib.ListN.{length};
 ghost use Rattle.frames.specs.Lengths.{replyRoom};
 ghost use Rattle.tag.specs.States.{cleared, entered};
 ghost use Rattle.tag.specs.Records.{keyNamed, blockAsked};
-ghost use Rattle.tag.specs.Parts.{sessionAfter};
+ghost use Rattle.tag.specs.Parts.{heldAfter};
 ghost use Rattle.tag.specs.Answers.{tam1Answer, tam2Answer, iam1Answer, iam2Answer, iam3Answer, mam1Answer, mam2Answer};
 ghost use Rattle.tag.specs.Reactions.{lent, Reacts, ReactsApart, ReactsAlone, ReactsWriting};
 
@@ -78,8 +78,8 @@ fn let_in(purpose: u8) -> Reacted
 }
 
 // What the tag holds after an IAM3: a reader that was let in leads to IA-OK, a proof that is wrong to Initial.
-fn session_after(outcome: Outcome) -> Session
-    ensures { λ r. ⌜ r ≡ sessionAfter outcome ⌝ }
+fn held_after(outcome: Outcome) -> Session
+    ensures { λ r. ⌜ r ≡ heldAfter outcome ⌝ }
 {
     match outcome {
         Outcome::Replied(_) => cleared(),
@@ -246,6 +246,6 @@ pub fn iam3(setup: Setup, held: Session, m: &[u8], identity: &mut [u8], user: &m
     let outcome = opened::iam3(key, held, f, words_asked(setup, custom), m, identity, user);
     Reacted {
         outcome,
-        session: session_after(outcome),
+        session: held_after(outcome),
     }
 }

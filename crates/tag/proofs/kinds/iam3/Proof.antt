@@ -31,8 +31,8 @@ words-asked-requires c κs = search needs
 iam3-requires : tie.Need-iam3-requires
 iam3-requires c κs = let a = c .before .before .before .before .before .before .before .before .before .before .before .before .args in (c .before .before .before .before .iam3-of .ensures, iam3-whole (a .setup) _ (a .m .now) _ _ (c .before .before .before .before .before .before .before .iam3-fields .ensures) (c .before .before .before .before .before .enum-told .given .1) (c .before .before .before .before .iam3-of .ensures))
 
-session-after-requires : tie.Need-session-after-requires
-session-after-requires c κs = search needs
+held-after-requires : tie.Need-held-after-requires
+held-after-requires c κs = search needs
 
 same-length : tie.Need-same-length
 same-length c = search needs
@@ -42,7 +42,7 @@ same-length-2 c = search needs
 
 returns-2 : tie.Need-returns-2
 returns-2 c = let a = c .before .before .before .before .before .before .before .before .before .before .before .before .before .before .before .before .before .before .args in λ d room.
-    iam3-settled (a .setup) (a .held) (a .m .now) _ (c .before .before .before .before .before .before .before .before .before .before .before .before .before .before .key-named .ensures) _ (c .before .before .before .before .before .before .before .before .before .before .before .before .before .iam3-fields .ensures) d room (a .identity .now) (a .user .now) _ (c .before .before .before .before .before .before .before .before .before .before .iam3-of .ensures) _ (c .before .before .before .before .before .before .before .before .words-asked .ensures) _ _ _ _ (c .before .before .before .before .before .before .before .before .before .before .before .enum-told .given .1) (c .before .before .before .before .before .iam3 .ensures) (c .session-after .ensures)
+    iam3-settled (a .setup) (a .held) (a .m .now) _ (c .before .before .before .before .before .before .before .before .before .before .before .before .before .before .key-named .ensures) _ (c .before .before .before .before .before .before .before .before .before .before .before .before .before .iam3-fields .ensures) d room (a .identity .now) (a .user .now) _ (c .before .before .before .before .before .before .before .before .before .before .iam3-of .ensures) _ (c .before .before .before .before .before .before .before .before .words-asked .ensures) _ _ _ _ (c .before .before .before .before .before .before .before .before .before .before .before .enum-told .given .1) (c .before .before .before .before .before .iam3 .ensures) (c .held-after .ensures)
 
 pub iam3-spec : {M : Type 1} → statement M
 iam3-spec =
@@ -57,7 +57,7 @@ iam3-spec =
     iam3-of-requires
     words-asked-requires
     iam3-requires
-    session-after-requires
+    held-after-requires
     same-length
     same-length-2
     returns-2)

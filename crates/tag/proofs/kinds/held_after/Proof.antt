@@ -1,9 +1,9 @@
--- `tag::kinds::session_after` meets its contract.
+-- `tag::kinds::held_after` meets its contract.
 use mathlib.Core.Path.{sym, ap, _∙_}
-use Rattle.tag.specs.Parts.{sessionAfter}
+use Rattle.tag.specs.Parts.{heldAfter}
 use borrow.Author.Needs.{needs}
-use Rattle.tag.proofs.kinds.session_after.Statement.{statement}
-use Rattle.tag.proofs.kinds.session_after.Tie as tie
+use Rattle.tag.proofs.kinds.held_after.Statement.{statement}
+use Rattle.tag.proofs.kinds.held_after.Tie as tie
 
 enum-told : tie.Need-enum-told
 enum-told c = search needs
@@ -24,19 +24,19 @@ cleared-requires-2 : tie.Need-cleared-requires-2
 cleared-requires-2 c κs = search needs
 
 returns : tie.Need-returns
-unfolding sessionAfter
-returns c = c .cleared .ensures ∙ sym (ap sessionAfter (c .before .enum-told .given .1))
+unfolding heldAfter
+returns c = c .cleared .ensures ∙ sym (ap heldAfter (c .before .enum-told .given .1))
 
 returns-2 : tie.Need-returns-2
-unfolding sessionAfter
-returns-2 c = c .entered .ensures ∙ sym (ap sessionAfter (c .before .enum-told2 .given .1))
+unfolding heldAfter
+returns-2 c = c .entered .ensures ∙ sym (ap heldAfter (c .before .enum-told2 .given .1))
 
 returns-3 : tie.Need-returns-3
-unfolding sessionAfter
-returns-3 c = c .cleared2 .ensures ∙ sym (ap sessionAfter (c .before .enum-told3 .given .1))
+unfolding heldAfter
+returns-3 c = c .cleared2 .ensures ∙ sym (ap heldAfter (c .before .enum-told3 .given .1))
 
-pub session-after-spec : {M : Type 1} → statement M
-session-after-spec =
+pub held-after-spec : {M : Type 1} → statement M
+held-after-spec =
     tie.close
     (tie.spec
     enum-told
