@@ -1,0 +1,62 @@
+-- No second answer fits the contract of an exported function: for a function that answers a value, the value; for one that builds into a room, its answer
+-- and what the room holds afterwards.
+use mathlib.Core.Bool.{Bool}
+use mathlib.Core.List.{List}
+use Prim.Native.Nat.{ℕ}
+use denote.Ref.{now}
+use Rattle.ground.specs.OneAnswer.{OneAnswer, one}
+use Rattle.payload.proofs.same.Reads as same
+use Rattle.payload.proofs.same.Kinds as same-kinds
+use Rattle.payload.proofs.put.Reads as put
+use Rattle.payload.proofs.put.Kinds as put-kinds
+use Rattle.payload.proofs.block_of.Reads as block-of
+use Rattle.payload.proofs.block_of.Kinds as block-of-kinds
+use Rattle.payload.proofs.encrypts.Reads as encrypts
+use Rattle.payload.proofs.encrypts.Kinds as encrypts-kinds
+use Rattle.payload.proofs.has_mac.Reads as has-mac
+use Rattle.payload.proofs.has_mac.Kinds as has-mac-kinds
+use Rattle.payload.proofs.carried_into.Reads as carried-into
+use Rattle.payload.proofs.carried_into.Kinds as carried-into-kinds
+use Rattle.payload.proofs.header_fits.Reads as header-fits
+use Rattle.payload.proofs.header_fits.Kinds as header-fits-kinds
+use Rattle.payload.proofs.words_in.Reads as words-in
+use Rattle.payload.proofs.words_in.Kinds as words-in-kinds
+use Rattle.payload.proofs.filler_fits.Reads as filler-fits
+use Rattle.payload.proofs.filler_fits.Kinds as filler-fits-kinds
+use Rattle.payload.proofs.mac_behind.Reads as mac-behind
+use Rattle.payload.proofs.mac_behind.Kinds as mac-behind-kinds
+use Rattle.payload.proofs.mac_fits.Reads as mac-fits
+use Rattle.payload.proofs.mac_fits.Kinds as mac-fits-kinds
+
+pub same-one : OneAnswer 2 same-kinds.ps same-kinds.r same.Post Bool (λ κs r s. r)
+same-one κs a x y s t p q = one p q
+
+pub put-one : OneAnswer 2 put-kinds.ps put-kinds.r put.Post (Bool × List ℕ) (λ κs r s. (r, now (s .0)))
+put-one κs a x y s t p q i = (one (p .says) (q .says) i, one (p .holds) (q .holds) i)
+
+pub block-of-one : OneAnswer 0 block-of-kinds.ps block-of-kinds.r block-of.Post (List ℕ) (λ κs r s. r)
+block-of-one κs a x y s t p q = one p q
+
+pub encrypts-one : OneAnswer 0 encrypts-kinds.ps encrypts-kinds.r encrypts.Post Bool (λ κs r s. r)
+encrypts-one κs a x y s t p q = one p q
+
+pub has-mac-one : OneAnswer 0 has-mac-kinds.ps has-mac-kinds.r has-mac.Post Bool (λ κs r s. r)
+has-mac-one κs a x y s t p q = one p q
+
+pub carried-into-one : OneAnswer 2 carried-into-kinds.ps carried-into-kinds.r carried-into.Post (Bool × List ℕ) (λ κs r s. (r, now (s .1 .1 .1 .0)))
+carried-into-one κs a x y s t p q i = (one (p .says) (q .says) i, one (p .holds) (q .holds) i)
+
+pub header-fits-one : OneAnswer 1 header-fits-kinds.ps header-fits-kinds.r header-fits.Post Bool (λ κs r s. r)
+header-fits-one κs a x y s t p q = one p q
+
+pub words-in-one : OneAnswer 1 words-in-kinds.ps words-in-kinds.r words-in.Post (List ℕ) (λ κs r s. now r)
+words-in-one κs a x y s t p q = one p q
+
+pub filler-fits-one : OneAnswer 1 filler-fits-kinds.ps filler-fits-kinds.r filler-fits.Post Bool (λ κs r s. r)
+filler-fits-one κs a x y s t p q = one p q
+
+pub mac-behind-one : OneAnswer 1 mac-behind-kinds.ps mac-behind-kinds.r mac-behind.Post (Bool × List ℕ) (λ κs r s. (r, now (s .1 .1 .1 .0)))
+mac-behind-one κs a x y s t p q i = (one (p .says) (q .says) i, one (p .holds) (q .holds) i)
+
+pub mac-fits-one : OneAnswer 2 mac-fits-kinds.ps mac-fits-kinds.r mac-fits.Post Bool (λ κs r s. r)
+mac-fits-one κs a x y s t p q = one p q

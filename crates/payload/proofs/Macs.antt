@@ -1,0 +1,91 @@
+-- The MAC behind the bytes that it covers, made and judged.
+use mathlib.Core.Path.{_≡_, refl, sym, ap, ap₂, _∙_}
+use mathlib.Core.Bool.{Bool, true, false}
+use mathlib.Core.List.{List, [], _++_, append-nil}
+use Prim.Native.Nat.{ℕ, _+_, _≤_}
+use native.Mathlib.Omega.{arith}
+use lib.ListN.{length, take, length-append}
+use lib.Seq.{length-take-le}
+use Rattle.ground.specs.Choice.{pick, both, implies}
+use Rattle.modes.specs.Cmac.{cmac96}
+use Rattle.modes.specs.Room.{Into, macs, over, numberOf}
+use Rattle.modes.specs.declared.Chaining.{Chaining}
+use Rattle.frames.specs.Built.{Built}
+use Rattle.frames.specs.Lengths.{hasMac, macLength}
+use Rattle.frames.proofs.Joins.{built, refused}
+use Rattle.payload.specs.Alike.{same}
+use Rattle.payload.specs.Protected.{macTakes, withMac, macFits}
+use Rattle.payload.proofs.Lengths.{mac-twelve, mac-long}
+use Rattle.payload.proofs.Overs.{over-all, over-none}
+use Rattle.payload.proofs.Rooms.{over-built}
+
+-- ---- what a call of the cipher answers
+
+-- a call that is taken, by its number, and what it leaves in its room
+module _ (b : Bool) (out room after : List ℕ) (answer : Chaining) (i : Into b out room answer after) where
+  pub into-refused : (n : ℕ) → n ≡ numberOf answer → (n ≡ 0 → ⊥) → b ≡ false
+  into-refused n e h = none b (λ z. h (e ∙ i .number ∙ z))
+    where
+      none : (x : Bool) → (pick {A = ℕ} x 0 8 ≡ 0 → ⊥) → x ≡ false
+      none true f = absurd (f refl)
+      none false f = refl
+
+  pub into-done : (n : ℕ) → n ≡ numberOf answer → n ≡ 0 → b ≡ true
+  into-done n e h = all b (sym (i .number) ∙ sym e ∙ h)
+    where
+      all : (x : Bool) → pick {A = ℕ} x 0 8 ≡ 0 → x ≡ true
+      all true f = refl
+      all false f = absurd (let z : ⊥ = omega arith in z)
+
+  pub into-taken : b ≡ true → after ≡ over out room
+  into-taken e = i .leaves ∙ ap (λ (x : Bool). pick x (over out room) room) e
+
+-- the MAC, in a room of twelve
+pub mac-made : (k : ℕ) (key s fresh mac : List ℕ) (answer : Chaining) → length fresh ≡ 12 → macs k 12 ≡ true → Into (macs k 12) (cmac96 key s) fresh answer mac → mac ≡ cmac96 key s
+mac-made k key s fresh mac answer l t i = into-taken (macs k 12) (cmac96 key s) fresh mac answer i t ∙ over-all (cmac96 key s) fresh (mac-twelve key s ∙ sym l)
+
+-- ---- the MAC put behind
+
+module _ (protmode n : ℕ) (mackey room : List ℕ) where
+  -- without a MAC all stays
+  pub mac-none : hasMac protmode ≡ false → n ≤ length room → Built (macTakes protmode n) (n + macLength protmode) (withMac mackey protmode (take n room)) room true room
+  unfolding macTakes macLength withMac
+  mac-none e h =
+      let s = take n room in
+      over-built (implies (hasMac protmode) (macs n 12)) (n + pick (hasMac protmode) 12 0) (s ++ pick (hasMac protmode) (cmac96 mackey s) []) room
+      (ap (λ (x : Bool). implies x (macs n 12)) e) (rw e (omega arith))
+      (rw e (ap length (append-nil s) ∙ length-take-le n room h ∙ (let z : n ≡ n + 0 = omega arith in z))) room
+      (over-none n room h ∙ ap (λ (x : Bool). over (s ++ pick x (cmac96 mackey s) []) room) (sym e))
+
+  pub mac-refused : hasMac protmode ≡ true → macs n 12 ≡ false → Built (macTakes protmode n) (n + macLength protmode) (withMac mackey protmode (take n room)) room false room
+  unfolding macTakes
+  mac-refused e f = refused (implies (hasMac protmode) (macs n 12)) (n + macLength protmode) (withMac mackey protmode (take n room)) room (ap₂ implies e f)
+
+  pub mac-put : (mac after : List ℕ) (answer : Bool) → hasMac protmode ≡ true → macs n 12 ≡ true → mac ≡ cmac96 mackey (take n room)
+      → Built true (n + length mac) (take n room ++ mac) room answer after
+      → Built (macTakes protmode n) (n + macLength protmode) (withMac mackey protmode (take n room)) room answer after
+  unfolding macTakes macLength withMac
+  mac-put mac after answer e t m b =
+      let s = take n room in
+      built (implies (hasMac protmode) (macs n 12)) (n + pick (hasMac protmode) 12 0) (n + length mac) (s ++ pick (hasMac protmode) (cmac96 mackey s) []) (s ++ mac) room after answer
+      (ap₂ implies e t) (ap (λ (k : ℕ). n + k) (ap length m ∙ mac-twelve mackey s) ∙ ap (λ (x : Bool). n + pick x 12 0) (sym e))
+      (ap (λ (l : List ℕ). s ++ l) m ∙ ap (λ (x : Bool). s ++ pick x (cmac96 mackey s) []) (sym e)) b
+
+pub with-mac-long : (protmode : ℕ) (mackey s : List ℕ) → length (withMac mackey protmode s) ≡ length s + macLength protmode
+unfolding withMac
+with-mac-long protmode mackey s = length-append s (pick (hasMac protmode) (cmac96 mackey s) []) ∙ ap (λ (k : ℕ). length s + k) (mac-long protmode mackey s)
+
+-- ---- the MAC judged
+
+module _ (mackey : List ℕ) (protmode : ℕ) (s mac : List ℕ) where
+  pub none-judged : hasMac protmode ≡ false → true ≡ macFits mackey protmode s mac
+  unfolding macFits
+  none-judged e = ap (λ (x : Bool). implies x (both (macs (length s) 12) (same (cmac96 mackey s) mac))) (sym e)
+
+  pub mac-unfit : hasMac protmode ≡ true → macs (length s) 12 ≡ false → false ≡ macFits mackey protmode s mac
+  unfolding macFits
+  mac-unfit e f = ap₂ (λ (x y : Bool). implies x (both y (same (cmac96 mackey s) mac))) (sym e) (sym f)
+
+  pub mac-judged : hasMac protmode ≡ true → macs (length s) 12 ≡ true → same (cmac96 mackey s) mac ≡ macFits mackey protmode s mac
+  unfolding macFits
+  mac-judged e f = ap₂ (λ (x y : Bool). implies x (both y (same (cmac96 mackey s) mac))) (sym e) (sym f)

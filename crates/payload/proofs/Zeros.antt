@@ -1,0 +1,58 @@
+-- Lists of zeros, and what is filled up with them.
+use mathlib.Core.Path.{_≡_, refl, ap, _∙_}
+use mathlib.Core.Bool.{Bool, true}
+use mathlib.Core.List.{List, _∷_, _++_}
+use Prim.Native.Nat.{ℕ, zero, suc, _+_, _-_, _≤_}
+use native.Mathlib.Omega.{arith}
+use lib.ListN.{length, take, drop, getD, replicate, length-append, length-replicate}
+use lib.Seq.{length-take-le}
+use Rattle.modes.specs.Room.{over}
+use Rattle.modes.proofs.Rooms.{copied}
+use Rattle.frames.specs.Built.{Built}
+use Rattle.payload.specs.Data.{filled}
+use Rattle.payload.proofs.Overs.{over-all, put-next}
+use Rattle.payload.proofs.Rooms.{put-over}
+
+abbrev pub zerosOf : ℕ → List ℕ
+zerosOf n = replicate n 0
+
+pub zeros-long : (n : ℕ) → length (zerosOf n) ≡ n
+zeros-long n = length-replicate {A = ℕ} n 0
+
+pub getD-zeros : (n i : ℕ) → getD (zerosOf n) i 0 ≡ 0
+getD-zeros zero i = refl
+getD-zeros (suc n) zero = refl
+getD-zeros (suc n) (suc i) = getD-zeros n i
+
+pub take-zeros : (n k : ℕ) → k ≤ n → take k (zerosOf n) ≡ zerosOf k
+take-zeros n zero h = refl
+take-zeros zero (suc k) h = absurd (let z : ⊥ = omega arith in z)
+take-zeros (suc n) (suc k) h = ap {B = List ℕ} (λ l. 0 ∷ l) (take-zeros n k (omega arith))
+
+drop-zeros : (n k : ℕ) → drop k (zerosOf n) ≡ zerosOf (n - k)
+drop-zeros n zero = ap zerosOf (let e : n ≡ n - 0 = omega arith in e)
+drop-zeros zero (suc k) = ap zerosOf (let e : 0 ≡ 0 - suc k = omega arith in e)
+drop-zeros (suc n) (suc k) = drop-zeros n k ∙ ap zerosOf (let e : n - k ≡ suc n - suc k = omega arith in e)
+
+-- what is put over zeros is filled up with them
+pub zeros-filled : (n : ℕ) (s : List ℕ) → over s (zerosOf n) ≡ filled n s
+unfolding filled
+zeros-filled n s = ap (λ (l : List ℕ). s ++ l) (drop-zeros n (length s))
+
+pub filled-long : (n : ℕ) (s : List ℕ) → length s ≤ n → length (filled n s) ≡ n
+unfolding filled
+filled-long n s h = omega (arith, zeros-long (n - length s), length-append s (zerosOf (n - length s)))
+
+-- zeros over all of a room
+pub cleared : (n k : ℕ) (room r : List ℕ) → n ≡ length room → n ≤ k
+    → r ≡ take (length (take n (zerosOf k))) (take n (zerosOf k)) ++ drop (length (take n (zerosOf k))) room → r ≡ zerosOf n
+cleared n k room r e h f =
+    copied (take n (zerosOf k)) room r f ∙ over-all (take n (zerosOf k)) room (length-take-le n (zerosOf k) (omega (arith, zeros-long k)) ∙ e) ∙ take-zeros k n h
+
+-- two parts over zeros
+pub laid : (a b r s t : List ℕ) (n : ℕ) (x y : Bool) → length a + length b ≤ n → r ≡ zerosOf n
+    → Built true (0 + length a) (take 0 r ++ a) r x s → length s ≡ n → Built true (length a + length b) (take (length a) s ++ b) s y t → t ≡ filled n (a ++ b)
+laid a b r s t n x y h e f l g =
+    let k : length r ≡ n = ap length e ∙ zeros-long n in
+    let p : s ≡ over a r = put-over 0 a r (omega arith) x s f in
+    put-next a b r s t (length a) refl p (put-over (length a) b s (omega arith) y t g) ∙ ap (over (a ++ b)) e ∙ zeros-filled n (a ++ b)
