@@ -2,7 +2,7 @@
 use mathlib.Core.Path.{_≡_, refl, sym, ap, ap₂, _∙_}
 use mathlib.Core.Bool.{Bool, true, false}
 use mathlib.Core.List.{List, [], _++_, append-nil}
-use Prim.Native.Nat.{ℕ, _+_, _≤_}
+use Prim.Native.Nat.{ℕ, _+_, _%_, _≤_}
 use native.Mathlib.Omega.{arith}
 use lib.ListN.{length, take, length-append}
 use lib.Seq.{length-take-le}
@@ -10,6 +10,7 @@ use Rattle.ground.specs.Choice.{pick, both, implies}
 use Rattle.modes.specs.Cmac.{cmac96}
 use Rattle.modes.specs.Room.{Into, macs, over, numberOf}
 use Rattle.modes.specs.declared.Chaining.{Chaining}
+use Rattle.modes.proofs.Rooms.{room-for-mac}
 use Rattle.frames.specs.Built.{Built}
 use Rattle.frames.specs.Lengths.{hasMac, macLength}
 use Rattle.frames.proofs.Joins.{built, refused}
@@ -45,6 +46,23 @@ pub mac-made : (k : ℕ) (key s fresh mac : List ℕ) (answer : Chaining) → le
 mac-made k key s fresh mac answer l t i = into-taken (macs k 12) (cmac96 key s) fresh mac answer i t ∙ over-all (cmac96 key s) fresh (mac-twelve key s ∙ sym l)
 
 -- ---- the MAC put behind
+
+-- whole blocks, at least one, go out under every ProtMode
+pub whole-taken : (protmode n : ℕ) → 1 ≤ n → n % 16 ≡ 0 → macTakes protmode n ≡ true
+unfolding macTakes
+whole-taken protmode n h e = ap (implies (hasMac protmode)) (room-for-mac n 12 h e (omega arith)) ∙ all (hasMac protmode)
+  where
+    all : (x : Bool) → implies x true ≡ true
+    all true = refl
+    all false = refl
+
+pub mac-most : (protmode : ℕ) → macLength protmode ≤ 12
+unfolding macLength
+mac-most protmode = most (hasMac protmode)
+  where
+    most : (x : Bool) → pick {A = ℕ} x 12 0 ≤ 12
+    most true = omega arith
+    most false = omega arith
 
 module _ (protmode n : ℕ) (mackey room : List ℕ) where
   -- without a MAC all stays

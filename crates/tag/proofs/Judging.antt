@@ -10,8 +10,10 @@ use Rattle.aes.specs.AesEnc.{aesEnc}
 use Rattle.sheet.specs.declared.Key.{Key}
 use Rattle.frames.specs.declared.Iam3.{Iam3}
 use Rattle.frames.specs.Constants.{withPurpose, iam3Constant}
+use Rattle.payload.specs.Alike.{same}
+use Rattle.payload.specs.Data.{headerFits, fillerFits}
 use Rattle.tag.specs.declared.Session.{Session}
-use Rattle.tag.specs.Opened.{same, constantIn, purposeIn, challengeIn, purposeAllowed, iamProof, sentBlock, openedData, macFits, headerFits, fillerFits, iam3Proof}
+use Rattle.tag.specs.Opened.{constantIn, purposeIn, challengeIn, purposeAllowed, iamProof, sentBlock, openedData, sentMacFits, iam3Proof}
 
 -- a constant comes back out of the two bytes that it makes with a Purpose
 pub constant-back : (k p : ℕ) → constantIn (withPurpose k p) ≡ k
@@ -37,19 +39,19 @@ first-told k n held b r e q = ap (λ (j : ℕ). iamProof j held b) (sym e) ∙ s
 
 -- IAM3: the first block opened is b, and the data in the clear are p
 module _ (key : Key) (held : Session) (f : Iam3) (m b p : List ℕ) (eb : b ≡ aesEnc (key .enc) (sentBlock m)) (ep : p ≡ openedData key f m) where
-  iam3-is : iam3Proof key held f m ≡ both (iamProof (iam3Constant (f .protmode)) held b) (both (macFits key f m) (both (headerFits (f .custom) p) (fillerFits (f .custom) p)))
+  iam3-is : iam3Proof key held f m ≡ both (iamProof (iam3Constant (f .protmode)) held b) (both (sentMacFits key f m) (both (headerFits true (f .custom) p) (fillerFits true (f .custom) p)))
   unfolding iam3Proof
   iam3-is = rw (eb, ep)
 
   pub block-wrong : iamProof (iam3Constant (f .protmode)) held b ≡ false → iam3Proof key held f m ≡ false
   block-wrong h = iam3-is ∙ (rw h)
 
-  pub mac-wrong : iamProof (iam3Constant (f .protmode)) held b ≡ true → macFits key f m ≡ false → iam3Proof key held f m ≡ false
+  pub mac-wrong : iamProof (iam3Constant (f .protmode)) held b ≡ true → sentMacFits key f m ≡ false → iam3Proof key held f m ≡ false
   mac-wrong h k = iam3-is ∙ (rw (h, k))
 
-  pub header-wrong : iamProof (iam3Constant (f .protmode)) held b ≡ true → macFits key f m ≡ true → headerFits (f .custom) p ≡ false → iam3Proof key held f m ≡ false
+  pub header-wrong : iamProof (iam3Constant (f .protmode)) held b ≡ true → sentMacFits key f m ≡ true → headerFits true (f .custom) p ≡ false → iam3Proof key held f m ≡ false
   header-wrong h k l = iam3-is ∙ (rw (h, k, l))
 
-  pub filler-left : iamProof (iam3Constant (f .protmode)) held b ≡ true → macFits key f m ≡ true → headerFits (f .custom) p ≡ true
-      → iam3Proof key held f m ≡ fillerFits (f .custom) p
+  pub filler-left : iamProof (iam3Constant (f .protmode)) held b ≡ true → sentMacFits key f m ≡ true → headerFits true (f .custom) p ≡ true
+      → iam3Proof key held f m ≡ fillerFits true (f .custom) p
   filler-left h k l = iam3-is ∙ (rw (h, k, l))

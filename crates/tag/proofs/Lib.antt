@@ -3,16 +3,10 @@ pub mod Passed
 pub mod Named
 pub mod Tam2Asked
 pub mod ReplyBytes
-pub mod Alike
-pub mod Carried
-pub mod CipherLengths
-pub mod Clear
 pub mod Judging
 pub mod KeySearch
 pub mod Lines
 pub mod Listed
-pub mod Long
-pub mod Overs
 pub mod Parts
 pub mod ReplyLengths
 pub mod Sent

@@ -28,7 +28,9 @@ use Rattle.frames.specs.Header.{headerStart, headerOf}
 use Rattle.frames.specs.Lengths.{hasMac}
 use Rattle.frames.proofs.Bounds.{by-mode-le}
 use Rattle.frames.proofs.Range.{custom-range, size-bit-lt}
-use Rattle.tag.specs.Replies.{tamBlock, tam1Reply, filled, carriedData, encrypts, tam2Body, withMac, tam2Reply, mam1Reply}
+use Rattle.payload.specs.Data.{filled, carriedData}
+use Rattle.payload.specs.Protected.{encrypts, withMac}
+use Rattle.tag.specs.Replies.{tamBlock, tam1Reply, tam2Body, tam2Reply, mam1Reply}
 
 -- ---- lists of bytes
 

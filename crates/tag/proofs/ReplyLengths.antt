@@ -14,16 +14,17 @@ use Rattle.sheet.specs.declared.Key.{Key}
 use Rattle.frames.specs.declared.Tam1.{Tam1}
 use Rattle.frames.specs.declared.Tam2.{Tam2}
 use Rattle.frames.specs.declared.Mam1.{Mam1}
-use Rattle.frames.specs.declared.Custom.{Custom}
 use Rattle.frames.specs.Blocks.{dataLength, blocksLength}
 use Rattle.frames.specs.Constants.{C-MAM1, tam2Constant, twoBytes}
 use Rattle.frames.specs.Fields.{customFits}
 use Rattle.frames.specs.Lengths.{hasMac, macLength, tam1ReplyLength, mam1ReplyLength, tam2MacAt, tam2ReplyLength, replyRoom}
 use Rattle.frames.proofs.Bounds.{tam2-reply-fits}
 use Rattle.frames.proofs.Range.{custom-range}
-use Rattle.tag.specs.Replies.{tamBlock, tam1Reply, carriedData, encrypts, tam2Body, withMac, tam2Reply, mam1Reply}
-use Rattle.tag.proofs.CipherLengths.{enc-sixteen, mac-twelve, cbc-whole}
-use Rattle.tag.proofs.Carried.{carried-long}
+use Rattle.payload.specs.Data.{carriedData}
+use Rattle.payload.specs.Protected.{encrypts, withMac}
+use Rattle.payload.proofs.Data.{carried-long}
+use Rattle.payload.proofs.Lengths.{enc-sixteen, blocks-whole, cbc-enc-long, mac-long}
+use Rattle.tag.specs.Replies.{tamBlock, tam1Reply, tam2Body, tam2Reply, mam1Reply}
 
 pub tam-block-long : (enc constant draws ichallenge : List ℕ) → length (tamBlock enc constant draws ichallenge) ≡ 16
 unfolding tamBlock
@@ -39,25 +40,13 @@ mam1-long key m draws e =
     let b = aesEnc (key .enc) (twoBytes C-MAM1 ++ (drop 6 draws ++ m .ichallenge)) in
     omega (arith, length-append b (take 6 draws), enc-sixteen (key .enc) (twoBytes C-MAM1 ++ (drop 6 draws ++ m .ichallenge)), length-take-le 6 draws (omega arith))
 
-pub blocks-whole : (c : Custom) (rev : Bool) → blocksLength (c .blocksize) rev (c .blockcount) % 16 ≡ 0
-unfolding blocksLength
-blocks-whole c rev = omega arith
-
 -- chained or not, the data are as long
 chosen-long : (b : Bool) (a enc p : List ℕ) → length p % 16 ≡ 0 → length (pick b (cbcEncAes a enc p) p) ≡ length p
-chosen-long true a enc p e = cbc-whole a enc p e
+chosen-long true a enc p e = cbc-enc-long a enc p e
 chosen-long false a enc p e = refl
 
 pub body-long : (protmode : ℕ) (a enc p : List ℕ) → length p % 16 ≡ 0 → length (pick (encrypts protmode) (cbcEncAes a enc p) p) ≡ length p
 body-long protmode = chosen-long (encrypts protmode)
-
-mac-or-none : (b : Bool) (mackey s : List ℕ) → length (pick b (cmac96 mackey s) []) ≡ pick b 12 0
-mac-or-none true mackey s = mac-twelve mackey s
-mac-or-none false mackey s = refl
-
-pub mac-long : (protmode : ℕ) (mackey s : List ℕ) → length (pick (hasMac protmode) (cmac96 mackey s) []) ≡ macLength protmode
-unfolding macLength
-mac-long protmode = mac-or-none (hasMac protmode)
 
 -- a block, data and perhaps a MAC
 pub made-long : (protmode n : ℕ) (mackey enc a p : List ℕ) → length a ≡ 16 → length p ≡ n → n % 16 ≡ 0
@@ -71,7 +60,7 @@ module _ (key : Key) (m : Tam2) (words draws : List ℕ) (count : length words �
   unfolding tam2Reply withMac tam2Body tam2ReplyLength tam2MacAt
   tam2-long =
       made-long (m .protmode) (blocksLength (m .custom .blocksize) (m .rev) (m .custom .blockcount)) (key .mackey) (key .enc) (tamBlock (key .enc) (twoBytes (tam2Constant (m .rev) (m .protmode))) draws (m .ichallenge))
-      (carriedData (m .rev) (m .custom) words) (tam-block-long (key .enc) _ draws (m .ichallenge)) (carried-long (m .rev) (m .custom) words count) (blocks-whole (m .custom) (m .rev))
+      (carriedData (m .rev) (m .custom) words) (tam-block-long (key .enc) _ draws (m .ichallenge)) (carried-long (m .rev) (m .custom) words count) (blocks-whole (m .custom .blocksize) (m .rev) (m .custom .blockcount))
 
   pub tam2-most : customFits (m .custom) ≡ true → length (tam2Reply key m words draws) ≤ replyRoom
   tam2-most fit = omega (arith, tam2-long, tam2-reply-fits (m .custom .blocksize) (m .rev) (m .custom .blockcount) (m .protmode) (custom-range (m .custom) fit .blockcount))

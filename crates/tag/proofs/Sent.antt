@@ -1,42 +1,29 @@
 -- The parts of an IAM3 as it was sent, and what is opened of them.
-use mathlib.Core.Path.{_≡_, refl, ap, _∙_}
+use mathlib.Core.Path.{_≡_, sym, ap, _∙_}
 use mathlib.Core.Bool.{Bool, true, false}
 use mathlib.Core.List.{List, _++_}
-use Prim.Native.Nat.{ℕ, _+_, _-_, _%_, _≤_, _<_}
+use Prim.Native.Nat.{ℕ, _+_, _-_, _/_, _%_, _≤_}
 use native.Mathlib.Omega.{arith}
-use lib.ListN.{length, take, drop, length-drop}
+use lib.ListN.{length, take, drop, getD, length-drop}
 use lib.Seq.{take-add, take-all, drop-drop, length-take-le}
-use Rattle.ground.specs.Choice.{pick, implies}
+use Rattle.ground.specs.Choice.{pick}
 use Rattle.field.specs.Block.{firstBlock}
-use Rattle.field.proofs.Block.{first-block-is}
-use Rattle.memory.specs.declared.BlockSize.{BlockSize}
+use Rattle.field.proofs.Block.{Bytes, first-block-is}
 use Rattle.modes.specs.Cbc.{cbcDecAes}
-use Rattle.modes.specs.Cmac.{cmac96}
-use Rattle.modes.specs.declared.Chaining.{Chaining}
-use Rattle.modes.specs.Room.{Into, over}
+use Rattle.modes.specs.Room.{over}
 use Rattle.sheet.specs.declared.Key.{Key}
 use Rattle.frames.specs.declared.Custom.{Custom}
 use Rattle.frames.specs.declared.Iam3.{Iam3}
-use Rattle.frames.specs.Blocks.{blocksLength, headerLength, dataLength, headerPart, carried, dOf}
-use Rattle.frames.specs.Lengths.{hasMac, macLength}
-use Rattle.tag.specs.Opened.{same, sentBlock, sentData, sentMac, openedData, macFits}
-use Rattle.tag.specs.Replies.{encrypts}
-use Rattle.tag.proofs.Long.{cbc-dec-long}
+use Rattle.frames.specs.Blocks.{blocksLength}
+use Rattle.frames.specs.Fields.{sizeOf, customFits, selectCustom}
+use Rattle.frames.specs.Messages.{iam3Of}
+use Rattle.payload.specs.Protected.{encrypts}
+use Rattle.payload.proofs.Lengths.{blocks-whole, cbc-dec-long}
+use Rattle.payload.proofs.Overs.{over-taken}
+use Rattle.tag.specs.Opened.{sentBlock, sentData, openedData}
+use Rattle.tag.proofs.Tam2Asked.{select-custom-fits}
 
 -- ---- lengths
-
-pub blocks-whole : (s : BlockSize) (header : Bool) (n : ℕ) → blocksLength s header n % 16 ≡ 0
-unfolding blocksLength
-blocks-whole s header n = omega arith
-
--- header and data stand in the D blocks, and leave less than a block to fill
-pub blocks-hold : (s : BlockSize) (n : ℕ) → headerLength s + dataLength s n ≤ blocksLength s true n
-unfolding blocksLength dOf carried headerPart
-blocks-hold s n = omega arith
-
-pub blocks-tight : (s : BlockSize) (n : ℕ) → blocksLength s true n < headerLength s + dataLength s n + 16
-unfolding blocksLength dOf carried headerPart
-blocks-tight s n = omega arith
 
 -- n bytes of a list from a place on, where they are there
 pub part-long : (m : List ℕ) (a n : ℕ) → a + n ≤ length m → length (take n (drop a m)) ≡ n
@@ -87,24 +74,13 @@ module _ (key : Key) (f : Iam3) (m : List ℕ) where
       picked n a b true p q = p
       picked n a b false p q = q
 
-  -- ---- the MAC
+  -- what stands in the first bytes of a room, once it was opened there
+  pub opened-front : 20 + blocksLength (f .custom .blocksize) true (f .custom .blockcount) ≤ length m
+      → (room after : List ℕ) (n : ℕ) → n ≡ blocksLength (f .custom .blocksize) true (f .custom .blockcount) → after ≡ over (openedData key f m) room
+      → take n after ≡ openedData key f m
+  opened-front h room after n e q = ap (take n) q ∙ over-taken (openedData key f m) room n (opened-long h ∙ sym e)
 
-  pub no-mac : macLength (f .protmode) ≡ 0 → macFits key f m ≡ true
-  unfolding macLength macFits
-  no-mac = without (hasMac (f .protmode)) (same (cmac96 (key .mackey) (sentBlock m ++ sentData (f .custom) m)) (sentMac (f .custom) m))
-    where
-      without : (t b : Bool) → pick {A = ℕ} t 12 0 ≡ 0 → implies t b ≡ true
-      without true b e = absurd (let w : ⊥ = omega arith in w)
-      without false b e = refl
-
-  pub with-mac : (macLength (f .protmode) ≡ 0 → ⊥) → macFits key f m ≡ same (cmac96 (key .mackey) (sentBlock m ++ sentData (f .custom) m)) (sentMac (f .custom) m)
-  unfolding macLength macFits
-  with-mac = having (hasMac (f .protmode)) (same (cmac96 (key .mackey) (sentBlock m ++ sentData (f .custom) m)) (sentMac (f .custom) m))
-    where
-      having : (t b : Bool) → (pick {A = ℕ} t 12 0 ≡ 0 → ⊥) → implies t b ≡ b
-      having true b h = refl
-      having false b h = absurd (h refl)
-
--- what a call that is taken leaves in its room
-pub into-taken : (taken : Bool) (out room after : List ℕ) (answer : Chaining) → taken ≡ true → Into taken out room answer after → after ≡ over out room
-into-taken taken out room after answer e h = rw e at (h .leaves)
+-- the fields of a message of bytes fit their bits
+pub iam3-in-range : (m : List ℕ) → Bytes m → customFits (iam3Of m .custom) ≡ true
+unfolding iam3Of selectCustom
+iam3-in-range m h = select-custom-fits (sizeOf (getD m 0 0 / 4 % 2)) (getD m 1 0) (getD m 2 0) (getD m 3 0) (h 1) (h 2) (h 3)

@@ -4,26 +4,32 @@ use mathlib.Core.Bool.{Bool, true, false}
 use mathlib.Core.List.{List, [], _++_}
 use Prim.Native.Nat.{ℕ, _+_, _%_, _≤_}
 use native.Mathlib.Omega.{arith}
-use lib.ListN.{length, take, drop, length-append}
+use borrow.Author.Tests.{le-leb}
+use lib.Dec.{leb}
+use lib.ListN.{length, take, drop, replicate, length-append}
 use lib.Seq.{length-take-le}
-use Rattle.ground.specs.Choice.{pick}
+use Rattle.ground.specs.Choice.{pick, both}
 use Rattle.modes.specs.Cbc.{cbcEncAes}
 use Rattle.modes.specs.Cmac.{cmac96}
-use Rattle.modes.specs.Room.{Into, chains, macs, over}
+use Rattle.modes.specs.Room.{Into, chains, over}
 use Rattle.modes.specs.declared.Chaining.{Chaining}
-use Rattle.modes.proofs.Rooms.{copied, enough, room-for-mac}
+use Rattle.modes.proofs.Rooms.{copied, enough}
 use Rattle.sheet.specs.declared.Key.{Key}
 use Rattle.frames.specs.declared.Tam2.{Tam2}
 use Rattle.frames.specs.Blocks.{dataLength, blocksLength}
 use Rattle.frames.specs.Constants.{tam2Constant, twoBytes}
 use Rattle.frames.specs.Fields.{customFits}
-use Rattle.frames.specs.Header.{headerOf}
-use Rattle.frames.specs.Lengths.{hasMac, macLength}
-use Rattle.tag.specs.Replies.{tamBlock, filled, carriedData, encrypts, tam2Body, withMac, tam2Reply}
-use Rattle.tag.proofs.CipherLengths.{mac-twelve}
-use Rattle.tag.proofs.Overs.{over-behind, over-none, over-all, front-finished}
-use Rattle.tag.proofs.Carried.{carried-long, carried-taken}
-use Rattle.tag.proofs.ReplyLengths.{tam-block-long, blocks-whole, body-long, made-long}
+use Rattle.frames.specs.Built.{Built}
+use Rattle.frames.specs.Lengths.{hasMac, macLength, replyRoom, tam2ReplyLength}
+use Rattle.payload.specs.Data.{carriedData}
+use Rattle.payload.specs.Protected.{encrypts, macTakes, withMac}
+use Rattle.payload.proofs.Data.{blocks-fit, carried-long}
+use Rattle.payload.proofs.Lengths.{blocks-whole}
+use Rattle.payload.proofs.Macs.{whole-taken, mac-most, with-mac-long}
+use Rattle.payload.proofs.Overs.{over-taken, front-finished}
+use Rattle.payload.proofs.Rooms.{built-over}
+use Rattle.tag.specs.Replies.{tamBlock, tam2Body, tam2Reply}
+use Rattle.tag.proofs.ReplyLengths.{tam-block-long, body-long, tam2-long}
 
 -- a block and the data as they are sent, and what is sent of them
 abbrev pub sent : ℕ → List ℕ → List ℕ → List ℕ → List ℕ
@@ -44,38 +50,6 @@ module _ (protmode : ℕ) (b : Bool) (enc a p room after : List ℕ) (told : b �
   pub body-plain : b ≡ false → after ≡ take (length p) p ++ drop (length p) room → after ≡ over (pick (encrypts protmode) (cbcEncAes a enc p) p) room
   body-plain f e = copied p room after e ∙ ap (λ (x : Bool). over (pick x (cbcEncAes a enc p) p) room) (sym f ∙ told)
 
--- ---- the MAC behind the room's first bytes
-
-no-mac : (b : Bool) → pick {A = ℕ} b 12 0 ≡ 0 → b ≡ false
-no-mac true e = absurd (let z : ⊥ = omega arith in z)
-no-mac false e = refl
-
-a-mac : (b : Bool) → (pick {A = ℕ} b 12 0 ≡ 0 → ⊥) → b ≡ true
-a-mac true e = refl
-a-mac false e = absurd (e refl)
-
-module _ (protmode n : ℕ) (mackey room : List ℕ) where
-  pub mac-left : n ≤ length room → macLength protmode ≡ 0 → (n ≡ n + macLength protmode) × (room ≡ over (take n room ++ macOf protmode mackey (take n room)) room)
-  unfolding macLength
-  mac-left h e =
-      let b = no-mac (hasMac protmode) e in
-      (omega arith, over-none n room h ∙ ap (λ (x : Bool). over (take n room ++ pick x (cmac96 mackey (take n room)) []) room) (sym b))
-
-  pub mac-put : (answer : Chaining) (fresh mac r : List ℕ) → length fresh ≡ 12 → n % 16 ≡ 0 → 16 ≤ n → n + 12 ≤ length room → (macLength protmode ≡ 0 → ⊥)
-      → Into (macs (length (take n room)) 12) (cmac96 mackey (take n room)) fresh answer mac → r ≡ take n room ++ over mac (drop n room)
-      → (n + 12 ≡ n + macLength protmode) × (r ≡ over (take n room ++ macOf protmode mackey (take n room)) room)
-  unfolding macLength
-  mac-put answer fresh mac r w h l k e i f =
-      let s = take n room in
-      let b = a-mac (hasMac protmode) e in
-      let t : length s ≡ n = length-take-le n room (omega arith) in
-      let fits = room-for-mac (length s) 12 (omega arith) (omega arith) (omega arith) in
-      let m : mac ≡ cmac96 mackey s =
-      i .leaves ∙ ap (λ (x : Bool). pick x (over (cmac96 mackey s) fresh) fresh) fits ∙ over-all (cmac96 mackey s) fresh (mac-twelve mackey s ∙ sym w) in (
-        ap (λ (x : Bool). n + pick x 12 0) (sym b),
-        f ∙ over-behind n mac room (omega arith) ∙ ap₂ {C = List ℕ} (λ x y. over (s ++ pick x y []) room) (sym b) m,
-      )
-
 -- ---- the whole
 
 module _ (key : Key) (m : Tam2) (words draws : List ℕ) (fit : customFits (m .custom) ≡ true)
@@ -86,16 +60,23 @@ module _ (key : Key) (m : Tam2) (words draws : List ℕ) (fit : customFits (m .c
     unfolding tam2Reply withMac tam2Body
     is-reply = refl
 
-    pub tam2-made : (n result : ℕ) (p k a room r z : List ℕ) → n ≡ blocksLength (m .custom .blocksize) (m .rev) (m .custom .blockcount)
-        → p ≡ filled 144 (pick (m .rev) (headerOf (m .custom)) [] ++ words) → k ≡ twoBytes (tam2Constant (m .rev) (m .protmode)) → a ≡ tamBlock (key .enc) k draws (m .ichallenge)
-        → r ≡ over (sent (m .protmode) (key .enc) a (take n p)) room
-        → (result ≡ 16 + n + macLength (m .protmode)) × (z ≡ over (take (16 + n) r ++ macOf (m .protmode) (key .mackey) (take (16 + n) r)) r)
+    -- p holds the data, r the block and the data as they are sent, z these with their MAC
+    pub tam2-made : (n result : ℕ) (x y : Bool) (p k a room r z : List ℕ) → n ≡ blocksLength (m .custom .blocksize) (m .rev) (m .custom .blockcount)
+        → Built (both (customFits (m .custom)) (leb (length words) (dataLength (m .custom .blocksize) (m .custom .blockcount)))) (blocksLength (m .custom .blocksize) (m .rev) (m .custom .blockcount)) (carriedData (m .rev) (m .custom) words) (replicate 144 0) x p
+        → k ≡ twoBytes (tam2Constant (m .rev) (m .protmode)) → a ≡ tamBlock (key .enc) k draws (m .ichallenge)
+        → r ≡ over (sent (m .protmode) (key .enc) a (take n p)) room → length r ≡ length room → replyRoom ≤ length room
+        → Built (macTakes (m .protmode) (16 + n)) (16 + n + macLength (m .protmode)) (withMac (key .mackey) (m .protmode) (take (16 + n) r)) r y z
+        → result ≡ tam2ReplyLength (m .custom .blocksize) (m .rev) (m .custom .blockcount) (m .protmode)
         → (result ≡ length (tam2Reply key m words draws)) × (z ≡ over (tam2Reply key m words draws) room)
-    tam2-made n result p k a room r z en ep ek ea er ez =
+    unfolding withMac
+    tam2-made n result x y p k a room r z en bp ek ea er lr hr bz eresult =
         let q = carriedData (m .rev) (m .custom) words in
-        let eq : take n p ≡ q = ap₂ {C = List ℕ} (λ i l. take i l) en ep ∙ carried-taken (m .rev) (m .custom) words count fit in
+        let most : n ≤ 144 = omega (arith, en, blocks-fit (m .rev) (m .custom) fit) in
+        let ep : p ≡ over q (replicate 144 0) =
+        built-over _ _ q (replicate 144 0) (ap₂ both fit (le-leb (length words) (dataLength (m .custom .blocksize) (m .custom .blockcount)) count)) (omega (arith, en)) (carried-long (m .rev) (m .custom) words count) p x bp in
+        let eq : take n p ≡ q = ap (take n) ep ∙ over-taken q (replicate 144 0) n (carried-long (m .rev) (m .custom) words count ∙ sym en) in
         let long : length (take n p) ≡ n = ap length eq ∙ carried-long (m .rev) (m .custom) words count ∙ sym en in
-        let whole : n % 16 ≡ 0 = ap (λ (i : ℕ). i % 16) en ∙ blocks-whole (m .custom) (m .rev) in
+        let whole : n % 16 ≡ 0 = ap (λ (i : ℕ). i % 16) en ∙ blocks-whole (m .custom .blocksize) (m .rev) (m .custom .blockcount) in
         let sixteen : length a ≡ 16 = ap length ea ∙ tam-block-long (key .enc) k draws (m .ichallenge) in
         let s = sent (m .protmode) (key .enc) a (take n p) in
         let t : length s ≡ 16 + n =
@@ -103,7 +84,12 @@ module _ (key : Key) (m : Tam2) (words draws : List ℕ) (fit : customFits (m .c
         let same : s ++ macOf (m .protmode) (key .mackey) s ≡ tam2Reply key m words draws =
         ap₂ {C = List ℕ} (λ x y. sent (m .protmode) (key .enc) x y ++ macOf (m .protmode) (key .mackey) (sent (m .protmode) (key .enc) x y))
         (ea ∙ ap (λ (l : List ℕ). tamBlock (key .enc) l draws (m .ichallenge)) ek) eq
-        ∙ is-reply in (
-          ez .0 ∙ sym (made-long (m .protmode) n (key .mackey) (key .enc) a (take n p) sixteen long whole) ∙ ap length same,
-          ez .1 ∙ front-finished s room r (16 + n) (macOf (m .protmode) (key .mackey)) t er ∙ ap (λ (l : List ℕ). over l room) same,
+        ∙ is-reply in
+        let c = take (16 + n) r in
+        let lc : length c ≡ 16 + n = length-take-le (16 + n) r (omega arith) in
+        let ez : z ≡ over (c ++ macOf (m .protmode) (key .mackey) c) r =
+        built-over _ _ (withMac (key .mackey) (m .protmode) c) r (whole-taken (m .protmode) (16 + n) (omega arith) (omega arith)) (omega (arith, mac-most (m .protmode)))
+        (with-mac-long (m .protmode) (key .mackey) c ∙ ap (λ (i : ℕ). i + macLength (m .protmode)) lc) z y bz in (
+          eresult ∙ sym (tam2-long key m words draws count),
+          ez ∙ front-finished s room r (16 + n) (macOf (m .protmode) (key .mackey)) t er ∙ ap (λ (l : List ℕ). over l room) same,
         )

@@ -1,29 +1,22 @@
 -- What the tag judges of what the reader sends: 9.5.5, 9.5.8, 9.6.5. The reader made it by AES-DEC, so the tag opens it by AES-ENC.
 use Prim.Native.Nat.{ℕ, _+_, _*_, _/_, _%_}
-use mathlib.Core.Bool.{Bool, true, false}
-use mathlib.Core.List.{List, [], _∷_, _++_}
+use mathlib.Core.Bool.{Bool, true}
+use mathlib.Core.List.{List, _++_}
 use lib.Dec.{eqb}
-use lib.ListN.{length, take, drop, getD, replicate}
-use Rattle.ground.specs.Choice.{pick, both, implies}
+use lib.ListN.{take, drop, getD}
+use Rattle.ground.specs.Choice.{pick, both}
 use Rattle.aes.specs.AesEnc.{aesEnc}
 use Rattle.modes.specs.Cbc.{cbcDecAes}
-use Rattle.modes.specs.Cmac.{cmac96}
 use Rattle.sheet.specs.declared.Key.{Key}
 use Rattle.frames.specs.declared.Custom.{Custom}
 use Rattle.frames.specs.declared.Iam3.{Iam3}
-use Rattle.frames.specs.Blocks.{blocksLength, headerLength, dataLength}
-use Rattle.frames.specs.Constants.{C-IAM2, C-MAM2, iam3Constant}
-use Rattle.frames.specs.Header.{headerOf}
-use Rattle.frames.specs.Lengths.{hasMac, iam3HeadLength}
+use Rattle.frames.specs.Blocks.{blocksLength}
+use Rattle.frames.specs.Constants.{C-MAM2, iam3Constant}
+use Rattle.frames.specs.Lengths.{iam3HeadLength}
+use Rattle.payload.specs.Alike.{same}
+use Rattle.payload.specs.Data.{headerFits, fillerFits, wordsIn as wordsBehind}
+use Rattle.payload.specs.Protected.{encrypts, macFits}
 use Rattle.tag.specs.declared.Session.{Session}
-use Rattle.tag.specs.Replies.{encrypts}
-
--- Two lists of bytes are the same.
-unfoldable pub same : List ℕ → List ℕ → Bool
-same [] [] = true
-same [] (y ∷ ys) = false
-same (x ∷ xs) [] = false
-same (x ∷ xs) (y ∷ ys) = both (eqb x y) (same xs ys)
 
 -- An opened block: constant 12 bits, Purpose 4, four bytes, TChallenge 80.
 abbrev pub constantIn : List ℕ → ℕ
@@ -65,25 +58,16 @@ unfoldable pub openedData : Key → Iam3 → List ℕ → List ℕ
 openedData key f m = pick (encrypts (f .protmode)) (cbcDecAes (sentBlock m) (key .enc) (sentData (f .custom) m)) (sentData (f .custom) m)
 
 -- 9.5.8.4, 9.5.8.5: the MAC covers A and the D blocks as they were sent.
-unfoldable pub macFits : Key → Iam3 → List ℕ → Bool
-macFits key f m = implies (hasMac (f .protmode)) (same (cmac96 (key .mackey) (sentBlock m ++ sentData (f .custom) m)) (sentMac (f .custom) m))
+unfoldable pub sentMacFits : Key → Iam3 → List ℕ → Bool
+sentMacFits key f m = macFits (key .mackey) (f .protmode) (sentBlock m ++ sentData (f .custom) m) (sentMac (f .custom) m)
 
--- The header says what the message's fields say, and the filler is zeros.
-unfoldable pub headerFits : Custom → List ℕ → Bool
-headerFits c p = same (take (headerLength (c .blocksize)) p) (headerOf c)
-
--- The data's words.
-unfoldable pub wordsIn : Custom → List ℕ → List ℕ
-wordsIn c p = take (dataLength (c .blocksize) (c .blockcount)) (drop (headerLength (c .blocksize)) p)
-
-unfoldable pub fillerFits : Custom → List ℕ → Bool
-fillerFits c p =
-    let rest = drop (headerLength (c .blocksize) + dataLength (c .blocksize) (c .blockcount)) p in
-    same rest (replicate (length rest) 0)
+-- 9.5.8: an IAM3 always has a header; the data's words stand behind it.
+abbrev pub wordsIn : Custom → List ℕ → List ℕ
+wordsIn c p = wordsBehind true c p
 
 -- Everything of an IAM3 that a key proves, after its fields were judged.
 unfoldable pub iam3Proof : Key → Session → Iam3 → List ℕ → Bool
 iam3Proof key held f m =
     both (iamProof (iam3Constant (f .protmode)) held (aesEnc (key .enc) (sentBlock m)))
-    (both (macFits key f m)
-    (both (headerFits (f .custom) (openedData key f m)) (fillerFits (f .custom) (openedData key f m))))
+    (both (sentMacFits key f m)
+    (both (headerFits true (f .custom) (openedData key f m)) (fillerFits true (f .custom) (openedData key f m))))

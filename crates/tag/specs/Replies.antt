@@ -1,22 +1,17 @@
 -- What the tag sends: 9.4.3, 9.4.6, 9.5.3, 9.6.3. The keys are those of the record that the message named; `draws` are the tag's random bytes.
-use Prim.Native.Nat.{ℕ, _+_, _-_}
-use mathlib.Core.Bool.{Bool, true, false}
-use mathlib.Core.List.{List, [], _∷_, _++_}
-use lib.Dec.{eqb}
-use lib.ListN.{length, take, drop, replicate}
-use Rattle.ground.specs.Choice.{pick, either}
+use Prim.Native.Nat.{ℕ}
+use mathlib.Core.List.{List, _++_}
+use lib.ListN.{take, drop}
+use Rattle.ground.specs.Choice.{pick}
 use Rattle.aes.specs.AesEnc.{aesEnc}
 use Rattle.modes.specs.Cbc.{cbcEncAes}
-use Rattle.modes.specs.Cmac.{cmac96}
 use Rattle.sheet.specs.declared.Key.{Key}
-use Rattle.frames.specs.declared.Custom.{Custom}
 use Rattle.frames.specs.declared.Tam1.{Tam1}
 use Rattle.frames.specs.declared.Tam2.{Tam2}
 use Rattle.frames.specs.declared.Mam1.{Mam1}
-use Rattle.frames.specs.Blocks.{blocksLength}
 use Rattle.frames.specs.Constants.{C-TAM1, C-MAM1, tam2Constant, twoBytes}
-use Rattle.frames.specs.Header.{headerOf}
-use Rattle.frames.specs.Lengths.{hasMac}
+use Rattle.payload.specs.Data.{carriedData}
+use Rattle.payload.specs.Protected.{encrypts, withMac}
 
 -- 9.4.3, 9.4.6.1: constant, TRnd, IChallenge, encrypted. TRnd is the first four draws.
 unfoldable pub tamBlock : List ℕ → List ℕ → List ℕ → List ℕ → List ℕ
@@ -26,28 +21,14 @@ tamBlock enc constant draws ichallenge = aesEnc enc (constant ++ (take 4 draws +
 unfoldable pub tam1Reply : Key → Tam1 → List ℕ → List ℕ
 tam1Reply key m draws = tamBlock (key .enc) (twoBytes C-TAM1) draws (m .ichallenge)
 
--- 9.2: header (in Rev 1 only) and data, and zeros to the last whole 128-bit block.
-unfoldable pub filled : ℕ → List ℕ → List ℕ
-filled n s = s ++ replicate (n - length s) 0
-
-unfoldable pub carriedData : Bool → Custom → List ℕ → List ℕ
-carriedData rev c words = filled (blocksLength (c .blocksize) rev (c .blockcount)) (pick rev (headerOf c) [] ++ words)
-
--- Table 3: ProtModes 1 and 3 encrypt, 2 and 3 carry a MAC.
-unfoldable pub encrypts : ℕ → Bool
-encrypts protmode = either (eqb protmode 1) (eqb protmode 3)
-
 -- 9.4.6.2 to 9.4.6.9: the authentication block A, the data as they are or chained to A, and the MAC over both as they are sent.
 unfoldable pub tam2Body : Key → ℕ → List ℕ → List ℕ → List ℕ
 tam2Body key protmode a p = pick (encrypts protmode) (cbcEncAes a (key .enc) p) p
 
-unfoldable pub withMac : Key → ℕ → List ℕ → List ℕ
-withMac key protmode s = s ++ pick (hasMac protmode) (cmac96 (key .mackey) s) []
-
 unfoldable pub tam2Reply : Key → Tam2 → List ℕ → List ℕ → List ℕ
 tam2Reply key m words draws =
     let a = tamBlock (key .enc) (twoBytes (tam2Constant (m .rev) (m .protmode))) draws (m .ichallenge) in
-    withMac key (m .protmode) (a ++ tam2Body key (m .protmode) a (carriedData (m .rev) (m .custom) words))
+    withMac (key .mackey) (m .protmode) (a ++ tam2Body key (m .protmode) a (carriedData (m .rev) (m .custom) words))
 
 -- 9.6.3, Table 24: constant, the last 32 bits of TChallenge, IChallenge, encrypted; then the first 48 bits of TChallenge in the clear.
 unfoldable pub mam1Reply : Key → Mam1 → List ℕ → List ℕ

@@ -17,7 +17,6 @@ ghost use Prim.Native.Nat.{_+_};
 ghost use lib.ListN.{take, getD};
 ghost use Rattle.memory.specs.Address.{addressOf};
 ghost use Rattle.sheet.specs.Setups.{noKey, noSlot};
-ghost use Rattle.frames.specs.Lengths.{hasMac};
 ghost use Rattle.tag.specs.States.{atRest, afterIam1, afterMam1, inTurn};
 ghost use Rattle.tag.specs.Records.{offered, sizeOffered, revOffered, modeOffered, modeSupported, hasKey, keyOf};
 
@@ -88,16 +87,6 @@ fn mode_offered(f: Features, protmode: u8) -> bool
     false
 }
 
-// Whether the ProtMode asks for a MAC (Table 3).
-fn has_mac(protmode: u8) -> bool
-    ensures { λ r. ⌜ r ≡ hasMac protmode ⌝ }
-{
-    if protmode == 2 {
-        return true;
-    }
-    protmode == 3
-}
-
 /// Whether the ProtMode is offered, and the record has the key for its MAC (9.2).
 ///
 /// Ruled out: ProtMode 3 with a record that has no MAC key; ProtMode 4 taken for 0.
@@ -107,7 +96,7 @@ pub fn mode_supported(f: Features, key: Key, protmode: u8) -> bool
     if !mode_offered(f, protmode) {
         return false;
     }
-    if has_mac(protmode) {
+    if payload::has_mac(protmode) {
         return key.mac;
     }
     true

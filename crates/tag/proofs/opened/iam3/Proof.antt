@@ -5,7 +5,7 @@ use mathlib.Core.List.{List}
 use Prim.Native.Nat.{ℕ, _≤_}
 use native.Mathlib.Omega.{arith}
 use borrow.Author.Tests.{not-true, not-false}
-use lib.ListN.{length, replicate}
+use lib.ListN.{replicate}
 use lib.Seq.{length-take-le}
 use Rattle.memory.specs.declared.Area.the-variants.{Identity, User}
 use Rattle.memory.specs.Areas.{storedIn}
@@ -18,7 +18,7 @@ use Rattle.frames.proofs.Range.{custom-range}
 use Rattle.field.proofs.Block.{Bytes}
 use Rattle.tag.specs.declared.Outcome.the-variants.{Entered}
 use Rattle.tag.specs.Opened.{purposeIn, wordsIn, iam3Proof}
-use Rattle.tag.proofs.Clear.{iam3-in-range, opened-front, opened-holds}
+use Rattle.tag.proofs.Sent.{iam3-in-range, opened-front}
 use borrow.Author.Needs.{needs}
 use Rattle.tag.proofs.opened.iam3.Statement.{statement}
 use Rattle.tag.proofs.opened.iam3.Tie as tie
@@ -53,7 +53,6 @@ iam3-proof-requires : tie.Need-iam3-proof-requires
 iam3-proof-requires c κs = let s = c .before .before .before .before .before .before .before .before .before .before in
     let a = s .args in
     let o = c .before .before .before .before .open-data in (
-      fit (a .f) (a .m .now) (λ i. c .before .before .before .before .before .before .before .before .before .shared-slice-known .given i .fits) (s .pre .0),
       s .pre .1,
       c .before .before .before .before .before .before .first-opened .ensures,
       opened-front (a .key) (a .f) (a .m .now) (s .pre .1) (replicate 144 0) (o .last .1 .1 .1 .0) (c .before .blocks-length .result) (c .before .blocks-length .ensures) (o .ensures),
@@ -72,12 +71,7 @@ slice-aggregate-write c = let s = c .before .before .before .before .before .bef
     sym (length-take-le (c .before .before .before .before .blocks-length .result) (c .before .before .before .before .before .before .before .open-data .last .1 .1 .1 .0) (omega (arith, c .before .before .before .before .blocks-length .ensures, most (s .args .f) (s .args .m .now) (λ i. c .before .before .before .before .before .before .before .before .before .before .before .before .shared-slice-known .given i .fits) (s .pre .0))))
 
 write-requires : tie.Need-write-requires
-write-requires c κs = let s = c .before .before .before .before .before .before .before .before .before .before .before .before .before .before .before in
-    let a = s .args in
-    let b = c .before .before .before .before .before .before .blocks-length in
-    let o = c .before .before .before .before .before .before .before .before .before .open-data in
-    let e = ap length (opened-front (a .key) (a .f) (a .m .now) (s .pre .1) (replicate 144 0) (o .last .1 .1 .1 .0) (b .result) (b .ensures) (o .ensures)) in
-    omega (arith, e, opened-holds (a .key) (a .f) (a .m .now) (s .pre .1))
+write-requires c κs = search needs
 
 purpose-requires : tie.Need-purpose-requires
 purpose-requires c κs = search needs

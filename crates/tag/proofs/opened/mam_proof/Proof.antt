@@ -3,7 +3,8 @@ use mathlib.Core.Path.{sym, ap, _∙_}
 use mathlib.Core.Bool.{Bool}
 use borrow.Author.Tests.{not-true, not-false}
 use Rattle.ground.specs.Choice.{both}
-use Rattle.tag.specs.Opened.{mamProof, same, middleIn}
+use Rattle.payload.specs.Alike.{same}
+use Rattle.tag.specs.Opened.{mamProof, middleIn}
 use borrow.Author.Needs.{needs}
 use Rattle.tag.proofs.opened.mam_proof.Statement.{statement}
 use Rattle.tag.proofs.opened.mam_proof.Tie as tie

@@ -9,9 +9,10 @@ use Rattle.modes.specs.Room.{over}
 use Rattle.modes.proofs.Rooms.{enough, copied}
 use mathlib.Core.Bool.{true}
 use Rattle.frames.specs.Blocks.{blocksLength}
-use Rattle.tag.specs.Replies.{encrypts}
+use Rattle.payload.proofs.Lengths.{blocks-whole}
+use Rattle.payload.proofs.Macs.{into-taken}
 use Rattle.tag.specs.Opened.{sentData, sentBlock, openedData}
-use Rattle.tag.proofs.Sent.{first-sent, data-sent, data-long, blocks-whole, opened-chained, opened-plain, into-taken}
+use Rattle.tag.proofs.Sent.{first-sent, data-sent, data-long, opened-chained, opened-plain}
 use borrow.Author.Needs.{needs}
 use Rattle.tag.proofs.opened.open_data.Statement.{statement}
 use Rattle.tag.proofs.opened.open_data.Tie as tie
@@ -67,7 +68,7 @@ returns c = let t = c .before .before .before .before .before .before .before .b
     let fits = enough (length part) (length (a .out .now)) (omega (arith, blocks-whole (a .f .custom .blocksize) true (a .f .custom .blockcount))) (omega arith) in
     let out : cbcDecAes (iv .result) (a .key .enc) part ≡ openedData (a .key) (a .f) m =
     ap₂ (λ (v d : List ℕ). cbcDecAes v (a .key .enc) d) from sent ∙ sym (opened-chained (a .key) (a .f) m (sym (t .before .encrypts .ensures) ∙ t .if1 .taken)) in
-    into-taken _ (cbcDecAes (iv .result) (a .key .enc) part) (a .out .now) _ _ fits (c .before .before .cbc-dec-aes .ensures) ∙ ap (λ (l : List ℕ). over l (a .out .now)) out
+    into-taken _ (cbcDecAes (iv .result) (a .key .enc) part) (a .out .now) _ _ (c .before .before .cbc-dec-aes .ensures) fits ∙ ap (λ (l : List ℕ). over l (a .out .now)) out
 
 sub-copy : tie.Need-sub-copy
 sub-copy c = search needs

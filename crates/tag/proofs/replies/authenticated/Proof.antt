@@ -1,6 +1,8 @@
 -- `tag::replies::authenticated` meets its contract.
 use Rattle.field.proofs.Arrays.{array-length}
-use Rattle.tag.proofs.Overs.{next-back}
+use native.Mathlib.Omega.{arith}
+use Rattle.payload.proofs.Overs.{next-back}
+use Rattle.payload.proofs.Rooms.{put-over}
 use borrow.Author.Needs.{needs}
 use Rattle.tag.proofs.replies.authenticated.Statement.{statement}
 use Rattle.tag.proofs.replies.authenticated.Tie as tie
@@ -28,7 +30,9 @@ same-length c = search needs
 
 returns : tie.Need-returns
 returns c = let a = c .before .before .before .before .before .before .before .before .before .before .before in
-    next-back (a .args .t3) _ (a .args .room .now) (c .before .before .before .before .before .before .put .last .0) (c .before .before .body .last .1 .1 .1 .1 .0) 16 (array-length 16 (a .args .t3) _ (a .good .1 .1 .0)) (c .before .before .before .before .before .before .put .ensures) (c .before .before .body .ensures)
+    let k = array-length 16 (a .args .t3) _ (a .good .1 .1 .0) in
+    let p = c .before .before .before .before .before .before .put in
+    next-back (a .args .t3) _ (a .args .room .now) (p .last .0) (c .before .before .body .last .1 .1 .1 .1 .0) 16 k (put-over 0 (a .args .t3) (a .args .room .now) (omega arith) _ _ (p .ensures)) (c .before .before .body .ensures)
 
 pub authenticated-spec : {M : Type 1} → statement M
 authenticated-spec =

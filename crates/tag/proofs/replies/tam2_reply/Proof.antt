@@ -3,9 +3,8 @@ use mathlib.Core.Path.{_≡_, sym}
 use native.Mathlib.Omega.{arith}
 use lib.ListN.{length, take}
 use lib.Seq.{length-take-le}
-use Rattle.field.proofs.Arrays.{array-length}
-use Rattle.tag.proofs.Carried.{blocks-fit}
-use Rattle.tag.proofs.ReplyLengths.{blocks-whole}
+use Rattle.payload.proofs.Data.{blocks-fit}
+use Rattle.payload.proofs.Lengths.{blocks-whole}
 use Rattle.tag.proofs.Tam2Made.{tam2-made}
 use borrow.Author.Needs.{needs}
 use Rattle.tag.proofs.replies.tam2_reply.Statement.{statement}
@@ -14,8 +13,11 @@ use Rattle.tag.proofs.replies.tam2_reply.Tie as tie
 blocks-length-requires : tie.Need-blocks-length-requires
 blocks-length-requires c κs = search needs
 
-carried-data-requires : tie.Need-carried-data-requires
-carried-data-requires c κs = search needs
+slice-aggregate-carried-into : tie.Need-slice-aggregate-carried-into
+slice-aggregate-carried-into c = search needs
+
+carried-into-requires : tie.Need-carried-into-requires
+carried-into-requires c κs = search needs
 
 tam2-constant-requires : tie.Need-tam2-constant-requires
 tam2-constant-requires c κs = search needs
@@ -24,50 +26,57 @@ tam-block-requires : tie.Need-tam-block-requires
 tam-block-requires c κs = search needs
 
 array-share-prefix-p : tie.Need-array-share-prefix-p
-array-share-prefix-p c = let a = c .before .before .before .before .before .before .before .before .before .before in
-    omega (arith, blocks-fit (a .args .m .rev) (a .args .m .custom) (a .args .words .now) (a .pre .1) (a .pre .0), c .before .before .before .blocks-length .ensures, array-length 144 (c .before .before .carried-data .result) _ (c .before .before .carried-data .ok))
+array-share-prefix-p c = let a = c .before .before .before .before .before .before .before .before .before .before .before .before in omega (arith, blocks-fit (a .args .m .rev) (a .args .m .custom) (a .pre .0), c .before .before .before .before .before .blocks-length .ensures)
 
 slice-aggregate-authenticated : tie.Need-slice-aggregate-authenticated
-slice-aggregate-authenticated c = let a = c .before .before .before .before .before .before .before .before .before .before .before in
-    sym (length-take-le (c .before .before .before .before .blocks-length .result) (c .before .before .before .carried-data .result) (omega (arith, blocks-fit (a .args .m .rev) (a .args .m .custom) (a .args .words .now) (a .pre .1) (a .pre .0), c .before .before .before .before .blocks-length .ensures, array-length 144 (c .before .before .before .carried-data .result) _ (c .before .before .before .carried-data .ok))))
+slice-aggregate-authenticated c = let a = c .before .before .before .before .before .before .before .before .before .before .before .before .before in
+    sym (length-take-le (c .before .before .before .before .before .before .blocks-length .result) (c .before .before .before .before .carried-into .last .1 .1 .1 .0) (omega (arith, blocks-fit (a .args .m .rev) (a .args .m .custom) (a .pre .0), c .before .before .before .before .before .before .blocks-length .ensures)))
 
 authenticated-requires : tie.Need-authenticated-requires
-authenticated-requires c κs = let a = c .before .before .before .before .before .before .before .before .before .before .before .before in
-    let n = c .before .before .before .before .before .blocks-length .result in
-    let p = c .before .before .before .before .carried-data .result in
-    let most = blocks-fit (a .args .m .rev) (a .args .m .custom) (a .args .words .now) (a .pre .1) (a .pre .0) in
-    let l : length (take n p) ≡ n = length-take-le n p (omega (arith, c .before .before .before .before .before .blocks-length .ensures, array-length 144 p _ (c .before .before .before .before .carried-data .ok))) in
-    (omega (arith, c .before .before .before .before .before .blocks-length .ensures, blocks-whole (a .args .m .custom) (a .args .m .rev)), omega (arith, c .before .before .before .before .before .blocks-length .ensures))
+authenticated-requires c κs = let a = c .before .before .before .before .before .before .before .before .before .before .before .before .before .before in
+    let n = c .before .before .before .before .before .before .before .blocks-length in
+    let p = c .before .before .before .before .before .carried-into .last .1 .1 .1 .0 in
+    let most = blocks-fit (a .args .m .rev) (a .args .m .custom) (a .pre .0) in
+    let l : length (take (n .result) p) ≡ n .result = length-take-le (n .result) p (omega (arith, n .ensures)) in
+    (omega (arith, n .ensures, blocks-whole (a .args .m .custom .blocksize) (a .args .m .rev) (a .args .m .custom .blockcount)), omega (arith, n .ensures))
 
-add-with-mac : tie.Need-add-with-mac
-add-with-mac c = let a = c .before .before .before .before .before .before .before .before .before .before .before .before .before .before .before in record { fits = omega (arith, blocks-fit (a .args .m .rev) (a .args .m .custom) (a .args .words .now) (a .pre .1) (a .pre .0), c .before .before .before .before .before .before .before .before .blocks-length .ensures) }
+add-mac-behind : tie.Need-add-mac-behind
+add-mac-behind c = let a = c .before .before .before .before .before .before .before .before .before .before .before .before .before .before .before .before .before in record { fits = omega (arith, blocks-fit (a .args .m .rev) (a .args .m .custom) (a .pre .0), c .before .before .before .before .before .before .before .before .before .before .blocks-length .ensures) }
 
-with-mac-requires : tie.Need-with-mac-requires
-with-mac-requires c κs = let a = c .before .before .before .before .before .before .before .before .before .before .before .before .before .before .before .before in
-    let e = c .before .before .before .before .before .before .before .before .before .blocks-length .ensures in
-    let most = blocks-fit (a .args .m .rev) (a .args .m .custom) (a .args .words .now) (a .pre .1) (a .pre .0) in
-    (omega (arith, blocks-whole (a .args .m .custom) (a .args .m .rev)), omega arith, omega arith)
+mac-behind-requires : tie.Need-mac-behind-requires
+mac-behind-requires c κs = search needs
+
+tam2-reply-length-requires : tie.Need-tam2-reply-length-requires
+tam2-reply-length-requires c κs = search needs
 
 same-length : tie.Need-same-length
 same-length c = search needs
 
 returns : tie.Need-returns
-returns c = let a = c .before .before .before .before .before .before .before .before .before .before .before .before .before .before .before .before .before .before .before in
-    tam2-made (a .args .key) (a .args .m) (a .args .words .now) (a .args .draws) (a .pre .0) (a .pre .1) (c .before .before .before .before .before .before .before .before .before .before .before .before .blocks-length .result) (c .before .before .with-mac .result) (c .before .before .before .before .before .before .before .before .before .before .before .carried-data .result) (c .before .before .before .before .before .before .before .before .before .before .tam2-constant .result) (c .before .before .before .before .before .before .before .before .before .tam-block .result) (a .args .room .now) (c .before .before .before .before .before .before .authenticated .last .1 .1 .1 .1 .0) (c .before .before .with-mac .last .1 .1 .1 .0)
-    (c .before .before .before .before .before .before .before .before .before .before .before .before .blocks-length .ensures) (c .before .before .before .before .before .before .before .before .before .before .before .carried-data .ensures) (c .before .before .before .before .before .before .before .before .before .before .tam2-constant .ensures) (c .before .before .before .before .before .before .before .before .before .tam-block .ensures) (c .before .before .before .before .before .before .authenticated .ensures) (c .before .before .with-mac .ensures)
+returns c = let a = c .before .before .before .before .before .before .before .before .before .before .before .before .before .before .before .before .before .before .before .before .before .before in
+    let n = c .before .before .before .before .before .before .before .before .before .before .before .before .before .before .before .blocks-length in
+    let p = c .before .before .before .before .before .before .before .before .before .before .before .before .before .carried-into in
+    let k = c .before .before .before .before .before .before .before .before .before .before .before .tam2-constant in
+    let b = c .before .before .before .before .before .before .before .before .before .before .tam-block in
+    let r = c .before .before .before .before .before .before .before .authenticated in
+    let z = c .before .before .before .mac-behind in
+    tam2-made (a .args .key) (a .args .m) (a .args .words .now) (a .args .draws) (a .pre .0) (a .pre .1) (n .result) (c .tam2-reply-length .result) (p .result) (z .result) (p .last .1 .1 .1 .0) (k .result) (b .result) (a .args .room .now) (r .last .1 .1 .1 .1 .0) (z .last .1 .1 .1 .0)
+    (n .ensures) (p .ensures) (k .ensures) (b .ensures) (r .ensures) (search needs) (a .pre .2) (z .ensures) (c .tam2-reply-length .ensures)
 
 pub tam2-reply-spec : {M : Type 1} → statement M
 tam2-reply-spec =
     tie.close
     (tie.spec
     blocks-length-requires
-    carried-data-requires
+    slice-aggregate-carried-into
+    carried-into-requires
     tam2-constant-requires
     tam-block-requires
     array-share-prefix-p
     slice-aggregate-authenticated
     authenticated-requires
-    add-with-mac
-    with-mac-requires
+    add-mac-behind
+    mac-behind-requires
+    tam2-reply-length-requires
     same-length
     returns)

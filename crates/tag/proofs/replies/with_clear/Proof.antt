@@ -4,7 +4,8 @@ use native.Mathlib.Omega.{arith}
 use lib.ListN.{take, replicate}
 use lib.Seq.{length-take-le}
 use Rattle.field.proofs.Arrays.{array-length}
-use Rattle.tag.proofs.Overs.{put-two}
+use Rattle.payload.proofs.Overs.{put-two}
+use Rattle.payload.proofs.Rooms.{put-over}
 use borrow.Author.Needs.{needs}
 use Rattle.tag.proofs.replies.with_clear.Statement.{statement}
 use Rattle.tag.proofs.replies.with_clear.Tie as tie
@@ -37,7 +38,8 @@ returns c = let a = c .before .before .before .before .before .before .before .b
     let k = array-length 16 (a .args .t1) _ (a .good .0) in
     let n = array-length 10 (a .args .t2) _ (a .good .1 .0) in
     let l = length-take-le 6 (a .args .t2) (omega arith) in
-    put-two (a .args .t1) (take 6 (a .args .t2)) (replicate 22 0) (c .before .before .before .before .before .put .last .0) (c .before .put2 .last .0) 16 k (omega arith) (c .before .before .before .before .before .put .ensures) (c .before .put2 .ensures)
+    put-two (a .args .t1) (take 6 (a .args .t2)) (replicate 22 0) (c .before .before .before .before .before .put .last .0) (c .before .put2 .last .0) 16 k (omega arith)
+    (put-over 0 (a .args .t1) (replicate 22 0) (omega arith) _ _ (c .before .before .before .before .before .put .ensures)) (put-over 16 (take 6 (a .args .t2)) (c .before .before .before .before .before .put .last .0) (omega arith) _ _ (c .before .put2 .ensures))
 
 pub with-clear-spec : {M : Type 1} → statement M
 with-clear-spec =
