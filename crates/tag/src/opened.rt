@@ -11,7 +11,7 @@ use memory::Block;
 use sheet::Key;
 ghost use mathlib.Core.Path.{_≡_};
 ghost use mathlib.Core.Bool.{true};
-ghost use Prim.Native.Nat.{_+_, _*_, _/_, _%_, _≤_, _<_};
+ghost use Prim.Native.Nat.{_+_, _*_, _/_, _%_, _≤_};
 ghost use lib.ListN.{length};
 ghost use Rattle.ground.specs.Choice.{pick};
 ghost use Rattle.aes.specs.AesEnc.{aesEnc};
