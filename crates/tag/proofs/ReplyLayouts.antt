@@ -17,7 +17,9 @@ use Rattle.frames.specs.Blocks.{blocksLength}
 use Rattle.frames.specs.Constants.{tam2Constant, twoBytes}
 use Rattle.frames.specs.Header.{headerOf}
 use Rattle.frames.specs.Lengths.{hasMac}
-use Rattle.tag.specs.Replies.{tamBlock, tam1Reply, carriedData, filled, encrypts, tam2Body, withMac, tam2Reply, mam1Reply}
+use Rattle.payload.specs.Data.{filled, carriedData}
+use Rattle.payload.specs.Protected.{encrypts, withMac}
+use Rattle.tag.specs.Replies.{tamBlock, tam1Reply, tam2Body, tam2Reply, mam1Reply}
 
 -- TAM1: 96C5, TRnd, IChallenge.
 pub tam1-layout : (key : Key) (m : Tam1) (draws : List ℕ) → tam1Reply key m draws ≡ aesEnc (key .enc) (twoBytes 0x96C5 ++ (take 4 draws ++ m .ichallenge))

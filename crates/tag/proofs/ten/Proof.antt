@@ -1,7 +1,7 @@
 use mathlib.Core.Path.{_∙_}
 use lib.ListN.{replicate}
 use Rattle.modes.proofs.Rooms.{copied}
-use Rattle.tag.proofs.Overs.{over-all}
+use Rattle.payload.proofs.Overs.{over-all}
 use borrow.Author.Needs.{needs}
 use Rattle.tag.proofs.ten.Statement.{statement}
 use Rattle.tag.proofs.ten.Tie as tie
