@@ -1,0 +1,56 @@
+// The line of one call: tag, call, number (0 for accepted), reply length, Purpose or -, state, digest of the room, digest of
+// the areas.
+use crate::counts::number;
+use lines::draws::digest;
+use lines::draws::more;
+use lines::print;
+use tag::Outcome;
+use tag::State;
+
+// Which tag, and which of its calls.
+pub fn begun(tag: u64, call: u64) {
+    print::decimal(tag);
+    print::space();
+    print::decimal(call);
+    print::space();
+}
+
+// Number, reply length, Purpose.
+pub fn answer(outcome: Outcome) {
+    match outcome {
+        Outcome::Replied(n) => three(0, n, b"-"),
+        Outcome::Entered(purpose) => entered(purpose),
+        Outcome::Refused(fault) => three(number(fault), 0, b"-"),
+    }
+}
+
+fn three(number: usize, length: usize, purpose: &[u8]) {
+    print::decimal(number as u64);
+    print::space();
+    print::decimal(length as u64);
+    print::space();
+    print::text(purpose);
+    print::space();
+}
+
+fn entered(purpose: u8) {
+    print::text(b"0 0 ");
+    print::decimal(purpose as u64);
+    print::space();
+}
+
+pub fn state(state: State) {
+    match state {
+        State::Initial => print::text(b"Initial "),
+        State::IamInit => print::text(b"IAM-Init "),
+        State::MamInit => print::text(b"MAM-Init "),
+        State::IaOk => print::text(b"IA-OK "),
+    }
+}
+
+pub fn digests(room: &[u8], identity: &[u8], user: &[u8]) {
+    print::digits(digest(room), 12);
+    print::space();
+    print::digits(more(digest(identity), user), 12);
+    print::end();
+}

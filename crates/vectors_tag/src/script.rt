@@ -1,0 +1,46 @@
+// The script on standard input (docs/src/second/script.rs): the heads of its records, and the bytes of their bodies.
+use libc::STDIN_FILENO;
+use lines::numbers::get;
+use lines::numbers::get_word;
+use lines::numbers::low;
+use lines::numbers::low_word;
+ghost use Rattle.io.specs.Counts.{Counts};
+
+// A kind of record, 0 the end, 1 a tag at power-up, 2 one call of it; then five numbers.
+pub struct Head {
+    pub kind: u8,
+    pub numbers: [u16; 5],
+}
+
+// The next head. Where the input ends in it, all that did not come is zero.
+pub fn read() -> Head {
+    let mut h = [0u8; 11];
+    fill(&mut h);
+    Head {
+        kind: low(get(&h, 0)),
+        numbers: [
+            number(&h, 1),
+            number(&h, 3),
+            number(&h, 5),
+            number(&h, 7),
+            number(&h, 9),
+        ],
+    }
+}
+
+// Two bytes, the more significant first.
+fn number(h: &[u8], at: usize) -> u16 {
+    low_word(get_word(h, at))
+}
+
+// The next bytes of a body.
+pub fn fill(room: &mut [u8]) {
+    io::read_full(STDIN_FILENO, room);
+}
+
+// So many bytes of a room, or all of it where it has less. The script keeps to the rooms.
+pub fn within(n: u16, room: &[u8]) -> usize
+    ensures { λ r. ⌜ Counts r (now (room .entry)) ⌝ }
+{
+    io::count(n as isize, room)
+}
