@@ -3,9 +3,10 @@
 //! It is written from the papers alone (FIPS 197, SP 800-38A, SP 800-38B, ISO/IEC 29167-10, the house rules of paper 01)
 //! and shares no text with the proved crates. Its one argument says what it writes on standard output: with `cipher`
 //! what the program `vectors` must write, with `setup` what `vectors_setup`, with `frames` what `vectors_frames`, line for
-//! line; with `tag-input` a script of drawn tags and messages (`script.rs`), with `tag` what a tag answers to it. Where a paper
-//! prints the answer, its own answer is held against the printed one first; where any differ, or where the drawn cases
-//! do not show enough of a thing, it says so on standard error and exits with status 1.
+//! line; with `tag` what `vectors_tag`, and with `tag-input` what that program is fed with: a script of drawn tags and
+//! messages (`script.rs`). Where a paper prints the answer, its own answer is held against the printed one first; where
+//! any differ, or where the drawn cases do not show enough of a thing, it says so on standard error and exits with
+//! status 1.
 //!
 //! A further section is a module with a `fn lines(report: &mut Report)` and a call of it here, in the order
 //! in which the proved program prints it. It draws from `draws::Draws` and writes through `report::Report`.
