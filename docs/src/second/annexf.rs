@@ -2,30 +2,30 @@
 //! made once more by the reader. Where the copy at hand has wrong digits (F.12, F.14) or too many zeros (F.20, F.27, F.30),
 //! the digits here are those that the computation gives.
 
-use crate::frames::{fields, kind_of, Fields, Kind};
+use crate::builder::{made, Order};
+use crate::frames::{fields, kind_of, Kind};
 use crate::hex::bytes;
-use crate::reader::{asking, payload, plain, proving, writing};
 use crate::report::Report;
 use crate::script::{Bench, Call, Script};
 use crate::tag::{Answer, ROOM};
 
 /// All features; an identity area of 9 words; the two records of Table F.1; profile 1 over the whole area (Table F.2).
-const SHEET: &str = "01 3F 0F  02 0009 0000
+pub const SHEET: &str = "01 3F 0F  02 0009 0000
     03 00 01 0002 000102030405060708090A0B0C0D0E0F 2B7E151628AED2A6ABF7158809CF4F3C
     03 01 01 0007 0A1B2C3D4E5F6A7B8C9D0E1F2AB3C4D5 889900AABBCCDDEEFFAABBCCDDEEFF00
     04 01 00 0000 0009  06";
-const MEMORY: &str = "A16A76656E69617A5265676E756D5475756D";
+pub const MEMORY: &str = "A16A76656E69617A5265676E756D5475756D";
 
 /// Behind each area.
 const SPARE: [u8; 2] = [0x5a, 0xa5];
 
-struct Example {
-    table: &'static str,
+pub struct Example {
+    pub table: &'static str,
     /// The message, and before it, where there has to be one, the message that opens the exchange.
-    messages: &'static [&'static str],
+    pub messages: &'static [&'static str],
     /// Worked out from the replies. Unused ones are zeros.
-    draws: &'static [&'static str],
-    replies: &'static [&'static str],
+    pub draws: &'static [&'static str],
+    pub replies: &'static [&'static str],
     state: &'static str,
     memory: &'static str,
 }
@@ -69,7 +69,7 @@ const fn iam(table: &'static str, messages: &'static [&'static str], memory: &'s
     }
 }
 
-const EXAMPLES: [Example; 18] = [
+pub const EXAMPLES: [Example; 18] = [
     tam("F.4", &[TAM1], &["6D696372000000000000"], &["E920530CC781B20CFE1AB4A0144E7335"]),
     tam(
         "F.6",
@@ -208,11 +208,8 @@ pub fn examples(report: &mut Report, script: &mut Script) {
                     report.expect(&format!("{} has Purpose 0", example.table), purpose.unwrap_or(0) == 0);
                 }
             }
-            report.hold(
-                &format!("{} by the reader", example.table),
-                &made(&bench, &call.message, example),
-                message,
-            );
+            let made = made(&bench.tag.setup.keys[1], &order(&call.message, example));
+            report.hold(&format!("{} by the reader", example.table), &made.unwrap_or_default(), message);
         }
         let state = bench.tag.session.name();
         report.expect(
@@ -223,25 +220,26 @@ pub fn examples(report: &mut Report, script: &mut Script) {
     }
 }
 
-/// The message from its fields, the key, IRnd, the challenges and, for IAM3, the words that the memory has in the end.
-fn made(bench: &Bench, message: &[u8], example: &Example) -> Vec<u8> {
+/// What the printed message is built from: its fields, IRnd, the challenges and, for IAM3, the words that the memory has in
+/// the end. Purpose is 0 in all examples.
+pub fn order(message: &[u8], example: &Example) -> Order {
     let kind = kind_of(message[0]).expect("a message");
-    let f = Fields {
-        rfu: 0,
-        ..fields(kind, message)
-    };
-    let key = &bench.tag.setup.keys[1];
-    let challenge = |text: &str| -> [u8; 10] { bytes(text).try_into().expect("10 bytes") };
-    match kind {
-        Kind::Tam1 | Kind::Tam2 | Kind::Iam1 | Kind::Mam1 => asking(kind, f),
-        Kind::Iam2 => proving(kind, key, &plain("C_IAM2", 0, &bytes(IRND), &challenge(TCHALLENGE))),
-        Kind::Mam2 => proving(kind, key, &plain("C_MAM2", 0, &bytes(MAM1)[8..], &challenge(MAM1_DRAWS))),
-        Kind::Iam3 => {
-            let (step, blocks) = ([8, 2][f.blocksize as usize], f.blockcount as usize + 1);
-            let start = f.offset as usize * step;
-            let data = &bytes(example.memory)[start..start + blocks * step];
-            let plain = plain(&format!("C_IAM3_{}", f.protmode), 0, &bytes(IRND), &challenge(TCHALLENGE));
-            writing(key, f, &plain, &payload(f, data))
-        }
+    let mut fields = fields(kind, message);
+    let (step, blocks) = ([8, 2][fields.blocksize as usize], fields.blockcount as usize + 1);
+    let start = fields.offset as usize * step;
+    let number = |text: &str| bytes(text).iter().fold(0, |sum, &byte| sum << 8 | u128::from(byte));
+    if kind == Kind::Mam2 {
+        fields.ichallenge = number(&MAM1[4..]);
+    }
+    Order {
+        kind,
+        fields,
+        purpose: 0,
+        irnd: number(IRND),
+        tchallenge: number(if kind == Kind::Mam2 { MAM1_DRAWS } else { TCHALLENGE }),
+        data: match kind {
+            Kind::Iam3 => bytes(example.memory)[start..start + blocks * step].to_vec(),
+            _ => Vec::new(),
+        },
     }
 }

@@ -4,9 +4,10 @@
 //! and shares no text with the proved crates. Its one argument says what it writes on standard output: with `cipher`
 //! what the program `vectors` must write, with `setup` what `vectors_setup`, with `frames` what `vectors_frames`, line for
 //! line; with `tag` what `vectors_tag`, and with `tag-input` what that program is fed with: a script of drawn tags and
-//! messages (`script.rs`). Where a paper prints the answer, its own answer is held against the printed one first; where
-//! any differ, or where the drawn cases do not show enough of a thing, it says so on standard error and exits with
-//! status 1.
+//! messages (`script.rs`); with `reader` what `vectors_reader`, and with `reader-input` its script of messages to build and
+//! replies to judge (`script_reader.rs`). Where a paper prints the answer, its own answer is held against the printed one
+//! first; where any differ, or where the drawn cases do not show enough of a thing, it says so on standard error and exits
+//! with status 1.
 //!
 //! A further section is a module with a `fn lines(report: &mut Report)` and a call of it here, in the order
 //! in which the proved program prints it. It draws from `draws::Draws` and writes through `report::Report`.
@@ -15,19 +16,27 @@
 
 mod aes;
 mod annexf;
+mod annexf_reader;
+mod builder;
 mod chaining;
 mod choice;
 mod cmac;
 mod damage;
+mod desk;
 mod drawn;
 mod drawn_frames;
+mod drawn_reader;
 mod drawn_sheets;
 mod drawn_tag;
 mod drawn_windows;
 mod draws;
+mod flaws;
+mod forged;
 mod frames;
 mod hex;
+mod judge;
 mod memory;
+mod orders;
 mod player;
 mod published;
 mod reader;
@@ -35,11 +44,13 @@ mod report;
 mod rooms;
 mod scene;
 mod script;
+mod script_reader;
 mod sheet;
 mod sketch;
 mod slips;
 mod tag;
 mod tally;
+mod tally_reader;
 mod wish;
 
 use std::io::Write;
@@ -60,15 +71,26 @@ fn main() -> ExitCode {
         Some("tag") => drawn_tag::lines(&mut report),
         Some("tag-input") => {
             let script = drawn_tag::script(&mut report);
-            if let Err(error) = std::io::stdout().write_all(&script) {
-                eprintln!("standard output: {error}");
-                return ExitCode::from(1);
-            }
+            return bytes(&script, report);
+        }
+        Some("reader") => drawn_reader::lines(&mut report),
+        Some("reader-input") => {
+            let script = drawn_reader::script(&mut report);
+            return bytes(&script, report);
         }
         _ => {
-            eprintln!("one argument: cipher, setup, frames, tag or tag-input");
+            eprintln!("one argument: cipher, setup, frames, tag, tag-input, reader or reader-input");
             return ExitCode::from(2);
         }
+    }
+    report.finish()
+}
+
+/// Writes a script, which is no text.
+fn bytes(script: &[u8], report: report::Report) -> ExitCode {
+    if let Err(error) = std::io::stdout().write_all(script) {
+        eprintln!("standard output: {error}");
+        return ExitCode::from(1);
     }
     report.finish()
 }

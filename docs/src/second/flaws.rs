@@ -1,0 +1,219 @@
+//! What can be wrong with a reply, or with the reader's own message and room, and the number that is meant for it.
+
+use crate::draws::Draws;
+use crate::frames::{self, Fields, Kind};
+use crate::judge::{self, DATA_ROOM};
+use crate::script_reader::Case;
+use crate::sheet::Key;
+use crate::slips::flip;
+use std::collections::BTreeSet;
+
+#[derive(Clone, Copy, PartialEq, Eq, PartialOrd, Ord, Debug)]
+pub enum Flaw {
+    /// The reader's own: too little room; no message; a method or step that there is not; another length; an RFU bit;
+    /// a ProtMode above 3; a MAC asked for and no key to judge it.
+    Room,
+    Empty,
+    NoKind,
+    OwnLength,
+    Rfu,
+    Mode,
+    NoMac,
+    /// One byte more or less, or none where there have to be some.
+    Length,
+    /// The first block: of another key, with another challenge, with another constant, a bit of it; and a reply to the
+    /// same message in another ProtMode (Rev 1 tells by the constant).
+    OtherKey,
+    Challenge,
+    Constant,
+    FirstBit,
+    OtherMode,
+    /// A bit of the MAC, of what it covers after the first block, another MAC key, a MAC over the data before chaining.
+    Mac,
+    Covered,
+    MacKey,
+    MacBefore,
+    /// Under a right MAC: a bit of the header, of the filler, the header of another Profile, Offset or BlockCount, and
+    /// CBC_ENC_AES_INV for CBC_ENC_AES.
+    Header,
+    Filler,
+    OtherAddress,
+    Way,
+    /// OtherMode and OtherAddress where Rev is 0: no constant and no header tell, and filler does at most.
+    OtherModeRev0,
+    OtherAddressRev0,
+    /// A bit of the reply, or of the own message: the number is that of the place it hits, and in a challenge that comes
+    /// in the clear there is none.
+    AnyBit,
+    OwnBit,
+}
+
+use Flaw::*;
+
+/// The number for a reply that is right but for this.
+pub fn meant(flaw: Flaw) -> Option<u8> {
+    match flaw {
+        Room | Empty | NoKind | OwnLength | Rfu | Mode | NoMac => Some(judge::OWN_MESSAGE),
+        Length => Some(judge::REPLY_LENGTH),
+        OtherKey | Challenge | Constant | FirstBit | OtherMode => Some(judge::CHALLENGE_WRONG),
+        Mac | Covered | MacKey | MacBefore => Some(judge::MAC_WRONG),
+        Header | Filler | OtherAddress | Way => Some(judge::HEADER_WRONG),
+        OtherModeRev0 | OtherAddressRev0 | AnyBit | OwnBit => None,
+    }
+}
+
+/// Paper 01: 24, 20, 21, 22, 23.
+pub fn comes_before(a: u8, b: u8) -> bool {
+    a != b && (a == judge::OWN_MESSAGE || a < b && b != judge::OWN_MESSAGE)
+}
+
+/// What can be tried with a message: only what shows. NoMac is drawn with the order.
+pub fn of(kind: Kind, f: Fields) -> Vec<Flaw> {
+    let mut flaws = vec![Room, Empty, NoKind, OwnLength, Rfu, Length, OwnBit];
+    if matches!(kind, Kind::Tam2 | Kind::Iam3) {
+        flaws.push(Mode);
+    }
+    if judge::reply_bytes(kind, f) > 0 {
+        flaws.push(AnyBit);
+    }
+    if matches!(kind, Kind::Tam1 | Kind::Tam2 | Kind::Mam1) {
+        flaws.extend([OtherKey, Challenge, Constant, FirstBit]);
+    }
+    if kind == Kind::Tam2 {
+        let filled = filler_place(f) < 16 * blocks(f);
+        let chained = f.protmode % 2 == 1;
+        let shown = [
+            (Mac, f.protmode >= 2),
+            (Covered, f.protmode >= 2),
+            (MacKey, f.protmode >= 2),
+            (MacBefore, f.protmode == 3),
+            (OtherMode, f.rev == 1),
+            (Header, f.rev == 1),
+            (OtherAddress, f.rev == 1),
+            (OtherModeRev0, f.rev == 0),
+            (OtherAddressRev0, f.rev == 0),
+            (Filler, filled),
+            (Way, chained && (filled || f.rev == 1)),
+        ];
+        flaws.extend(shown.iter().filter(|(_, shows)| *shows).map(|(flaw, _)| *flaw));
+    }
+    flaws
+}
+
+/// What can be tried with a kind at all: of TAM2 with chaining, MAC and filler in both Revs.
+pub fn of_kind(kind: Kind) -> BTreeSet<Flaw> {
+    let rev0 = Fields {
+        protmode: 3,
+        ..Fields::default()
+    };
+    let rev1 = Fields {
+        rev: 1,
+        blockcount: 1,
+        ..rev0
+    };
+    let lacking = matches!(kind, Kind::Tam2 | Kind::Iam3).then_some(NoMac);
+    of(kind, rev0).into_iter().chain(of(kind, rev1)).chain(lacking).collect()
+}
+
+/// D of a TAM2 reply.
+pub fn blocks(f: Fields) -> usize {
+    frames::d(f.blocksize as usize, f.rev == 1, f.blockcount as usize)
+}
+
+/// The header's bytes in a TAM2 reply.
+pub fn header_bytes(f: Fields) -> usize {
+    frames::header_bits(f.blocksize as usize) / 8 * f.rev as usize
+}
+
+/// Where the filler starts, header and data being before it.
+pub fn filler_place(f: Fields) -> usize {
+    header_bytes(f) + frames::data_bytes(f.blocksize as usize, f.blockcount as usize)
+}
+
+/// What is wrong on the reader's own side, and with the reply's length. The reply has all other flaws already.
+pub fn spoil(draws: &mut Draws, case: &mut Case, flaws: &[Flaw]) {
+    let (which, any) = (draws.number(), draws.word());
+    // What takes the kind or the length away comes last.
+    let mut flaws = flaws.to_vec();
+    flaws.sort_by_key(|flaw| [NoKind, Empty, OwnLength, Length].contains(flaw));
+    for flaw in flaws {
+        match flaw {
+            Room => case.room = if which % 2 == 0 { DATA_ROOM - 1 } else { any % DATA_ROOM },
+            Empty => case.message.clear(),
+            NoKind if case.message[0] < 0x40 => case.message[0] |= 0xc0,
+            NoKind => case.message[0] |= [0x20, 0xc0][which % 2],
+            Rfu => {
+                let mask = frames::kind_of(case.message[0]).map_or(1, frames::rfu_mask);
+                case.message[0] |= match which % 2 {
+                    0 => 1 << (any as u32 % mask.count_ones()),
+                    _ => 1 + (any % usize::from(mask)) as u8,
+                };
+            }
+            Mode => *mode_byte(&mut case.message) |= 1 << (2 + which % 2),
+            OtherMode | OtherModeRev0 => *mode_byte(&mut case.message) ^= 1,
+            OwnLength => another_length(draws, &mut case.message, 3),
+            Length => another_length(draws, &mut case.reply, 6),
+            OtherAddress | OtherAddressRev0 => another_address(draws, &mut case.message),
+            AnyBit => flip(draws, &mut case.reply),
+            OwnBit => flip(draws, &mut case.message),
+            _ => {}
+        }
+    }
+}
+
+/// BlockCount and ProtMode: the last byte of TAM2, the fourth of IAM3.
+fn mode_byte(message: &mut [u8]) -> &mut u8 {
+    let at = if message[0] < 0x40 { 14 } else { 3 };
+    &mut message[at]
+}
+
+/// Profile or Offset of a TAM2 in one bit.
+fn another_address(draws: &mut Draws, message: &mut [u8]) {
+    let at = message.len().min(14);
+    flip(draws, &mut message[at - 2..at]);
+}
+
+/// One byte more or one less; now and then cut anywhere. Of nothing there is only more.
+fn another_length(draws: &mut Draws, bytes: &mut Vec<u8>, seldom: usize) {
+    let (which, length) = (draws.number(), bytes.len());
+    match which % seldom {
+        _ if length == 0 => bytes.resize([1, 10, 16][which % 3], 0),
+        0 => bytes.truncate(draws.number() % length),
+        _ if which / 64 % 2 == 0 => bytes.truncate(length - 1),
+        _ => bytes.push(draws.byte()),
+    }
+}
+
+/// None in so many of 16 replies; else one, or two with different numbers. Each number is drawn alike, and for a lone flaw
+/// the one that was given its number least often.
+pub fn drawn(draws: &mut Draws, often: impl Fn(Flaw) -> usize, kind: Kind, f: Fields, none: usize) -> Vec<Flaw> {
+    let all = of(kind, f);
+    let (whether, how) = (draws.word() / 8 % 16, draws.word() / 8 % 8);
+    let mut numbers: BTreeSet<Option<u8>> = all.iter().map(|&flaw| meant(flaw)).collect();
+    let mut flaws = Vec::new();
+    let two = how < if kind == Kind::Tam2 { 3 } else { 1 };
+    if two {
+        numbers.remove(&None);
+    }
+    for _ in 0..if two { 2 } else { 1 } {
+        let number = *numbers.iter().nth(draws.word() / 8 % numbers.len()).expect("more than one number");
+        numbers.remove(&number);
+        let with_it: Vec<Flaw> = all.iter().copied().filter(|&flaw| meant(flaw) == number).collect();
+        flaws.push(match two {
+            true => with_it[draws.word() / 8 % with_it.len()],
+            false => with_it.into_iter().min_by_key(|&flaw| often(flaw)).expect("one at least"),
+        });
+    }
+    if whether < none {
+        flaws.clear();
+    }
+    flaws
+}
+
+/// The keys with one bit of each changed.
+pub fn other_key(draws: &mut Draws, key: &Key) -> Key {
+    let mut other = *key;
+    flip(draws, &mut other.enc_key);
+    flip(draws, &mut other.mac_key);
+    other
+}
