@@ -4,7 +4,7 @@
 use crate::builder::{build, made, Order};
 use crate::draws::Draws;
 use crate::flaws::{self, Flaw};
-use crate::forged::forged;
+use crate::forged::Forger;
 use crate::frames::{data_bytes, Fields, Kind};
 use crate::judge::{judge, Judgement, DATA_ROOM};
 use crate::memory::{request, Area, BlockSize, Memory, Profile};
@@ -145,10 +145,10 @@ impl<'a> Desk<'a> {
             purpose.is_none_or(|purpose| u128::from(purpose) == order.purpose),
         );
         let reply = &room[..length];
-        let sealed_again = forged(self.draws, &key, order.kind, near.fields, reply, &[]);
+        let sealed_again = self.forger(&[]).reply(&key, order.kind, near.fields, reply);
         self.report
             .expect("opened and sealed again a reply is the same", sealed_again == reply);
-        let reply = forged(self.draws, &key, order.kind, order.fields, reply, &[]);
+        let reply = self.forger(&[]).reply(&key, order.kind, order.fields, reply);
         self.recovers(&near, &message, &reply, &draws);
         (message, reply)
     }
@@ -183,6 +183,7 @@ impl<'a> Desk<'a> {
             flaws.truncate(1);
             flaws.push(Flaw::NoMac);
         }
+        let key = self.with_mac();
         let more = if self.draws.number() % 4 == 0 {
             self.draws.number() % 57
         } else {
@@ -190,14 +191,22 @@ impl<'a> Desk<'a> {
         };
         let mut case = Case {
             message: message.to_vec(),
-            reply: forged(self.draws, &self.with_mac(), order.kind, f, reply, &flaws),
+            reply: self.forger(&flaws).reply(&key, order.kind, f, reply),
             room: DATA_ROOM + more,
         };
-        flaws::spoil(self.draws, &mut case, &flaws);
+        flaws::spoil(self.draws, &mut self.tally.places, order.kind, &mut case, &flaws);
         self.script.judge(&case);
         let mut room = vec![0; case.room];
         let result = judge(&self.key, &case.message, &case.reply, &mut room);
         self.tally.judged(order.kind, &case, &flaws, &result);
+    }
+
+    fn forger<'b>(&'b mut self, flaws: &'b [Flaw]) -> Forger<'b> {
+        Forger {
+            draws: self.draws,
+            places: &mut self.tally.places,
+            flaws,
+        }
     }
 
     /// The keys with the MAC key, also where the reader lacks it: what the tag has.

@@ -3,6 +3,7 @@
 use crate::draws::Draws;
 use crate::frames::{self, Fields, Kind};
 use crate::judge::{self, DATA_ROOM};
+use crate::places::Places;
 use crate::script_reader::Case;
 use crate::sheet::Key;
 use crate::slips::flip;
@@ -131,29 +132,33 @@ pub fn filler_place(f: Fields) -> usize {
 }
 
 /// What is wrong on the reader's own side, and with the reply's length. The reply has all other flaws already.
-pub fn spoil(draws: &mut Draws, case: &mut Case, flaws: &[Flaw]) {
-    let (which, any) = (draws.number(), draws.word());
+pub fn spoil(draws: &mut Draws, places: &mut Places, kind: Kind, case: &mut Case, flaws: &[Flaw]) {
     // What takes the kind or the length away comes last.
-    let mut flaws = flaws.to_vec();
-    flaws.sort_by_key(|flaw| [NoKind, Empty, OwnLength, Length].contains(flaw));
-    for flaw in flaws {
+    let mut ordered = flaws.to_vec();
+    ordered.sort_by_key(|flaw| [NoKind, Empty, OwnLength, Length].contains(flaw));
+    for flaw in ordered {
+        let mut one_of = |count: usize| match flaws.len() {
+            1 => places.next(kind, flaw, count),
+            _ => draws.word() / 8 % count,
+        };
         match flaw {
-            Room => case.room = if which % 2 == 0 { DATA_ROOM - 1 } else { any % DATA_ROOM },
+            Room if one_of(2) == 1 => case.room = DATA_ROOM - 1,
+            Room => case.room = draws.word() % DATA_ROOM,
             Empty => case.message.clear(),
-            NoKind if case.message[0] < 0x40 => case.message[0] |= 0xc0,
-            NoKind => case.message[0] |= [0x20, 0xc0][which % 2],
-            Rfu => {
-                let mask = frames::kind_of(case.message[0]).map_or(1, frames::rfu_mask);
-                case.message[0] |= match which % 2 {
-                    0 => 1 << (any as u32 % mask.count_ones()),
-                    _ => 1 + (any % usize::from(mask)) as u8,
-                };
-            }
-            Mode => *mode_byte(&mut case.message) |= 1 << (2 + which % 2),
+            NoKind if kind == Kind::Tam2 => case.message[0] |= 0xc0,
+            NoKind => case.message[0] |= [0x20, 0xc0][one_of(2)],
+            Rfu => case.message[0] |= 1 << one_of(frames::rfu_mask(kind).count_ones() as usize),
+            Mode => *mode_byte(&mut case.message) |= [4, 8, 12][one_of(3)],
             OtherMode | OtherModeRev0 => *mode_byte(&mut case.message) ^= 1,
-            OwnLength => another_length(draws, &mut case.message, 3),
-            Length => another_length(draws, &mut case.reply, 6),
-            OtherAddress | OtherAddressRev0 => another_address(draws, &mut case.message),
+            OwnLength => {
+                let which = one_of(3);
+                another_length(draws, &mut case.message, which);
+            }
+            Length => {
+                let which = one_of(3);
+                another_length(draws, &mut case.reply, which);
+            }
+            OtherAddress | OtherAddressRev0 => flip(draws, &mut case.message[12..14]),
             AnyBit => flip(draws, &mut case.reply),
             OwnBit => flip(draws, &mut case.message),
             _ => {}
@@ -167,25 +172,18 @@ fn mode_byte(message: &mut [u8]) -> &mut u8 {
     &mut message[at]
 }
 
-/// Profile or Offset of a TAM2 in one bit.
-fn another_address(draws: &mut Draws, message: &mut [u8]) {
-    let at = message.len().min(14);
-    flip(draws, &mut message[at - 2..at]);
-}
-
-/// One byte more or one less; now and then cut anywhere. Of nothing there is only more.
-fn another_length(draws: &mut Draws, bytes: &mut Vec<u8>, seldom: usize) {
-    let (which, length) = (draws.number(), bytes.len());
-    match which % seldom {
-        _ if length == 0 => bytes.resize([1, 10, 16][which % 3], 0),
-        0 => bytes.truncate(draws.number() % length),
-        _ if which / 64 % 2 == 0 => bytes.truncate(length - 1),
+/// Cut anywhere, one byte less, one more. Of nothing there is only more.
+fn another_length(draws: &mut Draws, bytes: &mut Vec<u8>, which: usize) {
+    match which {
+        _ if bytes.is_empty() => bytes.resize([16, 10, 1][which], 0),
+        0 => bytes.truncate(draws.number() % bytes.len()),
+        1 => drop(bytes.pop()),
         _ => bytes.push(draws.byte()),
     }
 }
 
 /// None in so many of 16 replies; else one, or two with different numbers. Each number is drawn alike, and for a lone flaw
-/// the one that was given its number least often.
+/// the one that was given its number least often for what it can hit.
 pub fn drawn(draws: &mut Draws, often: impl Fn(Flaw) -> usize, kind: Kind, f: Fields, none: usize) -> Vec<Flaw> {
     let all = of(kind, f);
     let (whether, how) = (draws.word() / 8 % 16, draws.word() / 8 % 8);
@@ -201,13 +199,25 @@ pub fn drawn(draws: &mut Draws, often: impl Fn(Flaw) -> usize, kind: Kind, f: Fi
         let with_it: Vec<Flaw> = all.iter().copied().filter(|&flaw| meant(flaw) == number).collect();
         flaws.push(match two {
             true => with_it[draws.word() / 8 % with_it.len()],
-            false => with_it.into_iter().min_by_key(|&flaw| often(flaw)).expect("one at least"),
+            false => with_it
+                .into_iter()
+                .min_by_key(|&flaw| often(flaw) / weight(flaw))
+                .expect("one at least"),
         });
     }
     if whether < none {
         flaws.clear();
     }
     flaws
+}
+
+/// Flaws that can hit many places are drawn more often.
+fn weight(flaw: Flaw) -> usize {
+    match flaw {
+        Mac | Header => 4,
+        Challenge | Filler => 2,
+        _ => 1,
+    }
 }
 
 /// The keys with one bit of each changed.

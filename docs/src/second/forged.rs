@@ -7,6 +7,7 @@ use crate::cmac::cmac_96;
 use crate::draws::Draws;
 use crate::flaws::{filler_place, header_bytes, other_key, Flaw};
 use crate::frames::{self, constant, Fields, Kind};
+use crate::places::Places;
 use crate::sheet::Key;
 use crate::slips::flip;
 
@@ -17,36 +18,69 @@ struct Opened {
     rest: Vec<u8>,
 }
 
-/// The reply with these flaws; with none, the reply to a message with these fields, which may name another address than
-/// the one the tag was asked for.
-pub fn forged(draws: &mut Draws, key: &Key, kind: Kind, f: Fields, reply: &[u8], flaws: &[Flaw]) -> Vec<u8> {
-    if !matches!(kind, Kind::Tam1 | Kind::Tam2 | Kind::Mam1) {
-        return reply.to_vec();
+/// Who makes the replies: with which flaws, and where they hit.
+pub struct Forger<'a> {
+    pub draws: &'a mut Draws,
+    pub places: &'a mut Places,
+    pub flaws: &'a [Flaw],
+}
+
+impl Forger<'_> {
+    /// The reply with the flaws; with none, the reply to a message with these fields, which may name another address than
+    /// the one that the tag was asked for.
+    pub fn reply(&mut self, key: &Key, kind: Kind, f: Fields, reply: &[u8]) -> Vec<u8> {
+        if !matches!(kind, Kind::Tam1 | Kind::Tam2 | Kind::Mam1) {
+            return reply.to_vec();
+        }
+        let mut opened = opened(key, kind, f, reply);
+        if kind == Kind::Tam2 && f.rev == 1 {
+            let header = frames::header(f).expect("fields in their range");
+            opened.rest[..header.len()].copy_from_slice(&header);
+        }
+        self.flip(kind, Flaw::Challenge, &mut opened.plain[6..]);
+        if self.has(Flaw::Constant) {
+            another_constant(self.draws, &mut opened.plain);
+        }
+        if kind == Kind::Tam2 {
+            self.flip(kind, Flaw::Header, &mut opened.rest[..header_bytes(f)]);
+            self.flip(kind, Flaw::Filler, &mut opened.rest[filler_place(f)..]);
+        }
+        let other = other_key(self.draws, key);
+        let mut sealer = if self.has(Flaw::OtherKey) { other } else { *key };
+        if self.has(Flaw::MacKey) {
+            sealer.mac_key = other.mac_key;
+        }
+        self.sealed(&sealer, kind, f, &opened)
     }
-    let has = |flaw: Flaw| flaws.contains(&flaw);
-    let mut opened = opened(key, kind, f, reply);
-    if kind == Kind::Tam2 && f.rev == 1 {
-        let header = frames::header(f).expect("fields in their range");
-        opened.rest[..header.len()].copy_from_slice(&header);
+
+    fn sealed(&mut self, key: &Key, kind: Kind, f: Fields, opened: &Opened) -> Vec<u8> {
+        let mut first = encrypt(&key.enc_key, &opened.plain);
+        let mut rest = match chained(kind, f) {
+            true if self.has(Flaw::Way) => cbc_enc_aes_inv(&first, &key.enc_key, &opened.rest),
+            true => cbc_enc_aes(&first, &key.enc_key, &opened.rest),
+            false => opened.rest.clone(),
+        };
+        let covered = if self.has(Flaw::MacBefore) { &opened.rest } else { &rest };
+        let mut mac = match mac_bytes(kind, f) {
+            0 => Vec::new(),
+            _ => cmac_96(&key.mac_key, &[&first[..], covered].concat()),
+        };
+        self.flip(kind, Flaw::FirstBit, &mut first);
+        self.flip(kind, Flaw::Covered, &mut rest);
+        self.flip(kind, Flaw::Mac, &mut mac);
+        [&first[..], &rest, &mac].concat()
     }
-    if has(Flaw::Challenge) {
-        another_challenge(draws, &mut opened.plain);
+
+    fn has(&self, flaw: Flaw) -> bool {
+        self.flaws.contains(&flaw)
     }
-    if has(Flaw::Constant) {
-        another_constant(draws, &mut opened.plain);
+
+    /// One bit, where this is a flaw of the reply.
+    fn flip(&mut self, kind: Kind, flaw: Flaw, bytes: &mut [u8]) {
+        if self.has(flaw) {
+            self.places.flip(self.draws, kind, flaw, self.flaws.len() == 1, bytes);
+        }
     }
-    if has(Flaw::Header) {
-        flip(draws, &mut opened.rest[..header_bytes(f)]);
-    }
-    if has(Flaw::Filler) {
-        flip(draws, &mut opened.rest[filler_place(f)..]);
-    }
-    let other = other_key(draws, key);
-    let mut sealer = if has(Flaw::OtherKey) { other } else { *key };
-    if has(Flaw::MacKey) {
-        sealer.mac_key = other.mac_key;
-    }
-    sealed(draws, &sealer, kind, f, &opened, flaws)
 }
 
 fn opened(key: &Key, kind: Kind, f: Fields, reply: &[u8]) -> Opened {
@@ -62,31 +96,6 @@ fn opened(key: &Key, kind: Kind, f: Fields, reply: &[u8]) -> Opened {
     }
 }
 
-fn sealed(draws: &mut Draws, key: &Key, kind: Kind, f: Fields, opened: &Opened, flaws: &[Flaw]) -> Vec<u8> {
-    let has = |flaw: Flaw| flaws.contains(&flaw);
-    let mut first = encrypt(&key.enc_key, &opened.plain);
-    let mut rest = match chained(kind, f) {
-        true if has(Flaw::Way) => cbc_enc_aes_inv(&first, &key.enc_key, &opened.rest),
-        true => cbc_enc_aes(&first, &key.enc_key, &opened.rest),
-        false => opened.rest.clone(),
-    };
-    let covered = if has(Flaw::MacBefore) { &opened.rest } else { &rest };
-    let mut mac = match mac_bytes(kind, f) {
-        0 => Vec::new(),
-        _ => cmac_96(&key.mac_key, &[&first[..], covered].concat()),
-    };
-    if has(Flaw::FirstBit) {
-        flip(draws, &mut first);
-    }
-    if has(Flaw::Covered) {
-        flip(draws, &mut rest);
-    }
-    if has(Flaw::Mac) {
-        flip(draws, &mut mac);
-    }
-    [&first[..], &rest, &mac].concat()
-}
-
 fn chained(kind: Kind, f: Fields) -> bool {
     kind == Kind::Tam2 && f.protmode % 2 == 1
 }
@@ -98,20 +107,11 @@ fn mac_bytes(kind: Kind, f: Fields) -> usize {
     }
 }
 
-/// One bit, or all of it.
-fn another_challenge(draws: &mut Draws, plain: &mut Block) {
-    if draws.number() % 4 == 0 {
-        plain[6..].iter_mut().for_each(|byte| *byte ^= draws.byte() | 1);
-    } else {
-        flip(draws, &mut plain[6..]);
-    }
-}
-
 /// Another constant of 16 bits, or one bit of it.
 fn another_constant(draws: &mut Draws, plain: &mut Block) {
     let names = ["C_TAM1", "C_TAM2_0", "C_TAM2_1", "C_TAM2_2", "C_TAM2_3", "C_MAM1"];
     let other = constant(names[draws.number() % names.len()]).to_be_bytes();
-    if other == plain[..2] {
+    if draws.word() / 8 % 2 == 0 || other == plain[..2] {
         flip(draws, &mut plain[..2]);
     } else {
         plain[..2].copy_from_slice(&other);

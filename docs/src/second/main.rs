@@ -37,6 +37,7 @@ mod hex;
 mod judge;
 mod memory;
 mod orders;
+mod places;
 mod player;
 mod published;
 mod reader;

@@ -5,6 +5,7 @@ use crate::flaws::{self, comes_before, Flaw};
 use crate::frames::{self, Kind, KINDS};
 use crate::judge::{Judgement, DATA_ROOM};
 use crate::orders::{self, Misfit};
+use crate::places::Places;
 use crate::report::Report;
 use crate::script_reader::Case;
 use std::collections::{BTreeMap, BTreeSet};
@@ -29,6 +30,7 @@ pub struct ReaderTally {
     forms: BTreeMap<(u8, u128), usize>,
     /// By the length of the room and whether it was taken.
     rooms: BTreeMap<(usize, bool), usize>,
+    pub places: Places,
     offsets: BTreeSet<(u128, u128)>,
     /// The longest message built and the longest reply accepted.
     longest: [usize; 2],
@@ -127,6 +129,7 @@ impl ReaderTally {
         }
         let (offsets, last) = (self.offsets.len(), self.offsets.contains(&(0, 4095)));
         report.expect(&format!("{offsets} Offsets, the last being {last}"), offsets >= OFFSETS && last);
+        self.places.held(report);
         report.expect("16 blocks of 64 bits are built and judged", self.longest == [176, 172]);
     }
 }
