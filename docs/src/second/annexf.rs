@@ -4,7 +4,7 @@
 
 use crate::builder::{made, Order};
 use crate::frames::{fields, kind_of, Kind};
-use crate::hex::bytes;
+use crate::hex::{bytes, number};
 use crate::report::Report;
 use crate::script::{Bench, Call, Script};
 use crate::tag::{Answer, ROOM};
@@ -227,16 +227,16 @@ pub fn order(message: &[u8], example: &Example) -> Order {
     let mut fields = fields(kind, message);
     let (step, blocks) = ([8, 2][fields.blocksize as usize], fields.blockcount as usize + 1);
     let start = fields.offset as usize * step;
-    let number = |text: &str| bytes(text).iter().fold(0, |sum, &byte| sum << 8 | u128::from(byte));
+    let value = |text: &str| number(&bytes(text));
     if kind == Kind::Mam2 {
-        fields.ichallenge = number(&MAM1[4..]);
+        fields.ichallenge = value(&MAM1[4..]);
     }
     Order {
         kind,
         fields,
         purpose: 0,
-        irnd: number(IRND),
-        tchallenge: number(if kind == Kind::Mam2 { MAM1_DRAWS } else { TCHALLENGE }),
+        irnd: value(IRND),
+        tchallenge: value(if kind == Kind::Mam2 { MAM1_DRAWS } else { TCHALLENGE }),
         data: match kind {
             Kind::Iam3 => bytes(example.memory)[start..start + blocks * step].to_vec(),
             _ => Vec::new(),

@@ -6,6 +6,7 @@ use crate::draws::Draws;
 use crate::flaws::{self, Flaw};
 use crate::forged::Forger;
 use crate::frames::{data_bytes, Fields, Kind};
+use crate::hex::number;
 use crate::judge::{judge, Judgement, DATA_ROOM};
 use crate::memory::{request, Area, BlockSize, Memory, Profile};
 use crate::orders::{self, Misfit};
@@ -242,8 +243,4 @@ fn tag(draws: &mut Draws, key: Key) -> Tag {
         setup,
         session: Session::Initial,
     }
-}
-
-fn number(bytes: &[u8]) -> u128 {
-    bytes.iter().fold(0, |sum, &byte| sum << 8 | u128::from(byte))
 }

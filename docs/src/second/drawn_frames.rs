@@ -2,7 +2,7 @@
 
 use crate::draws::{digest, Draws};
 use crate::frames::{self, Fields, Kind, CONSTANTS, KINDS};
-use crate::hex::hex;
+use crate::hex::{self, hex};
 use crate::report::Report;
 
 const HEADERS: usize = 200;
@@ -111,18 +111,17 @@ fn drawn_fields(draws: &mut Draws) -> Fields {
     let (whether, rfu) = (draws.number() % 8, draws.number());
     let keyid = draws.number();
     let (profile, offset, blockcount, protmode) = (draws.number() % 17, offset(draws.word()), draws.number() % 17, draws.number() % 17);
-    let number = |bytes: &[u8]| bytes.iter().fold(0, |sum, &byte| sum << 8 | u128::from(byte));
     Fields {
         blocksize: blocksize as u128,
         rev: rev as u128,
         rfu: if whether == 0 { rfu as u128 } else { 0 },
         keyid: keyid as u128,
-        ichallenge: number(&draws.bytes(10)),
+        ichallenge: hex::number(&draws.bytes(10)),
         profile: profile as u128,
         offset: offset as u128,
         blockcount: blockcount as u128,
         protmode: protmode as u128,
-        iresponse: number(&draws.bytes(16)),
+        iresponse: hex::number(&draws.bytes(16)),
     }
 }
 

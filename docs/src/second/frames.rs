@@ -16,6 +16,11 @@ pub enum Kind {
 /// In the order in which the drawn cases take turns.
 pub const KINDS: [Kind; 7] = [Kind::Tam1, Kind::Tam2, Kind::Iam1, Kind::Iam2, Kind::Iam3, Kind::Mam1, Kind::Mam2];
 
+/// Where a kind stands among the seven.
+pub fn place(kind: Kind) -> usize {
+    KINDS.iter().position(|&k| k == kind).expect("all kinds are there")
+}
+
 /// A place in a message's layout: bits that never change, or a field.
 #[derive(Clone, Copy, PartialEq)]
 pub enum Part {

@@ -1,4 +1,4 @@
-//! Bytes as text and back.
+//! Bytes as text and back, and as numbers.
 
 /// The bytes in lower-case hexadecimal, with nothing between them.
 pub fn hex(bytes: &[u8]) -> String {
@@ -19,4 +19,9 @@ pub fn bytes(text: &str) -> Vec<u8> {
 /// The 16 bytes of a key, an IV or a block.
 pub fn block(text: &str) -> [u8; 16] {
     bytes(text).try_into().unwrap_or_else(|_| panic!("not 16 bytes: {text}"))
+}
+
+/// Up to 16 bytes as a number, most significant first.
+pub fn number(bytes: &[u8]) -> u128 {
+    bytes.iter().fold(0, |sum, &byte| sum << 8 | u128::from(byte))
 }

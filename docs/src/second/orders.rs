@@ -3,6 +3,7 @@
 use crate::builder::{Order, MESSAGE_ROOM};
 use crate::draws::Draws;
 use crate::frames::{data_bytes, Fields, Kind};
+use crate::hex::number;
 use crate::sheet::Key;
 
 /// All of them give 24.
@@ -83,7 +84,7 @@ fn offset(draws: &mut Draws) -> usize {
 }
 
 fn wide(draws: &mut Draws, bytes: usize) -> u128 {
-    draws.bytes(bytes).iter().fold(0, |sum, &byte| sum << 8 | u128::from(byte))
+    number(&draws.bytes(bytes))
 }
 
 /// The room that a build is lent: just enough, or up to 24 bytes more.

@@ -2,7 +2,7 @@
 
 use crate::draws::Draws;
 use crate::flaws::Flaw;
-use crate::frames::{Kind, KINDS};
+use crate::frames::{place, Kind, KINDS};
 use crate::report::Report;
 use crate::slips::flip;
 use std::collections::BTreeMap;
@@ -56,6 +56,5 @@ impl Places {
 }
 
 fn target(kind: Kind, flaw: Flaw, count: usize) -> Target {
-    let place = KINDS.iter().position(|&k| k == kind).expect("all kinds are there");
-    (place, flaw, if flaw == Flaw::Header { count } else { 0 })
+    (place(kind), flaw, if flaw == Flaw::Header { count } else { 0 })
 }

@@ -26,7 +26,7 @@
 //! was accepted (TAM1, TAM2, IAM1, IAM2, IAM3, MAM1, MAM2), and `refused`, with how often each number was given (1 to 7).
 
 use crate::draws::{digest, more};
-use crate::frames::{kind_of, Kind, KINDS};
+use crate::frames::{kind_of, place};
 use crate::memory::Memory;
 use crate::report::Report;
 use crate::sheet;
@@ -160,7 +160,7 @@ fn line(report: &mut Report, bench: &mut Bench, call: &Call, counts: &mut Counts
     };
     counts.calls += 1;
     match number {
-        0 => counts.accepted[place(kind_of(call.message[0]))] += 1,
+        0 => counts.accepted[kind_of(call.message[0]).map(place).expect("what is accepted is of a kind")] += 1,
         _ => counts.refused[usize::from(number)] += 1,
     }
     let purpose = purpose.map_or("-".to_string(), |value| value.to_string());
@@ -170,11 +170,6 @@ fn line(report: &mut Report, bench: &mut Bench, call: &Call, counts: &mut Counts
     report.line(&format!(
         "{tag} {calls} {number} {length} {purpose} {state} {room:012x} {areas:012x}"
     ));
-}
-
-/// Which of the seven kinds an accepted message is.
-fn place(kind: Option<Kind>) -> usize {
-    KINDS.iter().position(|&k| Some(k) == kind).expect("what is accepted is of a kind")
 }
 
 fn totals(report: &mut Report, counts: &Counts) {

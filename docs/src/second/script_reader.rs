@@ -44,8 +44,8 @@
 
 use crate::builder::{build, Order};
 use crate::draws::digest;
-use crate::frames::{kind_of, Fields, Kind, KINDS};
-use crate::hex::hex;
+use crate::frames::{kind_of, place, Fields, Kind, KINDS};
+use crate::hex::{hex, number};
 use crate::judge::judge;
 use crate::report::Report;
 use crate::sheet::Key;
@@ -214,10 +214,6 @@ fn take<'a>(rest: &mut &'a [u8], count: usize) -> &'a [u8] {
     taken
 }
 
-fn number(bytes: &[u8]) -> u128 {
-    bytes.iter().fold(0, |sum, &byte| sum << 8 | u128::from(byte))
-}
-
 /// The room of the next case.
 fn room(counts: &mut Counts, length: usize) -> Vec<u8> {
     counts.cases += 1;
@@ -237,7 +233,7 @@ fn judged(report: &mut Report, counts: &mut Counts, key: &Key, message: &[u8], r
     let mut room = room(counts, length);
     let result = judge(key, message, reply, &mut room);
     let kind = message.first().and_then(|&first| kind_of(first));
-    let accepted = result.as_ref().map(|_| place(kind.expect("what is accepted is of a kind")));
+    let accepted = result.as_ref().map(|_| kind.map(place).expect("what is accepted is of a kind"));
     count(accepted.map_err(|number| *number), &mut counts.judged, &mut counts.refused);
     let number = *result.as_ref().err().unwrap_or(&0);
     let judgement = result.unwrap_or_default();
@@ -256,10 +252,6 @@ fn count(result: Result<usize, u8>, accepted: &mut [usize; 7], refused: &mut [us
         Ok(kind) => accepted[kind] += 1,
         Err(number) => refused[usize::from(number) - 20] += 1,
     }
-}
-
-fn place(kind: Kind) -> usize {
-    KINDS.iter().position(|&k| k == kind).expect("all kinds are there")
 }
 
 fn totals(report: &mut Report, counts: &Counts) {

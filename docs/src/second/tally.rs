@@ -1,6 +1,6 @@
 //! What the drawn messages have shown, and whether it is enough.
 
-use crate::frames::{self, Kind, KINDS};
+use crate::frames::{self, place, Kind, KINDS};
 use crate::report::Report;
 use crate::slips::{self, Slip};
 use crate::tag::Answer;
@@ -88,8 +88,4 @@ impl Tally {
         }
         report.expect("16 blocks of 64 bits are read and written", self.longest == [176, 172]);
     }
-}
-
-fn place(kind: Kind) -> usize {
-    KINDS.iter().position(|&k| k == kind).expect("all kinds are there")
 }

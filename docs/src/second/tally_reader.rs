@@ -2,7 +2,7 @@
 
 use crate::builder::{Order, MESSAGE_ROOM};
 use crate::flaws::{self, comes_before, Flaw};
-use crate::frames::{self, Kind, KINDS};
+use crate::frames::{self, place, Kind, KINDS};
 use crate::judge::{Judgement, DATA_ROOM};
 use crate::orders::{self, Misfit};
 use crate::places::Places;
@@ -132,8 +132,4 @@ impl ReaderTally {
         self.places.held(report);
         report.expect("16 blocks of 64 bits are built and judged", self.longest == [176, 172]);
     }
-}
-
-fn place(kind: Kind) -> usize {
-    KINDS.iter().position(|&k| k == kind).expect("all kinds are there")
 }
