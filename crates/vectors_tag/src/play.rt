@@ -148,17 +148,19 @@ fn answered(
 ) -> Bench {
     let t = b.tag;
     let s = stepped(t, h, message, draws, room, identity, user);
-    let calls = after(b.calls);
+    printed(b, s, room, identity, user);
+    next(b, s, message)
+}
+
+// The bench with the tag as the call left it.
+fn next(b: Bench, s: Stepped, message: &[u8]) -> Bench {
     let tag = s.tag;
-    line::begun(b.tags, calls);
-    said(s);
-    shown(b, room, identity, user);
     let outcome = s.outcome;
     let before = b.counts;
     Bench {
         tag,
         tags: b.tags,
-        calls,
+        calls: after(b.calls),
         identity: b.identity,
         user: b.user,
         counts: counts::counted(before, outcome, message),
@@ -181,6 +183,16 @@ fn stepped(
     tag::step(t, message, draws, room, &mut identity[..i], &mut user[..u])
 }
 
+// The areas whole, with the bytes that were not lent.
+fn printed(b: Bench, s: Stepped, room: &[u8], identity: &[u8], user: &[u8]) {
+    let i = within(b.identity, identity);
+    let u = within(b.user, user);
+    line::begun(b.tags, after(b.calls));
+    said(s);
+    line::digests(room, &identity[..i], &user[..u]);
+}
+
+// Number, reply length, Purpose, and the state that the tag is left in.
 fn said(s: Stepped) {
     let outcome = s.outcome;
     let tag = s.tag;
@@ -188,11 +200,4 @@ fn said(s: Stepped) {
     let state = session.state;
     line::answer(outcome);
     line::state(state);
-}
-
-// Shows the areas whole.
-fn shown(b: Bench, room: &[u8], identity: &[u8], user: &[u8]) {
-    let i = within(b.identity, identity);
-    let u = within(b.user, user);
-    line::digests(room, &identity[..i], &user[..u]);
 }
