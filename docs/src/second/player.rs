@@ -145,6 +145,8 @@ impl<'a> Player<'a> {
         if slips.contains(&Slip::Key) {
             let known: Vec<u128> = self.bench.tag.setup.keys.iter().map(|key| u128::from(key.id)).collect();
             let start = self.draws.number() as u128;
+            // KeyID 0, so that an entry no record filled is named too
+            let start = if start < 64 { 0 } else { start };
             f.keyid = (start..).map(|id| id % 256).find(|id| !known.contains(id)).expect("few records");
         }
         let Some(reply) = self.send(kind, reader::asking(kind, f), slips) else {
