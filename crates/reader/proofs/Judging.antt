@@ -1,0 +1,92 @@
+-- What the judge leaves behind, from what it says.
+use mathlib.Core.Path.{_≡_, refl, sym, ap, _∙_}
+use mathlib.Core.Bool.{Bool, true, false}
+use mathlib.Core.List.{List, [], _∷_}
+use Prim.Native.Nat.{ℕ, _≤_}
+use native.Mathlib.Omega.{arith}
+use borrow.Author.Tests.{leb-true}
+use lib.Dec.{leb}
+use lib.ListN.{length, getD}
+use Rattle.ground.specs.Choice.{pick, both}
+use Rattle.modes.specs.Room.{over}
+use Rattle.frames.specs.declared.Kind.{Kind}
+use Rattle.frames.specs.declared.Tam1.{Tam1}
+use Rattle.frames.specs.declared.Mam1.{Mam1}
+use Rattle.frames.specs.Kinds.{kindOf}
+use Rattle.frames.specs.Lengths.{lengthFits}
+use Rattle.frames.proofs.Range.{both-left}
+use Rattle.reader.specs.declared.Keys.{Keys}
+use Rattle.reader.specs.declared.Fault.the-variants.{OwnMessage}
+use Rattle.reader.specs.declared.Judgement.{Judgement}
+use Rattle.reader.specs.Findings.{Finding, Check, refused, nothingMore, issues, judged, saidOf, verdictNumber, Judges}
+use Rattle.reader.specs.Judged.{tam1Finding, iam1Finding, mam1Finding, emptyFinding, byKind, ofKind, ofMessage, judgementOf}
+use Rattle.reader.specs.Own.{dataRoom, fieldsFit, ownFits}
+
+-- Data over the room's first bytes, as many as are said.
+pub judges : (f : Finding) (room after : List ℕ) (r : Judgement) → r ≡ saidOf f → after ≡ over (f .bytes) room → Judges f room r after
+judges f room after r e h = record { says = e; number = ap (λ (j : Judgement). verdictNumber (j .verdict)) e; holds = h }
+
+-- No data: no byte of the room changes.
+pub quiet : (f : Finding) (room : List ℕ) (r : Judgement) → f .bytes ≡ [] → r ≡ saidOf f → Judges f room r room
+quiet f room r n e = judges f room room r e (rw n)
+
+-- A judgement of one finding is one of the finding that it is.
+pub judges-as : {f g : Finding} {room after : List ℕ} {r : Judgement} → g ≡ f → Judges f room r after → Judges g room r after
+judges-as e h = rw e h
+
+-- A line of checks brings no data of its own.
+pub line-quiet : (cs : List Check) (found : Finding) → found .bytes ≡ [] → judged cs found .bytes ≡ []
+unfolding judged
+line-quiet [] found e = e
+line-quiet (c ∷ cs) found e = chosen (c .holds) (judged cs found) (refused (c .otherwise)) (line-quiet cs found e) refl
+  where
+    chosen : (b : Bool) (f g : Finding) → f .bytes ≡ [] → g .bytes ≡ [] → pick b f g .bytes ≡ []
+    chosen true f g p q = p
+    chosen false f g p q = q
+
+pub tam1-quiet : (keys : Keys) (f : Tam1) (reply : List ℕ) → tam1Finding keys f reply .bytes ≡ []
+unfolding tam1Finding
+tam1-quiet keys f reply = line-quiet _ nothingMore refl
+
+pub mam1-quiet : (keys : Keys) (f : Mam1) (reply : List ℕ) → mam1Finding keys f reply .bytes ≡ []
+unfolding mam1Finding
+mam1-quiet keys f reply = line-quiet _ (issues _) refl
+
+pub iam1-quiet : (reply : List ℕ) → iam1Finding reply .bytes ≡ []
+unfolding iam1Finding
+iam1-quiet reply = line-quiet _ (issues reply) refl
+
+pub empty-quiet : (reply : List ℕ) → emptyFinding reply .bytes ≡ []
+unfolding emptyFinding
+empty-quiet reply = line-quiet _ nothingMore refl
+
+-- The judge, from the message's first byte on.
+module _ (keys : Keys) (m reply : List ℕ) (room : ℕ) where
+  pub no-message : length m ≡ 0 → judgementOf keys m reply room ≡ refused OwnMessage
+  unfolding judgementOf ofMessage
+  no-message = on m
+    where
+      on : (l : List ℕ) → length l ≡ 0 → ofMessage keys m reply room l ≡ refused OwnMessage
+      on [] e = refl
+      on (x ∷ l) e = absurd (let w : ⊥ = omega arith in w)
+
+  by-first : (length m ≡ 0 → ⊥) → judgementOf keys m reply room ≡ ofKind keys m reply room (kindOf (getD m 0 0))
+  unfolding judgementOf ofMessage
+  by-first = on m
+    where
+      on : (l : List ℕ) → (length l ≡ 0 → ⊥) → ofMessage keys m reply room l ≡ ofKind keys m reply room (kindOf (getD l 0 0))
+      on [] h = absurd (h refl)
+      on (x ∷ l) h = refl
+
+  module _ (kind : Kind) (some : length m ≡ 0 → ⊥) (e : kind ≡ kindOf (getD m 0 0)) where
+    pub not-own : ownFits keys kind m room ≡ false → judgementOf keys m reply room ≡ refused OwnMessage
+    unfolding ofKind
+    not-own h = by-first some ∙ ap (ofKind keys m reply room) (sym e) ∙ ap (λ (b : Bool). pick b (byKind keys m reply kind) (refused OwnMessage)) h
+
+    pub own : ownFits keys kind m room ≡ true → judgementOf keys m reply room ≡ byKind keys m reply kind
+    unfolding ofKind
+    own h = by-first some ∙ ap (ofKind keys m reply room) (sym e) ∙ ap (λ (b : Bool). pick b (byKind keys m reply kind) (refused OwnMessage)) h
+
+pub room-enough : (keys : Keys) (kind : Kind) (m : List ℕ) (room : ℕ) → ownFits keys kind m room ≡ true → dataRoom ≤ room
+unfolding ownFits
+room-enough keys kind m room h = leb-true dataRoom room (both-left (leb dataRoom room) (both (lengthFits kind m) (fieldsFit keys kind m)) h)

@@ -1,0 +1,5 @@
+pub mod Lines
+pub mod Places
+pub mod Judging
+pub mod Clear
+pub mod FitsJudged

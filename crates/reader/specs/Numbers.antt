@@ -1,0 +1,11 @@
+-- The scope paper, "Numbers the reader's side gives".
+use Prim.Native.Nat.{ℕ}
+use Rattle.reader.specs.declared.Fault.{Fault}
+use Rattle.reader.specs.declared.Fault.the-variants.{ReplyLength, ChallengeWrong, MacWrong, HeaderWrong, OwnMessage}
+
+abbrev pub numberOf : Fault → ℕ
+numberOf ReplyLength = 20
+numberOf ChallengeWrong = 21
+numberOf MacWrong = 22
+numberOf HeaderWrong = 23
+numberOf OwnMessage = 24

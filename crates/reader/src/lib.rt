@@ -1,0 +1,47 @@
+// The reader's side of ISO/IEC 29167-10: it builds each message, and judges each reply.
+
+mod own; // own.rt: what a judge asks of the reader's own message
+mod opened; // opened.rt: what is opened of a reply
+mod said; // said.rt: a finding as the judge says it
+mod kinds; // kinds.rt: the replies that carry no data, by kind
+mod tam2; // tam2.rt: the reply to TAM2
+pub mod judged; // judged.rt: the judge of a reply
+
+/// The keys that the reader has of one record.
+pub struct Keys {
+    pub enc: [u8; 16],
+    pub mac: bool,
+    pub mackey: [u8; 16],
+}
+
+/// Why the reader's side refuses: the scope paper's numbers 20 to 24.
+pub enum Fault {
+    ReplyLength,
+    ChallengeWrong,
+    MacWrong,
+    HeaderWrong,
+    OwnMessage,
+}
+
+/// What a reply's data are worth: none came; no MAC proves them (ProtModes 0 and 1); the MAC proves them (2 and 3).
+pub enum Worth {
+    NoData,
+    Unproved,
+    Proved,
+}
+
+/// The end of a judgement.
+pub enum Verdict {
+    Accepted,
+    Refused(Fault),
+}
+
+/// What the judge says of a reply: the verdict; how many bytes of data stand in the data room's first bytes, and what they are worth;
+/// whether the tag issued a challenge, and the challenge (zeros where not).
+pub struct Judgement {
+    pub verdict: Verdict,
+    pub data: usize,
+    pub worth: Worth,
+    pub issued: bool,
+    pub challenge: [u8; 10],
+}
