@@ -44,22 +44,6 @@ line-quiet (c ∷ cs) found e = chosen (c .holds) (judged cs found) (refused (c 
     chosen true f g p q = p
     chosen false f g p q = q
 
-pub tam1-quiet : (keys : Keys) (f : Tam1) (reply : List ℕ) → tam1Finding keys f reply .bytes ≡ []
-unfolding tam1Finding
-tam1-quiet keys f reply = line-quiet _ nothingMore refl
-
-pub mam1-quiet : (keys : Keys) (f : Mam1) (reply : List ℕ) → mam1Finding keys f reply .bytes ≡ []
-unfolding mam1Finding
-mam1-quiet keys f reply = line-quiet _ (issues _) refl
-
-pub iam1-quiet : (reply : List ℕ) → iam1Finding reply .bytes ≡ []
-unfolding iam1Finding
-iam1-quiet reply = line-quiet _ (issues reply) refl
-
-pub empty-quiet : (reply : List ℕ) → emptyFinding reply .bytes ≡ []
-unfolding emptyFinding
-empty-quiet reply = line-quiet _ nothingMore refl
-
 -- The judge, from the message's first byte on.
 module _ (keys : Keys) (m reply : List ℕ) (room : ℕ) where
   pub no-message : length m ≡ 0 → judgementOf keys m reply room ≡ refused OwnMessage

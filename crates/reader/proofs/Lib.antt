@@ -1,5 +1,6 @@
 pub mod Lines
 pub mod Places
 pub mod Judging
+pub mod Arms
 pub mod Clear
 pub mod FitsJudged

@@ -1,13 +1,8 @@
 -- `reader::judged::by_kind` meets its contract.
-use mathlib.Core.Path.{refl, sym, ap, _∙_}
-use Rattle.frames.specs.declared.Tam1.{Tam1}
+use mathlib.Core.Path.{ap, _∙_}
 use Rattle.frames.specs.declared.Tam2.{Tam2}
-use Rattle.frames.specs.declared.Mam1.{Mam1}
 use Rattle.frames.specs.Fields.{customFits}
-use Rattle.frames.specs.Messages.{tam1Of, mam1Of}
-use Rattle.reader.specs.Findings.{refused, saidOf}
-use Rattle.reader.specs.Judged.{tam1Finding, tam2Finding, mam1Finding, byKind}
-use Rattle.reader.proofs.Judging.{quiet, judges-as, tam1-quiet, iam1-quiet, mam1-quiet, empty-quiet}
+use Rattle.reader.proofs.Arms.{tam1-arm, tam2-arm, iam1-arm, iam2-arm, iam3-arm, mam1-arm, mam2-arm, none-arm}
 use Rattle.reader.proofs.Clear.{tam2-in-range}
 use borrow.Author.Needs.{needs}
 use Rattle.reader.proofs.judged.by_kind.Statement.{statement}
@@ -23,10 +18,7 @@ tam1-requires : tie.Need-tam1-requires
 tam1-requires c κs = search needs
 
 returns : tie.Need-returns
-unfolding byKind
-returns c = let a = c .before .before .before .before .before .before .before .args in
-    judges-as (ap (byKind (a .keys) (a .message .now) (a .reply .now)) (c .before .before .enum-told .given .1))
-    (quiet _ _ _ (tam1-quiet (a .keys) (tam1Of (a .message .now)) (a .reply .now)) (c .tam1 .ensures ∙ ap (λ (f : Tam1). saidOf (tam1Finding (a .keys) f (a .reply .now))) (c .before .tam1-of .ensures)))
+returns c = tam1-arm _ _ _ _ _ _ _ (c .before .before .enum-told .given .1) (c .before .tam1-of .ensures) (c .tam1 .ensures)
 
 enum-told-2 : tie.Need-enum-told-2
 enum-told-2 c = search needs
@@ -42,12 +34,7 @@ same-length : tie.Need-same-length
 same-length c = search needs
 
 returns-2 : tie.Need-returns-2
-unfolding byKind
-returns-2 c = let t = c .before .before .before .before in
-    let a = t .before .before .before .before .before .before .args in
-    judges-as
-    (ap (byKind (a .keys) (a .message .now) (a .reply .now)) (t .before .enum-told2 .given .1) ∙ ap (λ (f : Tam2). tam2Finding (a .keys) f (a .reply .now)) (sym (t .tam2-of .ensures)))
-    (c .before .before .tam2 .ensures)
+returns-2 c = tam2-arm _ _ _ _ _ _ _ _ (c .before .before .before .before .before .enum-told2 .given .1) (c .before .before .before .before .tam2-of .ensures) (c .before .before .tam2 .ensures)
 
 enum-told-3 : tie.Need-enum-told-3
 enum-told-3 c = search needs
@@ -56,9 +43,7 @@ iam1-requires : tie.Need-iam1-requires
 iam1-requires c κs = search needs
 
 returns-3 : tie.Need-returns-3
-unfolding byKind
-returns-3 c = let a = c .before .before .before .before .before .before .args in
-    judges-as (ap (byKind (a .keys) (a .message .now) (a .reply .now)) (c .before .enum-told3 .given .1)) (quiet _ _ _ (iam1-quiet (a .reply .now)) (c .iam1 .ensures))
+returns-3 c = iam1-arm _ _ _ _ _ _ (c .before .enum-told3 .given .1) (c .iam1 .ensures)
 
 enum-told-4 : tie.Need-enum-told-4
 enum-told-4 c = search needs
@@ -67,9 +52,7 @@ empty-requires : tie.Need-empty-requires
 empty-requires c κs = search needs
 
 returns-4 : tie.Need-returns-4
-unfolding byKind
-returns-4 c = let a = c .before .before .before .before .before .before .args in
-    judges-as (ap (byKind (a .keys) (a .message .now) (a .reply .now)) (c .before .enum-told4 .given .1)) (quiet _ _ _ (empty-quiet (a .reply .now)) (c .empty .ensures))
+returns-4 c = iam2-arm _ _ _ _ _ _ (c .before .enum-told4 .given .1) (c .empty .ensures)
 
 enum-told-5 : tie.Need-enum-told-5
 enum-told-5 c = search needs
@@ -78,9 +61,7 @@ empty-requires-2 : tie.Need-empty-requires-2
 empty-requires-2 c κs = search needs
 
 returns-5 : tie.Need-returns-5
-unfolding byKind
-returns-5 c = let a = c .before .before .before .before .before .before .args in
-    judges-as (ap (byKind (a .keys) (a .message .now) (a .reply .now)) (c .before .enum-told5 .given .1)) (quiet _ _ _ (empty-quiet (a .reply .now)) (c .empty2 .ensures))
+returns-5 c = iam3-arm _ _ _ _ _ _ (c .before .enum-told5 .given .1) (c .empty2 .ensures)
 
 enum-told-6 : tie.Need-enum-told-6
 enum-told-6 c = search needs
@@ -92,10 +73,7 @@ mam1-requires : tie.Need-mam1-requires
 mam1-requires c κs = search needs
 
 returns-6 : tie.Need-returns-6
-unfolding byKind
-returns-6 c = let a = c .before .before .before .before .before .before .before .args in
-    judges-as (ap (byKind (a .keys) (a .message .now) (a .reply .now)) (c .before .before .enum-told6 .given .1))
-    (quiet _ _ _ (mam1-quiet (a .keys) (mam1Of (a .message .now)) (a .reply .now)) (c .mam1 .ensures ∙ ap (λ (f : Mam1). saidOf (mam1Finding (a .keys) f (a .reply .now))) (c .before .mam1-of .ensures)))
+returns-6 c = mam1-arm _ _ _ _ _ _ _ (c .before .before .enum-told6 .given .1) (c .before .mam1-of .ensures) (c .mam1 .ensures)
 
 enum-told-7 : tie.Need-enum-told-7
 enum-told-7 c = search needs
@@ -104,9 +82,7 @@ empty-requires-3 : tie.Need-empty-requires-3
 empty-requires-3 c κs = search needs
 
 returns-7 : tie.Need-returns-7
-unfolding byKind
-returns-7 c = let a = c .before .before .before .before .before .before .args in
-    judges-as (ap (byKind (a .keys) (a .message .now) (a .reply .now)) (c .before .enum-told7 .given .1)) (quiet _ _ _ (empty-quiet (a .reply .now)) (c .empty3 .ensures))
+returns-7 c = mam2-arm _ _ _ _ _ _ (c .before .enum-told7 .given .1) (c .empty3 .ensures)
 
 enum-told-8 : tie.Need-enum-told-8
 enum-told-8 c = search needs
@@ -115,9 +91,7 @@ refused-requires : tie.Need-refused-requires
 refused-requires c κs = search needs
 
 returns-8 : tie.Need-returns-8
-unfolding byKind
-returns-8 c = let a = c .before .before .before .before .before .before .args in
-    judges-as (ap (byKind (a .keys) (a .message .now) (a .reply .now)) (c .before .enum-told8 .given .1)) (quiet (refused _) _ _ refl (c .refused .ensures))
+returns-8 c = none-arm _ _ _ _ _ _ (c .before .enum-told8 .given .1) (c .refused .ensures)
 
 pub by-kind-spec : {M : Type 1} → statement M
 by-kind-spec =
