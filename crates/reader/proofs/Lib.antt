@@ -4,3 +4,5 @@ pub mod Judging
 pub mod Arms
 pub mod Clear
 pub mod FitsJudged
+pub mod Making
+pub mod FitsBuild

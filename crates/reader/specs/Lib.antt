@@ -4,3 +4,5 @@ pub mod Findings
 pub mod Own
 pub mod Opened
 pub mod Judged
+pub mod Makes
+pub mod Builds

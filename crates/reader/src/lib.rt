@@ -6,6 +6,7 @@ mod said; // said.rt: a finding as the judge says it
 mod kinds; // kinds.rt: the replies that carry no data, by kind
 mod tam2; // tam2.rt: the reply to TAM2
 pub mod judged; // judged.rt: the judge of a reply
+pub mod build; // build.rt: each message from its fields and keys, into a room
 
 /// The keys that the reader has of one record.
 pub struct Keys {
@@ -44,4 +45,10 @@ pub struct Judgement {
     pub worth: Worth,
     pub issued: bool,
     pub challenge: [u8; 10],
+}
+
+/// What a builder answers: a message of so many bytes in the room's first bytes, or a refusal, and the room as it was.
+pub enum Made {
+    Message(usize),
+    Refused(Fault),
 }

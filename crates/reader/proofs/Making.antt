@@ -1,0 +1,97 @@
+-- A builder's answer from its parts: what is not fit, a room that is too short, and what frames built. Assumes nothing.
+use mathlib.Core.Path.{_≡_, refl, sym, ap, ap₂, _∙_}
+use mathlib.Core.Bool.{Bool, true, false}
+use mathlib.Core.List.{List, _++_}
+use Prim.Native.Nat.{ℕ, _≤_, _<_}
+use native.Mathlib.Omega.{arith}
+use borrow.Author.Tests.{le-leb, lt-leb, lt-ltb, leb-true}
+use lib.Dec.{leb, ltb}
+use lib.ListN.{length, drop}
+use Rattle.ground.specs.Choice.{pick, both, implies}
+use Rattle.modes.specs.Room.{over}
+use Rattle.frames.specs.declared.Custom.{Custom}
+use Rattle.frames.specs.Built.{Built}
+use Rattle.frames.specs.Fields.{customFits}
+use Rattle.frames.specs.Lengths.{hasMac, macLength, messageRoom}
+use Rattle.frames.specs.Messages.{selectFits}
+use Rattle.frames.proofs.Range.{both-left}
+use Rattle.reader.specs.declared.Keys.{Keys}
+use Rattle.reader.specs.declared.Made.{Made}
+use Rattle.reader.specs.declared.Made.the-variants.{Message, Refused}
+use Rattle.reader.specs.declared.Fault.the-variants.{OwnMessage}
+use Rattle.reader.specs.Builds.{modeFits}
+use Rattle.reader.specs.Makes.{Makes, madeNumber, taken}
+
+numbered : (b : Bool) (n : ℕ) → madeNumber (pick b (Message n) (Refused OwnMessage)) ≡ pick b 0 24
+numbered true n = refl
+numbered false n = refl
+
+-- by one test t that says whether the message is taken
+pub decided : (fit t : Bool) (message room after : List ℕ) (answer : Made) → t ≡ taken fit room → answer ≡ pick t (Message (length message)) (Refused OwnMessage)
+    → after ≡ pick t (over message room) room → Makes fit message room answer after
+decided fit t message room after answer e says holds = record {
+  says = says ∙ ap (λ (b : Bool). pick b (Message (length message)) (Refused OwnMessage)) e;
+  number = ap madeNumber says ∙ numbered t (length message) ∙ ap (λ (b : Bool). pick b 0 24) e;
+  holds = holds ∙ ap (λ (b : Bool). pick b (over message room) room) e;
+}
+
+no-room : (fit : Bool) → both fit false ≡ false
+no-room true = refl
+no-room false = refl
+
+room-enough : (fit : Bool) → both fit true ≡ fit
+room-enough true = refl
+room-enough false = refl
+
+pub short : (fit : Bool) (message room : List ℕ) → length room < messageRoom → Makes fit message room (Refused OwnMessage) room
+short fit message room h = decided fit false message room room (Refused OwnMessage) (sym (ap (both fit) (lt-leb messageRoom (length room) h) ∙ no-room fit)) refl refl
+
+pub unfit : (fit : Bool) (message room : List ℕ) → fit ≡ false → Makes fit message room (Refused OwnMessage) room
+unfit fit message room e = decided fit false message room room (Refused OwnMessage) (ap (λ (b : Bool). both b (leb messageRoom (length room))) (sym e)) refl refl
+
+-- what frames built, in a room that has the bytes of the longest message
+pub built : (fit fields b : Bool) (n : ℕ) (message room after : List ℕ) (answer : Made) → messageRoom ≤ length room → fields ≡ fit → length message ≡ n → n ≤ messageRoom
+    → Built fields n message room b after → answer ≡ pick b (Message n) (Refused OwnMessage) → Makes fit message room answer after
+built fit fields b n message room after answer h e l m r says =
+    let t : both fields (leb n (length room)) ≡ fit = ap (both fields) (le-leb n (length room) (omega arith)) ∙ room-enough fields ∙ e in
+    decided fit fit message room after answer (sym (ap (both fit) (le-leb messageRoom (length room) h) ∙ room-enough fit))
+    (says ∙ ap₂ {C = Made} (λ x k. pick x (Message k) (Refused OwnMessage)) (r .says ∙ t) (sym l))
+    (r .holds ∙ ap₂ {C = List ℕ} (λ x k. pick x (message ++ drop k room) room) t (sym l))
+
+-- ---- ProtMode
+
+module _ (keys : Keys) (protmode : ℕ) where
+  pub mode-over : 3 < protmode → false ≡ modeFits keys protmode
+  unfolding modeFits
+  mode-over h = ap (λ (b : Bool). both b (implies (hasMac protmode) (keys .mac))) (sym (lt-leb protmode 3 h))
+
+  mode-in : protmode ≤ 3 → (t : Bool) → hasMac protmode ≡ t → implies t (keys .mac) ≡ modeFits keys protmode
+  unfolding modeFits
+  mode-in h t e = ap₂ both (sym (le-leb protmode 3 h)) (ap (λ (b : Bool). implies b (keys .mac)) (sym e))
+
+  without : (t : Bool) → pick {A = ℕ} t 12 0 ≡ 0 → t ≡ false
+  without true e = absurd (let z : ⊥ = omega arith in z)
+  without false e = refl
+
+  with : (t : Bool) → (pick {A = ℕ} t 12 0 ≡ 0 → ⊥) → t ≡ true
+  with true e = refl
+  with false e = absurd (e refl)
+
+  pub mode-plain : protmode ≤ 3 → macLength protmode ≡ 0 → true ≡ modeFits keys protmode
+  unfolding macLength
+  mode-plain h e = mode-in h false (without (hasMac protmode) e)
+
+  pub mode-mac : protmode ≤ 3 → (macLength protmode ≡ 0 → ⊥) → keys .mac ≡ modeFits keys protmode
+  unfolding macLength
+  mode-mac h e = mode-in h true (with (hasMac protmode) e)
+
+  pub mode-range : modeFits keys protmode ≡ true → protmode ≤ 3
+  unfolding modeFits
+  mode-range e = leb-true protmode 3 (both-left (leb protmode 3) (implies (hasMac protmode) (keys .mac)) e)
+
+  -- what frames asks of the fields, once the ProtMode fits
+  pub select-fit : (custom : Custom) → modeFits keys protmode ≡ true → selectFits 0 custom protmode ≡ both (modeFits keys protmode) (customFits custom)
+  unfolding selectFits
+  select-fit custom e =
+      let l = mode-range e in
+      ap (λ (b : Bool). both b (customFits custom)) (lt-ltb protmode 16 (omega arith) ∙ sym e)
