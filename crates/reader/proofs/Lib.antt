@@ -6,3 +6,4 @@ pub mod Clear
 pub mod FitsJudged
 pub mod Making
 pub mod FitsBuild
+pub mod Responses

@@ -1,0 +1,2 @@
+pub mod Proofs
+pub mod Entry

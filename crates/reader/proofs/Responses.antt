@@ -1,0 +1,46 @@
+-- The block that the reader sends: it is sixteen bytes, and the tag's encryption opens it.
+use mathlib.Core.Path.{_≡_}
+use mathlib.Core.List.{List, [], _∷_, _++_}
+use Prim.Native.Nat.{ℕ, zero, suc, _+_, _*_, _/_, _%_, _<_, _≤_}
+use native.Mathlib.Omega.{arith}
+use lib.ListN.{length, getD, length-append}
+use Rattle.field.proofs.Block.{Bytes, Block}
+use Rattle.aes.specs.AesEnc.{aesEnc}
+use Rattle.aes_inverse.specs.AesDec.{aesDec}
+use Rattle.aes_inverse.proofs.Inverse.{dec-block, enc-dec}
+use Rattle.frames.specs.Constants.{withPurpose}
+use Rattle.reader.specs.Builds.{response}
+
+-- what is joined of bytes is bytes
+pub joined-bytes : (a b : List ℕ) → Bytes a → Bytes b → Bytes (a ++ b)
+joined-bytes [] b ha hb i = hb i
+joined-bytes (x ∷ xs) b ha hb zero = ha 0
+joined-bytes (x ∷ xs) b ha hb (suc i) = joined-bytes xs b (λ j. ha (suc j)) hb i
+
+-- a constant of 12 bits, and a Purpose, are two bytes
+pub constant-bytes : (k purpose : ℕ) → k < 4096 → Bytes (withPurpose k purpose)
+unfolding withPurpose
+constant-bytes k purpose h zero = let e : k / 16 < 256 = omega arith in e
+constant-bytes k purpose h (suc zero) = let e : k % 16 * 16 + purpose % 16 < 256 = omega arith in e
+constant-bytes k purpose h (suc (suc i)) = omega arith
+
+pub constant-two : (k purpose : ℕ) → length (withPurpose k purpose) ≡ 2
+unfolding withPurpose
+constant-two k purpose = omega arith
+
+module _ (enc constant middle tchallenge : List ℕ) (k : Bytes enc) (c : Bytes constant) (m : Bytes middle) (t : Bytes tchallenge)
+    (c2 : length constant ≡ 2) (m4 : length middle ≡ 4) (t10 : length tchallenge ≡ 10)
+  where
+    in-clear : Block (constant ++ (middle ++ tchallenge))
+    in-clear = record {
+      sixteen = omega (arith, length-append constant (middle ++ tchallenge), length-append middle tchallenge);
+      bytes = joined-bytes constant (middle ++ tchallenge) c (joined-bytes middle tchallenge m t);
+    }
+
+    pub response-block : Block (response enc constant middle tchallenge)
+    unfolding response
+    response-block = dec-block enc (constant ++ (middle ++ tchallenge)) k in-clear
+
+    pub response-opened : aesEnc enc (response enc constant middle tchallenge) ≡ constant ++ (middle ++ tchallenge)
+    unfolding response
+    response-opened = enc-dec enc (constant ++ (middle ++ tchallenge)) k in-clear
