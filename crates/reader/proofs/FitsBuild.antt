@@ -15,6 +15,10 @@ use Rattle.reader.proofs.build.iam1.Reads as iam1
 use Rattle.reader.proofs.build.iam1.Kinds as iam1-kinds
 use Rattle.reader.proofs.build.mam1.Reads as mam1
 use Rattle.reader.proofs.build.mam1.Kinds as mam1-kinds
+use Rattle.reader.proofs.build.iam2.Reads as iam2
+use Rattle.reader.proofs.build.iam2.Kinds as iam2-kinds
+use Rattle.reader.proofs.build.mam2.Reads as mam2
+use Rattle.reader.proofs.build.mam2.Kinds as mam2-kinds
 
 one-made : (fit : Bool) (message room : List ℕ) (x y : Made) (s t : List ℕ) → Makes fit message room x s → Makes fit message room y t → _≡_ {A = Made × List ℕ} (x, s) (y, t)
 one-made fit message room x y s t p q i = (one (p .says) (q .says) i, one (p .holds) (q .holds) i)
@@ -30,3 +34,9 @@ iam1-one κs a x y s t p q = one-made _ _ _ _ _ _ _ p q
 
 pub mam1-one : OneAnswer 1 mam1-kinds.ps mam1-kinds.r mam1.Post (Made × List ℕ) (λ κs r s. (r, now (s .1 .1 .0)))
 mam1-one κs a x y s t p q = one-made _ _ _ _ _ _ _ p q
+
+pub iam2-one : OneAnswer 1 iam2-kinds.ps iam2-kinds.r iam2.Post (Made × List ℕ) (λ κs r s. (r, now (s .1 .1 .1 .1 .0)))
+iam2-one κs a x y s t p q = one-made _ _ _ _ _ _ _ p q
+
+pub mam2-one : OneAnswer 1 mam2-kinds.ps mam2-kinds.r mam2.Post (Made × List ℕ) (λ κs r s. (r, now (s .1 .1 .1 .1 .0)))
+mam2-one κs a x y s t p q = one-made _ _ _ _ _ _ _ p q

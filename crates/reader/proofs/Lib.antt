@@ -7,3 +7,4 @@ pub mod FitsJudged
 pub mod Making
 pub mod FitsBuild
 pub mod Responses
+pub mod Listed

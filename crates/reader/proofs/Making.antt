@@ -4,7 +4,7 @@ use mathlib.Core.Bool.{Bool, true, false}
 use mathlib.Core.List.{List, _++_}
 use Prim.Native.Nat.{ℕ, _≤_, _<_}
 use native.Mathlib.Omega.{arith}
-use borrow.Author.Tests.{le-leb, lt-leb, lt-ltb, leb-true}
+use borrow.Author.Tests.{le-leb, lt-leb, lt-ltb, le-ltb, leb-true}
 use lib.Dec.{leb, ltb}
 use lib.ListN.{length, drop}
 use Rattle.ground.specs.Choice.{pick, both, implies}
@@ -12,14 +12,14 @@ use Rattle.modes.specs.Room.{over}
 use Rattle.frames.specs.declared.Custom.{Custom}
 use Rattle.frames.specs.Built.{Built}
 use Rattle.frames.specs.Fields.{customFits}
-use Rattle.frames.specs.Lengths.{hasMac, macLength, messageRoom}
+use Rattle.frames.specs.Lengths.{hasMac, messageRoom}
 use Rattle.frames.specs.Messages.{selectFits}
 use Rattle.frames.proofs.Range.{both-left}
 use Rattle.reader.specs.declared.Keys.{Keys}
 use Rattle.reader.specs.declared.Made.{Made}
 use Rattle.reader.specs.declared.Made.the-variants.{Message, Refused}
 use Rattle.reader.specs.declared.Fault.the-variants.{OwnMessage}
-use Rattle.reader.specs.Builds.{modeFits}
+use Rattle.reader.specs.Builds.{purposeFits, modeFits}
 use Rattle.reader.specs.Makes.{Makes, madeNumber, taken}
 
 numbered : (b : Bool) (n : ℕ) → madeNumber (pick b (Message n) (Refused OwnMessage)) ≡ pick b 0 24
@@ -58,6 +58,20 @@ built fit fields b n message room after answer h e l m r says =
     (says ∙ ap₂ {C = Made} (λ x k. pick x (Message k) (Refused OwnMessage)) (r .says ∙ t) (sym l))
     (r .holds ∙ ap₂ {C = List ℕ} (λ x k. pick x (message ++ drop k room) room) t (sym l))
 
+-- the same message in other words
+pub in-words : (fit : Bool) (l message room after : List ℕ) (answer : Made) → l ≡ message → Makes fit l room answer after → Makes fit message room answer after
+in-words fit l message room after answer e h = rw (← e) h
+
+-- ---- Purpose
+
+pub purpose-over : (purpose : ℕ) → 16 ≤ purpose → purposeFits purpose ≡ false
+unfolding purposeFits
+purpose-over purpose h = le-ltb purpose 16 h
+
+pub purpose-in : (purpose : ℕ) → purpose < 16 → true ≡ purposeFits purpose
+unfolding purposeFits
+purpose-in purpose h = sym (lt-ltb purpose 16 h)
+
 -- ---- ProtMode
 
 module _ (keys : Keys) (protmode : ℕ) where
@@ -65,25 +79,15 @@ module _ (keys : Keys) (protmode : ℕ) where
   unfolding modeFits
   mode-over h = ap (λ (b : Bool). both b (implies (hasMac protmode) (keys .mac))) (sym (lt-leb protmode 3 h))
 
-  mode-in : protmode ≤ 3 → (t : Bool) → hasMac protmode ≡ t → implies t (keys .mac) ≡ modeFits keys protmode
+  mode-in : protmode ≤ 3 → (t : Bool) → t ≡ hasMac protmode → implies t (keys .mac) ≡ modeFits keys protmode
   unfolding modeFits
-  mode-in h t e = ap₂ both (sym (le-leb protmode 3 h)) (ap (λ (b : Bool). implies b (keys .mac)) (sym e))
+  mode-in h t e = ap₂ both (sym (le-leb protmode 3 h)) (ap (λ (b : Bool). implies b (keys .mac)) e)
 
-  without : (t : Bool) → pick {A = ℕ} t 12 0 ≡ 0 → t ≡ false
-  without true e = absurd (let z : ⊥ = omega arith in z)
-  without false e = refl
+  pub mode-mac : (t : Bool) → protmode ≤ 3 → t ≡ hasMac protmode → t ≡ true → keys .mac ≡ modeFits keys protmode
+  mode-mac t h e q = mode-in h true (sym q ∙ e)
 
-  with : (t : Bool) → (pick {A = ℕ} t 12 0 ≡ 0 → ⊥) → t ≡ true
-  with true e = refl
-  with false e = absurd (e refl)
-
-  pub mode-plain : protmode ≤ 3 → macLength protmode ≡ 0 → true ≡ modeFits keys protmode
-  unfolding macLength
-  mode-plain h e = mode-in h false (without (hasMac protmode) e)
-
-  pub mode-mac : protmode ≤ 3 → (macLength protmode ≡ 0 → ⊥) → keys .mac ≡ modeFits keys protmode
-  unfolding macLength
-  mode-mac h e = mode-in h true (with (hasMac protmode) e)
+  pub mode-plain : (t : Bool) → protmode ≤ 3 → t ≡ hasMac protmode → t ≡ false → true ≡ modeFits keys protmode
+  mode-plain t h e q = mode-in h false (sym q ∙ e)
 
   pub mode-range : modeFits keys protmode ≡ true → protmode ≤ 3
   unfolding modeFits

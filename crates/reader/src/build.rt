@@ -5,19 +5,26 @@ use super::Keys;
 use super::Made;
 use frames::Custom;
 use frames::Iam1;
+use frames::Iam2;
 use frames::Mam1;
+use frames::Mam2;
 use frames::Tam1;
 use frames::Tam2;
 use frames::build::iam1_into;
+use frames::build::iam2_into;
 use frames::build::mam1_into;
+use frames::build::mam2_into;
 use frames::build::tam1_into;
 use frames::build::tam2_into;
-use frames::sizes::mac_length;
+use frames::constants::iam2_constant;
+use frames::constants::mam2_constant;
+use payload::block_of;
+use payload::has_mac;
 ghost use mathlib.Core.Path.{_≡_};
 ghost use mathlib.Core.Bool.{true};
 ghost use Rattle.ground.specs.Choice.{pick, both};
 ghost use Rattle.frames.specs.Fields.{customFits};
-ghost use Rattle.reader.specs.Builds.{purposeFits, modeFits, tam1Made, tam2Made, iam1Made, mam1Made};
+ghost use Rattle.reader.specs.Builds.{purposeFits, modeFits, tam1Made, tam2Made, iam1Made, mam1Made, response, iam2Made, mam2Made};
 ghost use Rattle.reader.specs.Makes.{Makes};
 
 // Is the ProtMode one that the reader can judge?
@@ -27,10 +34,10 @@ fn mode_fits(keys: Keys, protmode: u8) -> bool
     if 3 < protmode {
         return false;
     }
-    if mac_length(protmode) == 0 {
-        return true;
+    if has_mac(protmode) {
+        return keys.mac;
     }
-    keys.mac
+    true
 }
 
 // What is built of frames' answer: a message of so many bytes, or nothing.
@@ -41,6 +48,13 @@ fn made(built: bool, n: usize) -> Made
         return Made::Message(n);
     }
     Made::Refused(Fault::OwnMessage)
+}
+
+// The block that the tag opens by encryption: the reader makes it by decryption (9.5.4, 9.5.8.1 a, 9.6.4).
+fn response(enc: [u8; 16], constant: [u8; 2], middle: [u8; 4], tchallenge: [u8; 10]) -> [u8; 16]
+    ensures { λ r. ⌜ r ≡ response enc constant middle tchallenge ⌝ }
+{
+    aes_inverse::decrypt(enc, block_of(constant, middle, tchallenge))
 }
 
 /// TAM1 (9.4.2). Ruled out: a message in a room of 12 bytes; the KeyID of another record.
@@ -120,4 +134,41 @@ pub fn mam1(keyid: u8, ichallenge: [u8; 10], room: &mut [u8]) -> Made
         ),
         12,
     )
+}
+
+/// IAM2 (9.5.4, 9.5.5). Ruled out: IResponse by AES-ENC; a Purpose of five bits carried into the constant.
+pub fn iam2(keys: Keys, purpose: u8, irnd: [u8; 4], tchallenge: [u8; 10], room: &mut [u8]) -> Made
+    ensures { λ r. ⌜ Makes (purposeFits purpose) (iam2Made keys purpose irnd tchallenge) (now (room .entry)) r (now (room .exit)) ⌝ }
+{
+    if room.len() < 176 {
+        return Made::Refused(Fault::OwnMessage);
+    }
+    if 16 <= purpose {
+        return Made::Refused(Fault::OwnMessage);
+    }
+    let enc = keys.enc;
+    let iresponse = response(enc, iam2_constant(purpose), irnd, tchallenge);
+    made(iam2_into(Iam2 { rfu: 0, iresponse }, room), 17)
+}
+
+/// MAM2 (9.6.4, 9.6.5). Ruled out: the first four bytes of IChallenge in place of its last; the tag's challenge left out.
+pub fn mam2(
+    keys: Keys,
+    purpose: u8,
+    ichallenge: [u8; 10],
+    tchallenge: [u8; 10],
+    room: &mut [u8],
+) -> Made
+    ensures { λ r. ⌜ Makes (purposeFits purpose) (mam2Made keys purpose ichallenge tchallenge) (now (room .entry)) r (now (room .exit)) ⌝ }
+{
+    if room.len() < 176 {
+        return Made::Refused(Fault::OwnMessage);
+    }
+    if 16 <= purpose {
+        return Made::Refused(Fault::OwnMessage);
+    }
+    let enc = keys.enc;
+    let last = [ichallenge[6], ichallenge[7], ichallenge[8], ichallenge[9]];
+    let iresponse = response(enc, mam2_constant(purpose), last, tchallenge);
+    made(mam2_into(Mam2 { rfu: 0, iresponse }, room), 17)
 }

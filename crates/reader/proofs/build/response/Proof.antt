@@ -1,0 +1,20 @@
+-- `reader::build::response` meets its contract. Assumes nothing.
+use mathlib.Core.Path.{ap, _∙_}
+use Rattle.aes_inverse.specs.AesDec.{aesDec}
+use Rattle.reader.specs.Builds.{response}
+use borrow.Author.Needs.{needs}
+use Rattle.reader.proofs.build.response.Statement.{statement}
+use Rattle.reader.proofs.build.response.Tie as tie
+
+block-of-requires : tie.Need-block-of-requires
+block-of-requires c κs = search needs
+
+decrypt-requires : tie.Need-decrypt-requires
+decrypt-requires c κs = search needs
+
+returns : tie.Need-returns
+unfolding response
+returns c = c .decrypt .ensures ∙ ap (aesDec (c .before .before .args .enc)) (c .before .block-of .ensures)
+
+pub response-spec : {M : Type 1} → statement M
+response-spec = tie.close (tie.spec block-of-requires decrypt-requires returns)
