@@ -19,6 +19,8 @@ use Rattle.reader.proofs.build.iam2.Reads as iam2
 use Rattle.reader.proofs.build.iam2.Kinds as iam2-kinds
 use Rattle.reader.proofs.build.mam2.Reads as mam2
 use Rattle.reader.proofs.build.mam2.Kinds as mam2-kinds
+use Rattle.reader.proofs.build.iam3.Reads as iam3
+use Rattle.reader.proofs.build.iam3.Kinds as iam3-kinds
 
 one-made : (fit : Bool) (message room : List ℕ) (x y : Made) (s t : List ℕ) → Makes fit message room x s → Makes fit message room y t → _≡_ {A = Made × List ℕ} (x, s) (y, t)
 one-made fit message room x y s t p q i = (one (p .says) (q .says) i, one (p .holds) (q .holds) i)
@@ -40,3 +42,6 @@ iam2-one κs a x y s t p q = one-made _ _ _ _ _ _ _ p q
 
 pub mam2-one : OneAnswer 1 mam2-kinds.ps mam2-kinds.r mam2.Post (Made × List ℕ) (λ κs r s. (r, now (s .1 .1 .1 .1 .0)))
 mam2-one κs a x y s t p q = one-made _ _ _ _ _ _ _ p q
+
+pub iam3-one : OneAnswer 2 iam3-kinds.ps iam3-kinds.r iam3.Post (Made × List ℕ) (λ κs r s. (r, now (s .1 .1 .1 .1 .1 .1 .1 .0)))
+iam3-one κs a x y s t p q = one-made _ _ _ _ _ _ _ p q

@@ -8,3 +8,5 @@ pub mod Making
 pub mod FitsBuild
 pub mod Responses
 pub mod Listed
+pub mod Sending
+pub mod Iam3Made

@@ -1,26 +1,34 @@
 -- A builder's answer from its parts: what is not fit, a room that is too short, and what frames built. Assumes nothing.
 use mathlib.Core.Path.{_≡_, refl, sym, ap, ap₂, _∙_}
-use mathlib.Core.Bool.{Bool, true, false}
+use mathlib.Core.Bool.{Bool, true, false, not}
 use mathlib.Core.List.{List, _++_}
 use Prim.Native.Nat.{ℕ, _≤_, _<_}
 use native.Mathlib.Omega.{arith}
-use borrow.Author.Tests.{le-leb, lt-leb, lt-ltb, le-ltb, leb-true}
-use lib.Dec.{leb, ltb}
+use borrow.Author.Tests.{le-leb, lt-leb, lt-ltb, le-ltb, leb-true, eqb-true, not-true, not-false}
+use lib.Dec.{eqb, leb}
 use lib.ListN.{length, drop}
 use Rattle.ground.specs.Choice.{pick, both, implies}
 use Rattle.modes.specs.Room.{over}
 use Rattle.frames.specs.declared.Custom.{Custom}
+use Rattle.frames.specs.Blocks.{dataLength}
 use Rattle.frames.specs.Built.{Built}
 use Rattle.frames.specs.Fields.{customFits}
 use Rattle.frames.specs.Lengths.{hasMac, messageRoom}
 use Rattle.frames.specs.Messages.{selectFits}
-use Rattle.frames.proofs.Range.{both-left}
+use Rattle.frames.proofs.Range.{both-left, both-right}
 use Rattle.reader.specs.declared.Keys.{Keys}
 use Rattle.reader.specs.declared.Made.{Made}
 use Rattle.reader.specs.declared.Made.the-variants.{Message, Refused}
 use Rattle.reader.specs.declared.Fault.the-variants.{OwnMessage}
-use Rattle.reader.specs.Builds.{purposeFits, modeFits}
+use Rattle.reader.specs.Builds.{purposeFits, modeFits, dataFits, iam3Fits}
 use Rattle.reader.specs.Makes.{Makes, madeNumber, taken}
+
+-- what a call answered, and what a test found of the answer
+pub yes : {r b : Bool} → r ≡ b → not r ≡ false → b ≡ true
+yes {r} e t = sym e ∙ not-false r t
+
+pub no : {r b : Bool} → r ≡ b → not r ≡ true → b ≡ false
+no {r} e t = sym e ∙ not-true r t
 
 numbered : (b : Bool) (n : ℕ) → madeNumber (pick b (Message n) (Refused OwnMessage)) ≡ pick b 0 24
 numbered true n = refl
@@ -99,3 +107,44 @@ module _ (keys : Keys) (protmode : ℕ) where
   select-fit custom e =
       let l = mode-range e in
       ap (λ (b : Bool). both b (customFits custom)) (lt-ltb protmode 16 (omega arith) ∙ sym e)
+
+-- ---- what an IAM3 says
+
+module _ (keys : Keys) (custom : Custom) (protmode purpose n : ℕ) where
+  -- all but Profile, Offset and BlockCount
+  abbrev pub partFits : Bool
+  partFits = both (modeFits keys protmode) (both (purposeFits purpose) (dataFits custom n))
+
+  pub part-mode : modeFits keys protmode ≡ false → false ≡ partFits
+  part-mode e = ap (λ (b : Bool). both b (both (purposeFits purpose) (dataFits custom n))) (sym e)
+
+  pub part-purpose : modeFits keys protmode ≡ true → 16 ≤ purpose → false ≡ partFits
+  part-purpose e h = ap₂ (λ (b d : Bool). both b (both d (dataFits custom n))) (sym e) (sym (purpose-over purpose h))
+
+  pub part-data : (k : ℕ) → modeFits keys protmode ≡ true → purpose < 16 → k ≡ dataLength (custom .blocksize) (custom .blockcount) → eqb n k ≡ partFits
+  unfolding dataFits
+  part-data k e h q = ap (eqb n) q ∙ ap₂ (λ (b d : Bool). both b (both d (eqb n (dataLength (custom .blocksize) (custom .blockcount))))) (sym e) (purpose-in purpose h)
+
+  grouped : (a b c d : Bool) → both (both a (both b c)) d ≡ both a (both b (both c d))
+  grouped true true c d = refl
+  grouped true false c d = refl
+  grouped false b c d = refl
+
+  pub parts-fit : both partFits (customFits custom) ≡ iam3Fits keys custom protmode purpose n
+  unfolding iam3Fits
+  parts-fit = grouped (modeFits keys protmode) (purposeFits purpose) (dataFits custom n) (customFits custom)
+
+  pub part-unfit : partFits ≡ false → iam3Fits keys custom protmode purpose n ≡ false
+  part-unfit e = sym parts-fit ∙ ap (λ (b : Bool). both b (customFits custom)) e
+
+  -- what holds where all fit
+  pub part-count : partFits ≡ true → n ≡ dataLength (custom .blocksize) (custom .blockcount)
+  unfolding dataFits
+  part-count e =
+      let x = eqb n (dataLength (custom .blocksize) (custom .blockcount)) in
+      eqb-true _ _ (both-right (purposeFits purpose) x (both-right (modeFits keys protmode) (both (purposeFits purpose) x) e))
+
+  pub part-select : partFits ≡ true → customFits custom ≡ true → selectFits 0 custom protmode ≡ true
+  part-select e f =
+      let m = both-left (modeFits keys protmode) (both (purposeFits purpose) (dataFits custom n)) e in
+      select-fit keys protmode custom m ∙ ap₂ both m f

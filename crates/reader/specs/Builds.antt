@@ -1,15 +1,20 @@
 -- The messages that the reader's side builds, from fields and keys. RFU is always zero.
 use Prim.Native.Nat.{ℕ}
-use mathlib.Core.Bool.{Bool}
+use mathlib.Core.Bool.{Bool, true}
 use mathlib.Core.List.{List, _++_}
-use lib.Dec.{leb, ltb}
-use lib.ListN.{drop}
-use Rattle.ground.specs.Choice.{both, implies}
+use lib.Dec.{eqb, leb, ltb}
+use lib.ListN.{take, drop}
+use Rattle.ground.specs.Choice.{pick, both, implies}
 use Rattle.aes_inverse.specs.AesDec.{aesDec}
+use Rattle.modes_inverse.specs.CbcInv.{cbcEncAesInv}
 use Rattle.frames.specs.declared.Custom.{Custom}
-use Rattle.frames.specs.Constants.{C-IAM2, C-MAM2, withPurpose}
-use Rattle.frames.specs.Lengths.{hasMac}
-use Rattle.frames.specs.Messages.{tam1Message, tam2Message, iam1Message, iam2Message, mam1Message, mam2Message}
+use Rattle.frames.specs.Blocks.{dataLength}
+use Rattle.frames.specs.Constants.{C-IAM2, C-MAM2, iam3Constant, withPurpose}
+use Rattle.frames.specs.Fields.{customFits}
+use Rattle.frames.specs.Lengths.{hasMac, iam3FieldsLength}
+use Rattle.frames.specs.Messages.{tam1Message, tam2Message, iam1Message, iam2Message, iam3Head, mam1Message, mam2Message}
+use Rattle.payload.specs.Data.{carriedData}
+use Rattle.payload.specs.Protected.{encrypts, withMac}
 use Rattle.reader.specs.declared.Keys.{Keys}
 
 -- ---- what is fit to be sent
@@ -21,6 +26,10 @@ purposeFits purpose = ltb purpose 16
 -- Table 3: ProtModes 0 to 3; and the scope paper: 2 and 3 only where there is a MAC key.
 unfoldable pub modeFits : Keys → ℕ → Bool
 modeFits keys protmode = both (leb protmode 3) (implies (hasMac protmode) (keys .mac))
+
+-- 9.2: as many bytes of data as BlockSize and BlockCount say.
+unfoldable pub dataFits : Custom → ℕ → Bool
+dataFits custom n = eqb n (dataLength (custom .blocksize) (custom .blockcount))
 
 -- ---- what the reader asks of the tag
 
@@ -56,3 +65,25 @@ iam2Made keys purpose irnd tchallenge =
 unfoldable pub mam2Made : Keys → ℕ → List ℕ → List ℕ → List ℕ
 mam2Made keys purpose ichallenge tchallenge =
     mam2Message (record { rfu = 0; iresponse = response (keys .enc) (withPurpose C-MAM2 purpose) (drop 6 ichallenge) tchallenge })
+
+-- 9.5.8.1 b): header, data and filler as they are, or chained to the AuthenticationBlock A by CBC_ENC_AES_INV (Table 3)
+unfoldable pub sentData : List ℕ → ℕ → List ℕ → List ℕ → List ℕ
+sentData enc protmode a p = pick (encrypts protmode) (cbcEncAesInv a enc p) p
+
+-- 9.5.8.1: the three parts of IResponse: A, the data, and in ProtModes 2 and 3 the MAC over both as they are sent
+unfoldable pub iam3Response : Keys → ℕ → List ℕ → List ℕ → List ℕ
+iam3Response keys protmode a p = withMac (keys .mackey) protmode (a ++ sentData (keys .enc) protmode a p)
+
+-- 9.5.8, Table 18: the fields of four bytes, and IResponse
+unfoldable pub iam3Whole : Keys → Custom → ℕ → List ℕ → List ℕ → List ℕ
+iam3Whole keys custom protmode a p =
+    take iam3FieldsLength (iam3Head (record { rfu = 0; custom = custom; protmode = protmode; iresponse = a })) ++ iam3Response keys protmode a p
+
+unfoldable pub iam3Made : Keys → Custom → ℕ → ℕ → List ℕ → List ℕ → List ℕ → List ℕ
+iam3Made keys custom protmode purpose irnd tchallenge words =
+    iam3Whole keys custom protmode (response (keys .enc) (withPurpose (iam3Constant protmode) purpose) irnd tchallenge) (carriedData true custom words)
+
+-- what must be fit for it, with n bytes of data
+unfoldable pub iam3Fits : Keys → Custom → ℕ → ℕ → ℕ → Bool
+iam3Fits keys custom protmode purpose n =
+    both (modeFits keys protmode) (both (purposeFits purpose) (both (dataFits custom n) (customFits custom)))

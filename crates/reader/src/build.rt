@@ -3,6 +3,8 @@
 use super::Fault;
 use super::Keys;
 use super::Made;
+use super::sent::iam3_whole;
+use super::sent::response;
 use frames::Custom;
 use frames::Iam1;
 use frames::Iam2;
@@ -17,14 +19,18 @@ use frames::build::mam2_into;
 use frames::build::tam1_into;
 use frames::build::tam2_into;
 use frames::constants::iam2_constant;
+use frames::constants::iam3_constant;
 use frames::constants::mam2_constant;
-use payload::block_of;
+use frames::sizes::blocks_length;
+use frames::sizes::data_length;
+use payload::carried_into;
 use payload::has_mac;
 ghost use mathlib.Core.Path.{_≡_};
 ghost use mathlib.Core.Bool.{true};
+ghost use lib.ListN.{length};
 ghost use Rattle.ground.specs.Choice.{pick, both};
 ghost use Rattle.frames.specs.Fields.{customFits};
-ghost use Rattle.reader.specs.Builds.{purposeFits, modeFits, tam1Made, tam2Made, iam1Made, mam1Made, response, iam2Made, mam2Made};
+ghost use Rattle.reader.specs.Builds.{purposeFits, modeFits, dataFits, tam1Made, tam2Made, iam1Made, mam1Made, iam2Made, mam2Made, iam3Made, iam3Fits};
 ghost use Rattle.reader.specs.Makes.{Makes};
 
 // Is the ProtMode one that the reader can judge?
@@ -50,11 +56,18 @@ fn made(built: bool, n: usize) -> Made
     Made::Refused(Fault::OwnMessage)
 }
 
-// The block that the tag opens by encryption: the reader makes it by decryption (9.5.4, 9.5.8.1 a, 9.6.4).
-fn response(enc: [u8; 16], constant: [u8; 2], middle: [u8; 4], tchallenge: [u8; 10]) -> [u8; 16]
-    ensures { λ r. ⌜ r ≡ response enc constant middle tchallenge ⌝ }
+// Is what an IAM3 with n bytes of data says fit to be sent, its Profile, Offset and BlockCount aside?
+fn iam3_fits(keys: Keys, custom: Custom, protmode: u8, purpose: u8, n: usize) -> bool
+    ensures { λ r. ⌜ r ≡ both (modeFits keys protmode) (both (purposeFits purpose) (dataFits custom n)) ⌝ }
 {
-    aes_inverse::decrypt(enc, block_of(constant, middle, tchallenge))
+    if !mode_fits(keys, protmode) {
+        return false;
+    }
+    if 16 <= purpose {
+        return false;
+    }
+    let blocksize = custom.blocksize;
+    n == data_length(blocksize, custom.blockcount)
 }
 
 /// TAM1 (9.4.2). Ruled out: a message in a room of 12 bytes; the KeyID of another record.
@@ -171,4 +184,34 @@ pub fn mam2(
     let last = [ichallenge[6], ichallenge[7], ichallenge[8], ichallenge[9]];
     let iresponse = response(enc, mam2_constant(purpose), last, tchallenge);
     made(mam2_into(Mam2 { rfu: 0, iresponse }, room), 17)
+}
+
+/// IAM3 (9.5.4, 9.5.8). Ruled out: the MAC over the data before they are chained; fewer bytes of data than BlockCount says, filled up.
+pub fn iam3(
+    keys: Keys,
+    custom: Custom,
+    protmode: u8,
+    purpose: u8,
+    irnd: [u8; 4],
+    tchallenge: [u8; 10],
+    words: &[u8],
+    room: &mut [u8],
+) -> Made
+    ensures { λ r. ⌜ Makes (iam3Fits keys custom protmode purpose (length (now (words .entry)))) (iam3Made keys custom protmode purpose irnd tchallenge (now (words .entry))) (now (room .entry)) r (now (room .exit)) ⌝ }
+{
+    if room.len() < 176 {
+        return Made::Refused(Fault::OwnMessage);
+    }
+    if !iam3_fits(keys, custom, protmode, purpose, words.len()) {
+        return Made::Refused(Fault::OwnMessage);
+    }
+    let mut p = [0u8; 144];
+    if !carried_into(true, custom, words, &mut p) {
+        return Made::Refused(Fault::OwnMessage);
+    }
+    let enc = keys.enc;
+    let a = response(enc, iam3_constant(protmode, purpose), irnd, tchallenge);
+    let blocksize = custom.blocksize;
+    let n = blocks_length(blocksize, true, custom.blockcount);
+    Made::Message(iam3_whole(keys, custom, protmode, a, &p[..n], room))
 }

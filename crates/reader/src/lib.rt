@@ -7,6 +7,7 @@ mod kinds; // kinds.rt: the replies that carry no data, by kind
 mod tam2; // tam2.rt: the reply to TAM2
 pub mod judged; // judged.rt: the judge of a reply
 pub mod build; // build.rt: each message from its fields and keys, into a room
+mod sent; // sent.rt: what only a reader that has the keys can send
 
 /// The keys that the reader has of one record.
 pub struct Keys {

@@ -1,14 +1,13 @@
 -- `reader::build::tam2` meets its contract. Assumes nothing.
 use mathlib.Core.Bool.{Bool}
-use mathlib.Core.Path.{sym, ap, _∙_}
+use mathlib.Core.Path.{ap}
 use native.Mathlib.Omega.{arith}
-use borrow.Author.Tests.{not-true, not-false}
 use Rattle.ground.specs.Choice.{both}
 use Rattle.field.proofs.Arrays.{array-length}
 use Rattle.frames.specs.Fields.{customFits}
 use Rattle.frames.proofs.Shape.{tam2-shape}
 use Rattle.reader.specs.Builds.{tam2Made}
-use Rattle.reader.proofs.Making.{short, unfit, built, select-fit}
+use Rattle.reader.proofs.Making.{yes, no, short, unfit, built, select-fit}
 use borrow.Author.Needs.{needs}
 use Rattle.reader.proofs.build.tam2.Statement.{statement}
 use Rattle.reader.proofs.build.tam2.Tie as tie
@@ -20,7 +19,7 @@ mode-fits-requires : tie.Need-mode-fits-requires
 mode-fits-requires c κs = search needs
 
 returns-2 : tie.Need-returns-2
-returns-2 c = unfit _ _ _ (ap (λ (b : Bool). both b (customFits (c .before .before .before .before .args .custom))) (sym (c .before .mode-fits .ensures) ∙ not-true _ (c .if2 .taken)))
+returns-2 c = unfit _ _ _ (ap (λ (b : Bool). both b (customFits (c .before .before .before .before .args .custom))) (no (c .before .mode-fits .ensures) (c .if2 .taken)))
 
 tam2-into-requires : tie.Need-tam2-into-requires
 tam2-into-requires c κs = search needs
@@ -35,7 +34,7 @@ returns-3 : tie.Need-returns-3
 unfolding tam2Made
 returns-3 c =
     let a = c .before .before .before .before .before .before .before .before .before in
-    let fit = sym (c .before .before .before .before .before .before .mode-fits .ensures) ∙ not-false _ (c .before .before .before .before .before .if2 .left) in
+    let fit = yes (c .before .before .before .before .before .before .mode-fits .ensures) (c .before .before .before .before .before .if2 .left) in
     built _ _ _ _ _ _ _ _ (c .before .before .before .before .before .before .before .if1 .left) (select-fit (a .args .keys) (a .args .protmode) (a .args .custom) fit)
     (tam2-shape _ (array-length 10 (a .args .ichallenge) _ (a .good .1 .1 .0)) (omega arith) .0) (omega arith) (c .before .before .before .tam2-into .ensures) (c .made .ensures)
 

@@ -1,10 +1,10 @@
--- `reader::build::response` meets its contract. Assumes nothing.
+-- `reader::sent::response` meets its contract. Assumes nothing.
 use mathlib.Core.Path.{ap, _∙_}
 use Rattle.aes_inverse.specs.AesDec.{aesDec}
 use Rattle.reader.specs.Builds.{response}
 use borrow.Author.Needs.{needs}
-use Rattle.reader.proofs.build.response.Statement.{statement}
-use Rattle.reader.proofs.build.response.Tie as tie
+use Rattle.reader.proofs.sent.response.Statement.{statement}
+use Rattle.reader.proofs.sent.response.Tie as tie
 
 block-of-requires : tie.Need-block-of-requires
 block-of-requires c κs = search needs
