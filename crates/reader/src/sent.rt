@@ -11,6 +11,7 @@ ghost use mathlib.Core.Path.{_≡_};
 ghost use mathlib.Core.Bool.{true};
 ghost use Prim.Native.Nat.{_+_, _%_, _≤_};
 ghost use lib.ListN.{length, take};
+ghost use Rattle.aes_inverse.specs.AesDec.{aesDec};
 ghost use Rattle.modes.specs.Room.{over};
 ghost use Rattle.frames.specs.Blocks.{blocksLength};
 ghost use Rattle.frames.specs.Lengths.{messageRoom};
@@ -22,7 +23,14 @@ ghost use Rattle.reader.specs.Builds.{response, sentData, iam3Response, 
 pub fn response(enc: [u8; 16], constant: [u8; 2], middle: [u8; 4], tchallenge: [u8; 10]) -> [u8; 16]
     ensures { λ r. ⌜ r ≡ response enc constant middle tchallenge ⌝ }
 {
-    aes_inverse::decrypt(enc, block_of(constant, middle, tchallenge))
+    way(enc, block_of(constant, middle, tchallenge))
+}
+
+// The way of the cipher that the reader sends by; the tag reads by the other.
+fn way(key: [u8; 16], block: [u8; 16]) -> [u8; 16]
+    ensures { λ r. ⌜ r ≡ aesDec key block ⌝ }
+{
+    aes_inverse::decrypt(key, block)
 }
 
 // Header, data and filler as they are sent: chained to the block a by AES-DEC, or as they are (Table 3).

@@ -9,12 +9,12 @@ use Rattle.reader.proofs.sent.response.Tie as tie
 block-of-requires : tie.Need-block-of-requires
 block-of-requires c κs = search needs
 
-decrypt-requires : tie.Need-decrypt-requires
-decrypt-requires c κs = search needs
+way-requires : tie.Need-way-requires
+way-requires c κs = search needs
 
 returns : tie.Need-returns
 unfolding response
-returns c = c .decrypt .ensures ∙ ap (aesDec (c .before .before .args .enc)) (c .before .block-of .ensures)
+returns c = c .way .ensures ∙ ap (aesDec (c .before .before .args .enc)) (c .before .block-of .ensures)
 
 pub response-spec : {M : Type 1} → statement M
-response-spec = tie.close (tie.spec block-of-requires decrypt-requires returns)
+response-spec = tie.close (tie.spec block-of-requires way-requires returns)
