@@ -1,4 +1,4 @@
--- No second answer fits the contract of a builder: its answer, and what the room holds afterwards. Assumes nothing.
+-- No second answer fits the contract of a builder: its answer, and what the room holds afterwards.
 use mathlib.Core.Path.{_≡_}
 use mathlib.Core.Bool.{Bool}
 use mathlib.Core.List.{List}

@@ -1,4 +1,4 @@
--- IAM3 built: what it comes to once its data were laid out in the D blocks p. Assumes nothing.
+-- IAM3 built: what it comes to once its data were laid out in the D blocks p.
 use mathlib.Core.Path.{_≡_, refl, sym, ap, ap₂, _∙_}
 use mathlib.Core.Bool.{Bool, true, false}
 use mathlib.Core.List.{List, _++_}

@@ -1,4 +1,4 @@
--- A builder's answer from its parts: what is not fit, a room that is too short, and what frames built. Assumes nothing.
+-- A builder's answer from its parts: what is not fit, a room that is too short, and what frames built.
 use mathlib.Core.Path.{_≡_, refl, sym, ap, ap₂, _∙_}
 use mathlib.Core.Bool.{Bool, true, false, not}
 use mathlib.Core.List.{List, _++_}
@@ -20,7 +20,8 @@ use Rattle.reader.specs.declared.Keys.{Keys}
 use Rattle.reader.specs.declared.Made.{Made}
 use Rattle.reader.specs.declared.Made.the-variants.{Message, Refused}
 use Rattle.reader.specs.declared.Fault.the-variants.{OwnMessage}
-use Rattle.reader.specs.Builds.{purposeFits, modeFits, dataFits, iam3Fits}
+use Rattle.reader.specs.Own.{modeFits}
+use Rattle.reader.specs.Builds.{purposeFits, dataFits, iam3Fits}
 use Rattle.reader.specs.Makes.{Makes, madeNumber, taken}
 
 -- what a call answered, and what a test found of the answer
@@ -83,20 +84,6 @@ purpose-in purpose h = sym (lt-ltb purpose 16 h)
 -- ---- ProtMode
 
 module _ (keys : Keys) (protmode : ℕ) where
-  pub mode-over : 3 < protmode → false ≡ modeFits keys protmode
-  unfolding modeFits
-  mode-over h = ap (λ (b : Bool). both b (implies (hasMac protmode) (keys .mac))) (sym (lt-leb protmode 3 h))
-
-  mode-in : protmode ≤ 3 → (t : Bool) → t ≡ hasMac protmode → implies t (keys .mac) ≡ modeFits keys protmode
-  unfolding modeFits
-  mode-in h t e = ap₂ both (sym (le-leb protmode 3 h)) (ap (λ (b : Bool). implies b (keys .mac)) e)
-
-  pub mode-mac : (t : Bool) → protmode ≤ 3 → t ≡ hasMac protmode → t ≡ true → keys .mac ≡ modeFits keys protmode
-  mode-mac t h e q = mode-in h true (sym q ∙ e)
-
-  pub mode-plain : (t : Bool) → protmode ≤ 3 → t ≡ hasMac protmode → t ≡ false → true ≡ modeFits keys protmode
-  mode-plain t h e q = mode-in h false (sym q ∙ e)
-
   pub mode-range : modeFits keys protmode ≡ true → protmode ≤ 3
   unfolding modeFits
   mode-range e = leb-true protmode 3 (both-left (leb protmode 3) (implies (hasMac protmode) (keys .mac)) e)

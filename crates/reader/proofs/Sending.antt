@@ -1,4 +1,4 @@
--- IAM3 from its parts, as they stand in the room: the data as they are sent, IResponse, and the whole. Assumes nothing.
+-- IAM3 from its parts, as they stand in the room: the data as they are sent, IResponse, and the whole.
 use mathlib.Core.Path.{_≡_, refl, sym, ap, ap₂, _∙_}
 use mathlib.Core.Bool.{Bool, true, false}
 use mathlib.Core.List.{List, [], _++_, append-assoc}

@@ -2,30 +2,27 @@
 use Prim.Native.Nat.{ℕ}
 use mathlib.Core.Bool.{Bool, true}
 use mathlib.Core.List.{List, _++_}
-use lib.Dec.{eqb, leb, ltb}
+use lib.Dec.{eqb, ltb}
 use lib.ListN.{take, drop}
-use Rattle.ground.specs.Choice.{pick, both, implies}
+use Rattle.ground.specs.Choice.{pick, both}
 use Rattle.aes_inverse.specs.AesDec.{aesDec}
 use Rattle.modes_inverse.specs.CbcInv.{cbcEncAesInv}
 use Rattle.frames.specs.declared.Custom.{Custom}
 use Rattle.frames.specs.Blocks.{dataLength}
 use Rattle.frames.specs.Constants.{C-IAM2, C-MAM2, iam3Constant, withPurpose}
 use Rattle.frames.specs.Fields.{customFits}
-use Rattle.frames.specs.Lengths.{hasMac, iam3FieldsLength}
+use Rattle.frames.specs.Lengths.{iam3FieldsLength}
 use Rattle.frames.specs.Messages.{tam1Message, tam2Message, iam1Message, iam2Message, iam3Head, mam1Message, mam2Message}
 use Rattle.payload.specs.Data.{carriedData}
 use Rattle.payload.specs.Protected.{encrypts, withMac}
 use Rattle.reader.specs.declared.Keys.{Keys}
+use Rattle.reader.specs.Own.{modeFits}
 
 -- ---- what is fit to be sent
 
 -- Table 1: Purpose has 4 bits.
 unfoldable pub purposeFits : ℕ → Bool
 purposeFits purpose = ltb purpose 16
-
--- Table 3: ProtModes 0 to 3; and the scope paper: 2 and 3 only where there is a MAC key.
-unfoldable pub modeFits : Keys → ℕ → Bool
-modeFits keys protmode = both (leb protmode 3) (implies (hasMac protmode) (keys .mac))
 
 -- 9.2: as many bytes of data as BlockSize and BlockCount say.
 unfoldable pub dataFits : Custom → ℕ → Bool

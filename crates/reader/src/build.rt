@@ -3,6 +3,7 @@
 use super::Fault;
 use super::Keys;
 use super::Made;
+use super::own::mode_fits;
 use super::sent::iam3_whole;
 use super::sent::response;
 use frames::Custom;
@@ -24,27 +25,14 @@ use frames::constants::mam2_constant;
 use frames::sizes::blocks_length;
 use frames::sizes::data_length;
 use payload::carried_into;
-use payload::has_mac;
 ghost use mathlib.Core.Path.{_≡_};
 ghost use mathlib.Core.Bool.{true};
 ghost use lib.ListN.{length};
 ghost use Rattle.ground.specs.Choice.{pick, both};
 ghost use Rattle.frames.specs.Fields.{customFits};
-ghost use Rattle.reader.specs.Builds.{purposeFits, modeFits, dataFits, tam1Made, tam2Made, iam1Made, mam1Made, iam2Made, mam2Made, iam3Made, iam3Fits};
+ghost use Rattle.reader.specs.Own.{modeFits};
+ghost use Rattle.reader.specs.Builds.{purposeFits, dataFits, tam1Made, tam2Made, iam1Made, mam1Made, iam2Made, mam2Made, iam3Made, iam3Fits};
 ghost use Rattle.reader.specs.Makes.{Makes};
-
-// Is the ProtMode one that the reader can judge?
-fn mode_fits(keys: Keys, protmode: u8) -> bool
-    ensures { λ r. ⌜ r ≡ modeFits keys protmode ⌝ }
-{
-    if 3 < protmode {
-        return false;
-    }
-    if has_mac(protmode) {
-        return keys.mac;
-    }
-    true
-}
 
 // What is built of frames' answer: a message of so many bytes, or nothing.
 fn made(built: bool, n: usize) -> Made

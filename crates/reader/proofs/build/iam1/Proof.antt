@@ -1,4 +1,4 @@
--- `reader::build::iam1` meets its contract. Assumes nothing.
+-- `reader::build::iam1` meets its contract.
 use mathlib.Core.Path.{refl}
 use native.Mathlib.Omega.{arith}
 use Rattle.reader.specs.Builds.{iam1Made}

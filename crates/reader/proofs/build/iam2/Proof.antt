@@ -1,4 +1,4 @@
--- `reader::build::iam2` meets its contract. Assumes nothing.
+-- `reader::build::iam2` meets its contract.
 use native.Mathlib.Omega.{arith}
 use Rattle.field.proofs.Arrays.{array-length}
 use Rattle.frames.proofs.Shape.{iam2-shape}

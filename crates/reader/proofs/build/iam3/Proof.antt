@@ -1,4 +1,4 @@
--- `reader::build::iam3` meets its contract. Assumes nothing.
+-- `reader::build::iam3` meets its contract.
 use mathlib.Core.Path.{refl, sym, _∙_}
 use borrow.Author.Tests.{not-true, not-false}
 use Rattle.reader.proofs.Making.{yes, no, short, unfit, part-unfit}

@@ -1,4 +1,4 @@
--- `reader::build::iam3_fits` meets its contract. Assumes nothing.
+-- `reader::build::iam3_fits` meets its contract.
 use Rattle.reader.proofs.Making.{yes, no, part-mode, part-purpose, part-data}
 use borrow.Author.Needs.{needs}
 use Rattle.reader.proofs.build.iam3_fits.Statement.{statement}

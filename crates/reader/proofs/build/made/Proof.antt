@@ -1,4 +1,4 @@
--- `reader::build::made` meets its contract. Assumes nothing.
+-- `reader::build::made` meets its contract.
 use mathlib.Core.Bool.{Bool}
 use mathlib.Core.Path.{sym, ap}
 use Rattle.ground.specs.Choice.{pick}

@@ -1,4 +1,4 @@
--- `reader::build::mam2` meets its contract. Assumes nothing.
+-- `reader::build::mam2` meets its contract.
 use native.Mathlib.Omega.{arith}
 use Rattle.field.proofs.Arrays.{array-length}
 use Rattle.frames.proofs.Shape.{mam2-shape}

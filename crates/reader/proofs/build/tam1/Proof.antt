@@ -1,4 +1,4 @@
--- `reader::build::tam1` meets its contract. Assumes nothing.
+-- `reader::build::tam1` meets its contract.
 use mathlib.Core.Path.{refl}
 use native.Mathlib.Omega.{arith}
 use Rattle.field.proofs.Arrays.{array-length}

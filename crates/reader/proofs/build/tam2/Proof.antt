@@ -1,4 +1,4 @@
--- `reader::build::tam2` meets its contract. Assumes nothing.
+-- `reader::build::tam2` meets its contract.
 use mathlib.Core.Bool.{Bool}
 use mathlib.Core.Path.{ap}
 use native.Mathlib.Omega.{arith}

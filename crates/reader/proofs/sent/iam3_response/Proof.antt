@@ -1,4 +1,4 @@
--- `reader::sent::iam3_response` meets its contract. Assumes nothing.
+-- `reader::sent::iam3_response` meets its contract.
 use mathlib.Core.Path.{refl}
 use Rattle.field.proofs.Arrays.{array-length}
 use Rattle.reader.proofs.Sending.{response-laid}

@@ -1,4 +1,4 @@
--- `reader::sent::iam3_whole` meets its contract. Assumes nothing.
+-- `reader::sent::iam3_whole` meets its contract.
 use mathlib.Core.Path.{sym, _∙_}
 use Rattle.field.proofs.Arrays.{array-length}
 use Rattle.reader.proofs.Sending.{whole-blocks, whole-long, block-first, room-left, whole-laid}

@@ -1,4 +1,4 @@
--- `reader::sent::response` meets its contract. Assumes nothing.
+-- `reader::sent::response` meets its contract.
 use mathlib.Core.Path.{ap, _∙_}
 use Rattle.aes_inverse.specs.AesDec.{aesDec}
 use Rattle.reader.specs.Builds.{response}

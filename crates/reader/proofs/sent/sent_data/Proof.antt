@@ -1,4 +1,4 @@
--- `reader::sent::sent_data` meets its contract. Assumes nothing.
+-- `reader::sent::sent_data` meets its contract.
 use Rattle.reader.proofs.Sending.{data-chained, data-plain}
 use borrow.Author.Needs.{needs}
 use Rattle.reader.proofs.sent.sent_data.Statement.{statement}
