@@ -1,4 +1,4 @@
--- Only an IAM3 changes an area, and only bytes of the block that it addresses; and the words are then the ones that it carried.
+-- Only an IAM3 changes an area, and only bytes of the block that it addresses, in the area that the block is in.
 use mathlib.Core.Path.{_≡_, refl, sym, ap, _∙_, subst}
 use mathlib.Core.Bool.{Bool, true, false}
 use mathlib.Core.List.{List, [], _∷_}
@@ -8,8 +8,10 @@ use native.Mathlib.Omega.{arith}
 use lib.ListN.{length, getD}
 use Rattle.memory.specs.declared.Block.{Block}
 use Rattle.memory.specs.declared.Area.the-variants.{Identity, User}
+use Rattle.memory.specs.Address.{sameArea}
 use Rattle.memory.specs.Areas.{storedIn, firstByte, byteCount}
-use Rattle.memory.proofs.Stores.{stored-outside, stored-length}
+use Rattle.memory.specs.declared.Area.{Area}
+use Rattle.memory.proofs.Stores.{stored-outside, stored-elsewhere, stored-length}
 use Rattle.frames.specs.declared.Kind.{Kind}
 use Rattle.frames.specs.declared.Kind.the-variants.{Tam1, Tam2, Iam1, Iam2, Iam3, Mam1, Mam2, Unsupported}
 use Rattle.frames.specs.Kinds.{kindOf}
@@ -25,9 +27,9 @@ use Rattle.tag.specs.Opened.{openedData, wordsIn}
 use Rattle.tag.specs.Answers.{Answer, Call, refused, replied, letIn, ifFine, tam1Answer, tam2Answer, iam1Answer, iam2Answer, iam3Answer, mam1Answer, mam2Answer, byKind, answerOf}
 use Rattle.tag.proofs.Cases.{fine-case, answer-case}
 
--- A byte that is none of the block's.
-abbrev pub Outside : Block → ℕ → Type 0
-Outside b i = (i < firstByte b) ⊎ (firstByte b + byteCount b ≤ i)
+-- A byte of an area that is none of the block's: the block is in the other area, or the byte lies before it or behind it.
+abbrev pub Outside : Area → Block → ℕ → Type 0
+Outside area b i = (sameArea area (b .area) ≡ false) ⊎ ((i < firstByte b) ⊎ (firstByte b + byteCount b ≤ i))
 
 -- Both areas are as they were.
 pub record Still (c : Call) (a : Answer) : Type 0 where
@@ -36,10 +38,15 @@ pub record Still (c : Call) (a : Answer) : Type 0 where
 
 -- Every byte but those of the addressed block is as it was, in both areas, and none is added or lost.
 pub record Elsewhere (c : Call) (tag : Tag) (a : Answer) : Type 0 where
-  pub identity : (i : ℕ) → Outside (blockAsked (tag .setup) (iam3Of (c .message) .custom)) i → getD (a .identity) i 0 ≡ getD (c .identity) i 0
-  pub user : (i : ℕ) → Outside (blockAsked (tag .setup) (iam3Of (c .message) .custom)) i → getD (a .user) i 0 ≡ getD (c .user) i 0
+  pub identity : (i : ℕ) → Outside Identity (blockAsked (tag .setup) (iam3Of (c .message) .custom)) i → getD (a .identity) i 0 ≡ getD (c .identity) i 0
+  pub user : (i : ℕ) → Outside User (blockAsked (tag .setup) (iam3Of (c .message) .custom)) i → getD (a .user) i 0 ≡ getD (c .user) i 0
   pub identityLength : length (a .identity) ≡ length (c .identity)
   pub userLength : length (a .user) ≡ length (c .user)
+
+-- a store changes no such byte
+stored-apart : (area : Area) (b : Block) (bytes s : List ℕ) (i : ℕ) → Outside area b i → getD (storedIn area b bytes s) i 0 ≡ getD s i 0
+stored-apart area b bytes s i (inl e) = ap (λ (l : List ℕ). getD l i 0) (stored-elsewhere area b bytes s e)
+stored-apart area b bytes s i (inr o) = stored-outside area b bytes s i o
 
 module _ (c : Call) where
   refusal-still : (f : Fault) (s : Session) → Still c (refused c f s)
@@ -74,8 +81,8 @@ module _ (c : Call) where
   iam3-elsewhere tag =
       fine-case c (Elsewhere c tag) (λ f. still-elsewhere tag (refused c f cleared) (refusal-still f cleared)) _ _
       (record {
-        identity = λ i o. stored-outside Identity _ _ _ i o;
-        user = λ i o. stored-outside User _ _ _ i o;
+        identity = λ i o. stored-apart Identity _ _ _ i o;
+        user = λ i o. stored-apart User _ _ _ i o;
         identityLength = stored-length Identity _ _ _;
         userLength = stored-length User _ _ _;
       })

@@ -25,6 +25,11 @@ module _ (c : Call) (P : Answer → Type 0) (initial : (f : Fault) → P (refuse
   fine-case Fine a h = h
   fine-case (Wrong f) a h = initial f
 
+  pub fine-known : (v : Verdict) (a : Answer) → (v ≡ Fine → P a) → P (ifFine c v a)
+  unfolding ifFine
+  fine-known Fine a h = h refl
+  fine-known (Wrong f) a h = initial f
+
   picked : (b : Bool) (x y : Answer) → (b ≡ true → P x) → P y → P (pick b x y)
   picked true x y h k = h refl
   picked false x y h k = k

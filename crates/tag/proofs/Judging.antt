@@ -4,7 +4,7 @@ use mathlib.Core.Bool.{Bool, true, false}
 use mathlib.Core.List.{List}
 use Prim.Native.Nat.{ℕ}
 use native.Mathlib.Omega.{arith}
-use borrow.Author.Tests.{eq-eqb, ne-eqb}
+use lib.Dec.{eqb}
 use Rattle.ground.specs.Choice.{both}
 use Rattle.aes.specs.AesEnc.{aesEnc}
 use Rattle.sheet.specs.declared.Key.{Key}
@@ -20,38 +20,25 @@ pub constant-back : (k p : ℕ) → constantIn (withPurpose k p) ≡ k
 unfolding withPurpose
 constant-back k p = omega arith
 
-module _ (constant : ℕ) (held : Session) (b : List ℕ) where
-  pub other-constant : (constantIn b ≡ constant → ⊥) → iamProof constant held b ≡ false
-  unfolding iamProof
-  other-constant h = ap (λ (t : Bool). both t (both (purposeAllowed (purposeIn b)) (same (challengeIn b) (held .tchallenge)))) (ne-eqb (constantIn b) constant h)
-
-  pub other-purpose : constantIn b ≡ constant → purposeAllowed (purposeIn b) ≡ false → iamProof constant held b ≡ false
-  unfolding iamProof
-  other-purpose e h = ap₂ both (eq-eqb (constantIn b) constant e) (ap (λ (t : Bool). both t (same (challengeIn b) (held .tchallenge))) h)
-
-  pub challenge-left : constantIn b ≡ constant → purposeAllowed (purposeIn b) ≡ true → iamProof constant held b ≡ same (challengeIn b) (held .tchallenge)
-  unfolding iamProof
-  challenge-left e h = ap₂ both (eq-eqb (constantIn b) constant e) (ap (λ (t : Bool). both t (same (challengeIn b) (held .tchallenge))) h)
-
--- the first test of an IAM3, by the constant of its ProtMode
-pub first-told : (k n : ℕ) (held : Session) (b : List ℕ) (r : Bool) → k ≡ n → r ≡ iamProof k held b → iamProof n held b ≡ r
-first-told k n held b r e q = ap (λ (j : ℕ). iamProof j held b) (sym e) ∙ sym q
+-- the tests of an opened block, each completed
+pub iam-tested : (constant k : ℕ) (held : Session) (b l : List ℕ) (known allowed issued inner r : Bool) (purpose : ℕ) → k ≡ constantIn b → known ≡ eqb k constant → purpose ≡ purposeIn b
+    → allowed ≡ purposeAllowed purpose → l ≡ challengeIn b → issued ≡ same l (held .tchallenge) → inner ≡ both allowed issued → r ≡ both known inner → r ≡ iamProof constant held b
+unfolding iamProof
+iam-tested constant k held b l known allowed issued inner r purpose e q f g h i n w =
+    let right = q ∙ ap (λ (j : ℕ). eqb j constant) e in
+    let fit = g ∙ ap purposeAllowed f in
+    let same-one = i ∙ ap (λ (x : List ℕ). same x (held .tchallenge)) h in
+    w ∙ (λ j. both (right j) ((n ∙ (λ t. both (fit t) (same-one t))) j))
 
 -- IAM3: the first block opened is b, and the data in the clear are p
-module _ (key : Key) (held : Session) (f : Iam3) (m b p : List ℕ) (eb : b ≡ aesEnc (key .enc) (sentBlock m)) (ep : p ≡ openedData key f m) where
-  iam3-is : iam3Proof key held f m ≡ both (iamProof (iam3Constant (f .protmode)) held b) (both (sentMacFits key f m) (both (headerFits true (f .custom) p) (fillerFits true (f .custom) p)))
-  unfolding iam3Proof
-  iam3-is = rw (eb, ep)
-
-  pub block-wrong : iamProof (iam3Constant (f .protmode)) held b ≡ false → iam3Proof key held f m ≡ false
-  block-wrong h = iam3-is ∙ (rw h)
-
-  pub mac-wrong : iamProof (iam3Constant (f .protmode)) held b ≡ true → sentMacFits key f m ≡ false → iam3Proof key held f m ≡ false
-  mac-wrong h k = iam3-is ∙ (rw (h, k))
-
-  pub header-wrong : iamProof (iam3Constant (f .protmode)) held b ≡ true → sentMacFits key f m ≡ true → headerFits true (f .custom) p ≡ false → iam3Proof key held f m ≡ false
-  header-wrong h k l = iam3-is ∙ (rw (h, k, l))
-
-  pub filler-left : iamProof (iam3Constant (f .protmode)) held b ≡ true → sentMacFits key f m ≡ true → headerFits true (f .custom) p ≡ true
-      → iam3Proof key held f m ≡ fillerFits true (f .custom) p
-  filler-left h k l = iam3-is ∙ (rw (h, k, l))
+pub iam3-tested : (key : Key) (held : Session) (f : Iam3) (m b p : List ℕ) (constant : ℕ) (first mac header filler last inner r : Bool) → b ≡ aesEnc (key .enc) (sentBlock m)
+    → p ≡ openedData key f m → constant ≡ iam3Constant (f .protmode) → first ≡ iamProof constant held b → mac ≡ sentMacFits key f m → header ≡ headerFits true (f .custom) p
+    → filler ≡ fillerFits true (f .custom) p → last ≡ both header filler → inner ≡ both mac last → r ≡ both first inner → r ≡ iam3Proof key held f m
+unfolding iam3Proof
+iam3-tested key held f m b p constant first mac header filler last inner r eb ep ek ef em eh el l n w =
+    let one = ef ∙ (λ j. iamProof (ek j) held (eb j)) in
+    let three = eh ∙ ap (headerFits true (f .custom)) ep in
+    let four = el ∙ ap (fillerFits true (f .custom)) ep in
+    let end = l ∙ (λ j. both (three j) (four j)) in
+    let rest = n ∙ (λ j. both (em j) (end j)) in
+    w ∙ (λ j. both (one j) (rest j))

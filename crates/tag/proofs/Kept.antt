@@ -1,5 +1,4 @@
 -- Every refusal keeps everything: it sends nothing, changes no byte of either area, and leaves the tag in Initial with nothing held (1 to 6) or as it was (7).
--- And only an IAM3 changes an area.
 use mathlib.Core.Path.{_≡_, refl, sym, _∙_, subst}
 use mathlib.Core.Bool.{Bool, true, false}
 use mathlib.Core.List.{List, [], _∷_}
@@ -20,7 +19,7 @@ use Rattle.tag.specs.declared.Session.{Session}
 use Rattle.tag.specs.declared.Tag.{Tag}
 use Rattle.tag.specs.declared.Verdict.{Verdict}
 use Rattle.tag.specs.declared.Verdict.the-variants.{Fine, Wrong}
-use Rattle.tag.specs.States.{cleared, inTurn}
+use Rattle.tag.specs.States.{cleared, inTurn, sessionAfter}
 use Rattle.tag.specs.Checks.{Check, after, judged}
 use Rattle.tag.specs.Records.{offered}
 use Rattle.tag.specs.Judged.{benchChecks, openingChecks, tam2Checks, iam2Checks, iam3Checks, mam2Checks}
@@ -32,16 +31,6 @@ pub record Kept (c : Call) (s : Session) (a : Answer) : Type 0 where
   pub identity : a .identity ≡ c .identity
   pub user : a .user ≡ c .user
   pub session : a .session ≡ s
-
--- Number 7 leaves the tag as it was, any other refusal in Initial.
-abbrev pub sessionAfter : Fault → Session → Session
-sessionAfter OtherError held = cleared
-sessionAfter NotSupported held = cleared
-sessionAfter MemoryOverrun held = cleared
-sessionAfter MemoryWriteError held = cleared
-sessionAfter OutOfTurn held = cleared
-sessionAfter ProofWrong held = cleared
-sessionAfter BenchFault held = held
 
 -- ---- a line of checks refuses by one of its own numbers
 

@@ -17,6 +17,8 @@ pub mod Openings
 pub mod Closings
 pub mod Kept
 pub mod Successors
+pub mod PaperNumbers
+pub mod Holding
 pub mod Areas
 pub mod Turning
 pub mod Fits

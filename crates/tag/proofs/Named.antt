@@ -5,7 +5,7 @@ use mathlib.Core.Bool.{Bool}
 use mathlib.Core.List.{List}
 use lib.ListN.{take, getD}
 use Rattle.memory.specs.declared.Block.{Block}
-use Rattle.memory.specs.Address.{addressOf}
+use Rattle.frames.specs.Asked.{blockAsked as wordsAsked}
 use Rattle.sheet.specs.declared.Key.{Key}
 use Rattle.sheet.specs.declared.Slot.{Slot}
 use Rattle.sheet.specs.declared.Setup.{Setup}
@@ -27,6 +27,6 @@ module _ (setup : Setup) where
     unfolding slotNamed
     slot-named = e
 
-    pub block-named : {b : Block} → b ≡ addressOf (s .profile) (c .blocksize) (c .offset) (c .blockcount + 1) → b ≡ blockAsked setup c
+    pub block-named : {b : Block} → b ≡ wordsAsked (s .profile) c → b ≡ blockAsked setup c
     unfolding slotNamed blockAsked
     block-named h = rw e at h

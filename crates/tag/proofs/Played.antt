@@ -10,14 +10,14 @@ use Rattle.tag.specs.declared.Tag.{Tag}
 use Rattle.tag.specs.Answers.{Answer, answerOf}
 use Rattle.tag.specs.Reactions.{lent}
 use Rattle.tag.specs.Runs.{run, tagAfter}
-use Rattle.tag.specs.Plays.{Brought, Left, Call, Plays, sentAll, leftOf, leftAll}
+use Rattle.tag.specs.Plays.{Brought, Left, Called, Plays, sentAll, leftOf, leftAll}
 use Rattle.tag.proofs.step.Reads as step
 use Rattle.tag.proofs.step.Kinds as step-kinds
 
 -- A call, as the run has it, is the contract that the checker reads from the source of `step`.
 pub call-is-step : (κs : Lfts 5) (a : Dens κs step-kinds.ps) (r : resT step-kinds.r κs .Denot) (e : AtExit (endedOf 5 step-kinds.ps step-kinds.r) κs)
     → step.Post κs a r e
-    ≡ Call (a .0) (now (a .1 .1 .1 .1 .0)) (now (a .1 .1 .1 .1 .1 .0))
+    ≡ Called (a .0) (now (a .1 .1 .1 .1 .0)) (now (a .1 .1 .1 .1 .1 .0))
     (record { message = now (a .1 .0); draws = now (a .1 .1 .0); room = now (a .1 .1 .1 .0) })
     (record { stepped = r; room = now (e .1 .1 .1 .0); identity = now (e .1 .1 .1 .1 .0); user = now (e .1 .1 .1 .1 .1 .0) })
 call-is-step κs a r e = refl
@@ -27,7 +27,7 @@ module _ (identity user : List ℕ) (tag : Tag) (b : Brought) where
   answer = answerOf (lent (b .message) (b .draws) (b .room) identity user) tag
 
   -- what one call leaves
-  called : (x : Left) → Call tag identity user b x → x ≡ leftOf tag b answer
+  called : (x : Left) → Called tag identity user b x → x ≡ leftOf tag b answer
   called x h =
       λ j. record { stepped = record { outcome = h .outcome j; tag = h .next j }; room = h .reply j; identity = h .identity j; user = h .user j }
 

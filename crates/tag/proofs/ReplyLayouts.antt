@@ -14,7 +14,14 @@ use Rattle.frames.specs.declared.Tam1.{Tam1}
 use Rattle.frames.specs.declared.Tam2.{Tam2}
 use Rattle.frames.specs.declared.Mam1.{Mam1}
 use Rattle.frames.specs.Blocks.{blocksLength}
-use Rattle.frames.specs.Constants.{tam2Constant, twoBytes}
+use Rattle.frames.specs.Constants.{tam2Constant, byMode, twoBytes}
+use Rattle.frames.specs.declared.Kind.the-variants.{Iam1}
+use Rattle.frames.specs.Messages.{iam1Of}
+use Rattle.sheet.specs.declared.Setup.{Setup}
+use Rattle.tag.specs.declared.Verdict.the-variants.{Fine}
+use Rattle.tag.specs.Checks.{judged}
+use Rattle.tag.specs.Judged.{openingChecks}
+use Rattle.tag.specs.Answers.{Call, replied, ifFine, iam1Answer}
 use Rattle.frames.specs.Header.{headerOf}
 use Rattle.frames.specs.Lengths.{hasMac}
 use Rattle.payload.specs.Data.{filled, carriedData}
@@ -30,6 +37,21 @@ tam1-layout key m draws = refl
 pub mam1-layout : (key : Key) (m : Mam1) (draws : List ℕ) → mam1Reply key m draws ≡ aesEnc (key .enc) (twoBytes 0xDA83 ++ (drop 6 draws ++ m .ichallenge)) ++ take 6 draws
 unfolding mam1Reply
 mam1-layout key m draws = refl
+
+-- IAM1: the challenge, which is all ten draws, and is what the tag holds then.
+pub iam1-layout : (c : Call) (setup : Setup) → judged (openingChecks Iam1 (iam1Of (c .message) .rfu) (iam1Of (c .message) .keyid) setup (c .message)) ≡ Fine
+    → (iam1Answer c setup .reply ≡ c .draws) × (iam1Answer c setup .session .tchallenge ≡ c .draws)
+unfolding iam1Answer ifFine replied
+iam1-layout c setup e = (rw e refl, rw e refl)
+
+-- TAM2's constant by Rev and ProtMode (Table 1).
+pub rev-0-constant : (protmode : ℕ) → tam2Constant false protmode ≡ 0x96C5
+unfolding tam2Constant
+rev-0-constant protmode = refl
+
+pub rev-1-constants : (tam2Constant true 0 ≡ 0x96C0) × (tam2Constant true 1 ≡ 0x96C1) × (tam2Constant true 2 ≡ 0x96C2) × (tam2Constant true 3 ≡ 0x96C3)
+unfolding tam2Constant byMode
+rev-1-constants = (refl, refl, refl, refl)
 
 module _ (key : Key) (m : Tam2) (words draws : List ℕ) where
   -- A

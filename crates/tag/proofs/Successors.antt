@@ -1,6 +1,6 @@
 -- Annex A: a message that is accepted was in its turn, and each leads to the state that Table A.1 names. And what is held there: nothing in Initial and in IA-OK.
-use mathlib.Core.Path.{_≡_, refl}
-use mathlib.Core.Bool.{true}
+use mathlib.Core.Path.{_≡_, refl, sym, ap, _∙_}
+use mathlib.Core.Bool.{Bool, true, false, false≢true}
 use mathlib.Core.List.{List, [], _∷_}
 use Prim.Native.Nat.{ℕ}
 use native.Mathlib.Omega.{arith}
@@ -16,13 +16,14 @@ use Rattle.tag.specs.declared.Session.{Session}
 use Rattle.tag.specs.declared.Outcome.the-variants.{Refused}
 use Rattle.tag.specs.declared.Tag.{Tag}
 use Rattle.tag.specs.declared.Verdict.{Verdict}
-use Rattle.tag.specs.States.{cleared, entered, poweredUp, inTurn}
+use Rattle.tag.specs.States.{cleared, entered, poweredUp, atRest, afterIam1, afterMam1, inTurn, tableA1}
+use Rattle.tag.specs.Runs.{Sent, callOf, tagAfter, run}
 use Rattle.tag.specs.Records.{offered}
 use Rattle.tag.specs.Answers.{Answer, Call, refused, replied, letIn, ifFine, tam1Answer, tam2Answer, iam1Answer, iam2Answer, iam3Answer, mam1Answer, mam2Answer, byKind, answerOf}
 use Rattle.tag.proofs.Cases.{fine-case, answer-case}
 
 -- Table A.1, the last column.
-abbrev pub nextState : Kind → State
+abbrev nextState : Kind → State
 nextState Tam1 = Initial
 nextState Tam2 = Initial
 nextState Iam1 = IamInit
@@ -32,17 +33,91 @@ nextState Mam1 = MamInit
 nextState Mam2 = IaOk
 nextState Unsupported = Initial
 
+-- A message is in its turn exactly if Table A.1 has a row for it.
+abbrev listed : List State → Bool
+listed [] = false
+listed (s ∷ ss) = true
+
+pub turn-listed : (s : State) (k : Kind) → inTurn s k ≡ listed (tableA1 s k)
+unfolding inTurn atRest afterIam1 afterMam1
+turn-listed Initial Tam1 = refl
+turn-listed IamInit Tam1 = refl
+turn-listed MamInit Tam1 = refl
+turn-listed IaOk Tam1 = refl
+turn-listed Initial Tam2 = refl
+turn-listed IamInit Tam2 = refl
+turn-listed MamInit Tam2 = refl
+turn-listed IaOk Tam2 = refl
+turn-listed Initial Iam1 = refl
+turn-listed IamInit Iam1 = refl
+turn-listed MamInit Iam1 = refl
+turn-listed IaOk Iam1 = refl
+turn-listed Initial Iam2 = refl
+turn-listed IamInit Iam2 = refl
+turn-listed MamInit Iam2 = refl
+turn-listed IaOk Iam2 = refl
+turn-listed Initial Iam3 = refl
+turn-listed IamInit Iam3 = refl
+turn-listed MamInit Iam3 = refl
+turn-listed IaOk Iam3 = refl
+turn-listed Initial Mam1 = refl
+turn-listed IamInit Mam1 = refl
+turn-listed MamInit Mam1 = refl
+turn-listed IaOk Mam1 = refl
+turn-listed Initial Mam2 = refl
+turn-listed IamInit Mam2 = refl
+turn-listed MamInit Mam2 = refl
+turn-listed IaOk Mam2 = refl
+turn-listed Initial Unsupported = refl
+turn-listed IamInit Unsupported = refl
+turn-listed MamInit Unsupported = refl
+turn-listed IaOk Unsupported = refl
+
+row : (s : State) (k : Kind) → inTurn s k ≡ true → tableA1 s k ≡ nextState k ∷ []
+unfolding inTurn atRest afterIam1 afterMam1
+row Initial Tam1 e = refl
+row IamInit Tam1 e = refl
+row MamInit Tam1 e = refl
+row IaOk Tam1 e = refl
+row Initial Tam2 e = refl
+row IamInit Tam2 e = refl
+row MamInit Tam2 e = refl
+row IaOk Tam2 e = refl
+row Initial Iam1 e = refl
+row IamInit Iam1 e = absurd (false≢true e)
+row MamInit Iam1 e = absurd (false≢true e)
+row IaOk Iam1 e = refl
+row Initial Iam2 e = absurd (false≢true e)
+row IamInit Iam2 e = refl
+row MamInit Iam2 e = absurd (false≢true e)
+row IaOk Iam2 e = absurd (false≢true e)
+row Initial Iam3 e = absurd (false≢true e)
+row IamInit Iam3 e = refl
+row MamInit Iam3 e = absurd (false≢true e)
+row IaOk Iam3 e = absurd (false≢true e)
+row Initial Mam1 e = refl
+row IamInit Mam1 e = absurd (false≢true e)
+row MamInit Mam1 e = absurd (false≢true e)
+row IaOk Mam1 e = refl
+row Initial Mam2 e = absurd (false≢true e)
+row IamInit Mam2 e = absurd (false≢true e)
+row MamInit Mam2 e = refl
+row IaOk Mam2 e = absurd (false≢true e)
+row Initial Unsupported e = absurd (false≢true e)
+row IamInit Unsupported e = absurd (false≢true e)
+row MamInit Unsupported e = absurd (false≢true e)
+row IaOk Unsupported e = absurd (false≢true e)
+
 abbrev pub Accepted : Answer → Type 0
 Accepted a = (f : Fault) → a .outcome ≡ Refused f → ⊥
 
--- What is known of an accepted message.
+-- What is known of an accepted message: the tag offers it, and Table A.1 has a row for it, whose next state is the tag's.
 pub record Successor (c : Call) (tag : Tag) (a : Answer) : Type 0 where
   pub first : ℕ
   pub rest : List ℕ
   pub message : c .message ≡ first ∷ rest
   pub offer : offered (tag .setup .features) (kindOf first) ≡ true
-  pub turn : inTurn (tag .session .state) (kindOf first) ≡ true
-  pub next : a .session .state ≡ nextState (kindOf first)
+  pub row : tableA1 (tag .session .state) (kindOf first) ≡ a .session .state ∷ []
 
 module _ (c : Call) where
   refusal-not : (P : Answer → Type 0) (f : Fault) (s : Session) → Accepted (refused c f s) → P (refused c f s)
@@ -69,7 +144,7 @@ module _ (c : Call) where
   pub successor : (tag : Tag) → Accepted (answerOf c tag) → Successor c tag (answerOf c tag)
   successor tag =
       answer-case c (λ a. Accepted a → Successor c tag a) (λ f. refusal-not (Successor c tag) f cleared) tag (λ f. refusal-not (Successor c tag) f (tag .session))
-      (λ first rest e o t h. record { first = first; rest = rest; message = e; offer = o; turn = t; next = kind-leads (tag .setup) (tag .session) (kindOf first) h })
+      (λ first rest e o t h. record { first = first; rest = rest; message = e; offer = o; row = row (tag .session .state) (kindOf first) t ∙ ap (λ (x : State). x ∷ []) (sym (kind-leads (tag .setup) (tag .session) (kindOf first) h)) })
 
 -- ---- what is held
 
@@ -113,3 +188,19 @@ module _ (c : Call) where
   pub answer-rests : (tag : Tag) → Rested (tag .session) → Rested (answerOf c tag .session)
   unfolding refused
   answer-rests tag h = answer-case c (λ a. Rested (a .session)) (λ f. cleared-rests) tag (λ f. h) (λ first rest e o t. kind-rests (tag .setup) (tag .session) (kindOf first))
+
+-- Any two tags in Initial with the same setup are equal, and so in IA-OK.
+pub initial-equal : (s t : Session) → Rested s → Rested t → s .state ≡ Initial → t .state ≡ Initial → s ≡ t
+initial-equal s t a b e f = a .initial e ∙ sym (b .initial f)
+
+-- From power-up on: every session of a run.
+unfoldable pub AllRested : List Answer → Type 0
+AllRested [] = Unit
+AllRested (a ∷ answers) = Rested (a .session) × AllRested answers
+
+pub run-rests : (sent : List Sent) (tag : Tag) (identity user : List ℕ) → Rested (tag .session) → AllRested (run tag identity user sent)
+unfolding run AllRested
+run-rests [] tag identity user h = tt
+run-rests (s ∷ sent) tag identity user h =
+    let k = answer-rests (callOf s identity user) tag h in
+    (k, run-rests sent (tagAfter tag (answerOf (callOf s identity user) tag)) _ _ k)

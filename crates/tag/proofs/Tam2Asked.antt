@@ -24,7 +24,8 @@ use Rattle.frames.specs.Blocks.{blockBytes, dataLength}
 use Rattle.frames.specs.Fields.{byte, bytesFrom, sizeOf, customFits, selectCustom}
 use Rattle.frames.specs.Messages.{tam1Of, tam2Of, mam1Of}
 use Rattle.frames.proofs.Places.{bytes-length}
-use Rattle.tag.specs.Records.{blockAsked}
+use Rattle.frames.proofs.Asked.{asked-bytes as words-bytes-asked}
+use Rattle.tag.specs.Records.{slotNamed, blockAsked}
 use Rattle.tag.proofs.ReplyBytes.{Ten, drop-bytes}
 
 -- three bytes give fields that fit their bits
@@ -76,14 +77,9 @@ window-most identity user b =
     let area = areaOf (b .area) identity user in
     cond-most (within b area) (take (byteCount b) (drop (firstByte b) area)) (byteCount b) (take-most (byteCount b) (drop (firstByte b) area))
 
-step-bytes : (s : BlockSize) → stepOf s * 2 ≡ blockBytes s
-unfolding stepOf blockBytes
-step-bytes Bits64 = refl
-step-bytes Bits16 = refl
-
 pub asked-bytes : (setup : Setup) (c : Custom) → byteCount (blockAsked setup c) ≡ dataLength (c .blocksize) (c .blockcount)
-unfolding blockAsked addressOf dataLength
-asked-bytes setup c = mul-assoc (c .blockcount + 1) (stepOf (c .blocksize)) 2 ∙ ap (λ (k : ℕ). (c .blockcount + 1) * k) (step-bytes (c .blocksize))
+unfolding blockAsked
+asked-bytes setup c = sym (words-bytes-asked (slotNamed setup (c .profile) .profile) c)
 
 pub words-most : (setup : Setup) (c : Custom) (identity user : List ℕ) → length (windowOf identity user (blockAsked setup c)) ≤ dataLength (c .blocksize) (c .blockcount)
 words-most setup c identity user = omega (arith, window-most identity user (blockAsked setup c), asked-bytes setup c)

@@ -18,7 +18,7 @@ use Rattle.tag.specs.declared.Session.{Session}
 use Rattle.tag.specs.declared.Tag.{Tag}
 use Rattle.tag.specs.declared.Verdict.{Verdict}
 use Rattle.tag.specs.declared.Verdict.the-variants.{Fine, Wrong}
-use Rattle.tag.specs.States.{cleared, inTurn}
+use Rattle.tag.specs.States.{cleared, inTurn, numberGiven}
 use Rattle.tag.specs.Checks.{judged}
 use Rattle.tag.specs.Records.{offered}
 use Rattle.tag.specs.Judged.{benchChecks}
@@ -113,7 +113,7 @@ module _ (tag : Tag) (m draws room i u : List ℕ) (v : Verdict) (w : v ≡ judg
   unfolding answerOf refused
   bench-wrong f x =
       subst (λ (y : Verdict). Steps (ofBench call (tag .setup) (tag .session) y) tag room (record { outcome = Refused f; tag = tag }) room i u) (sym x ∙ w)
-      (record { outcome = refl; next = refl; reply = refl; identity = refl; user = refl })
+      (record { outcome = refl; number = refl; next = refl; reply = refl; identity = refl; user = refl })
 
   pub bench-fine : (q : Reacted) (d after i′ u′ : List ℕ) → v ≡ Fine → d ≡ draws → ReactsIn (ofMessage (lent m d room i u) (tag .setup) (tag .session) m) room q after i′ u′
       → Steps (answerOf call tag) tag room (record { outcome = q .outcome; tag = record { setup = tag .setup; session = q .session } }) after i′ u′
@@ -123,6 +123,7 @@ module _ (tag : Tag) (m draws room i u : List ℕ) (v : Verdict) (w : v ≡ judg
       subst (λ (y : Verdict). Steps (ofBench call (tag .setup) (tag .session) y) tag room (record { outcome = q .outcome; tag = record { setup = tag .setup; session = q .session } }) after i′ u′) (sym x ∙ w)
       (record {
         outcome = k .reacts .outcome;
+        number = ap numberGiven (k .reacts .outcome);
         next = λ j. record { setup = tag .setup; session = k .reacts .session j };
         reply = k .reacts .reply;
         identity = k .identity;

@@ -23,8 +23,8 @@ pub record Left : Type 0 where
   pub user : List ℕ
 
 -- One call of the code, by its contract.
-abbrev pub Call : Tag → List ℕ → List ℕ → Brought → Left → Type 0
-Call tag identity user b x =
+abbrev pub Called : Tag → List ℕ → List ℕ → Brought → Left → Type 0
+Called tag identity user b x =
     Steps (answerOf (lent (b .message) (b .draws) (b .room) identity user) tag) tag (b .room) (x .stepped) (x .room) (x .identity) (x .user)
 
 -- A run of such calls.
@@ -32,7 +32,7 @@ unfoldable pub Plays : Tag → List ℕ → List ℕ → List Brought → List L
 Plays tag identity user [] [] = Unit
 Plays tag identity user [] (x ∷ xs) = ⊥
 Plays tag identity user (b ∷ bs) [] = ⊥
-Plays tag identity user (b ∷ bs) (x ∷ xs) = Call tag identity user b x × Plays (x .stepped .tag) (x .identity) (x .user) bs xs
+Plays tag identity user (b ∷ bs) (x ∷ xs) = Called tag identity user b x × Plays (x .stepped .tag) (x .identity) (x .user) bs xs
 
 -- What the definition's run says is left: of the room only the length counts for an answer.
 abbrev pub sentOf : Brought → Sent

@@ -7,6 +7,7 @@ use Rattle.modes.specs.Room.{over}
 use Rattle.tag.specs.declared.Tag.{Tag}
 use Rattle.tag.specs.declared.Reacted.{Reacted}
 use Rattle.tag.specs.declared.Stepped.{Stepped}
+use Rattle.tag.specs.States.{numberGiven}
 use Rattle.tag.specs.Answers.{Answer, Call}
 use Rattle.tag.specs.Runs.{tagAfter}
 
@@ -38,9 +39,10 @@ pub record ReactsIn (a : Answer) (room : List ℕ) (r : Reacted) (after i u : Li
 abbrev pub ReactsWriting : (List ℕ → List ℕ → Answer) → Reacted → List ℕ → List ℕ → Type 0
 ReactsWriting a r i u = (draws room : List ℕ) → ReactsIn (a draws room) room r room i u
 
--- What a step leaves: the tag's setup stays.
+-- What a step leaves, by name and by number: the tag's setup stays.
 pub record Steps (a : Answer) (tag : Tag) (room : List ℕ) (r : Stepped) (after i u : List ℕ) : Type 0 where
   pub outcome : r .outcome ≡ a .outcome
+  pub number : numberGiven (r .outcome) ≡ numberGiven (a .outcome)
   pub next : r .tag ≡ tagAfter tag a
   pub reply : after ≡ over (a .reply) room
   pub identity : i ≡ a .identity

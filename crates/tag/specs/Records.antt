@@ -9,7 +9,6 @@ use Rattle.memory.specs.declared.BlockSize.{BlockSize}
 use Rattle.memory.specs.declared.BlockSize.the-variants.{Bits64, Bits16}
 use Rattle.memory.specs.declared.Block.{Block}
 use Rattle.memory.specs.declared.Profile.{Profile}
-use Rattle.memory.specs.Address.{addressOf}
 use Rattle.sheet.specs.declared.Features.{Features}
 use Rattle.sheet.specs.declared.Key.{Key}
 use Rattle.sheet.specs.declared.Slot.{Slot}
@@ -18,6 +17,7 @@ use Rattle.sheet.specs.Setups.{noKey, noSlot}
 use Rattle.frames.specs.declared.Kind.{Kind}
 use Rattle.frames.specs.declared.Kind.the-variants.{Tam1, Tam2, Iam1, Iam2, Iam3, Mam1, Mam2, Unsupported}
 use Rattle.frames.specs.declared.Custom.{Custom}
+use Rattle.frames.specs.Asked.{blockAsked as wordsAsked}
 use Rattle.frames.specs.Lengths.{hasMac}
 
 -- The method, the step and the feature are there. TAM is always; IAM, IAM3 and MAM as the sheet says.
@@ -73,6 +73,6 @@ keyNamed setup keyid = keyOf keyid (keysOf setup)
 unfoldable pub slotNamed : Setup → ℕ → Slot
 slotNamed setup profile = getD (setup .profiles) profile noSlot
 
--- 9.2: the words that a message asks for; BlockCount n stands for n + 1 data blocks.
+-- 9.2: the words that a message asks for, in the profile of its number.
 unfoldable pub blockAsked : Setup → Custom → Block
-blockAsked setup c = addressOf (slotNamed setup (c .profile) .profile) (c .blocksize) (c .offset) (c .blockcount + 1)
+blockAsked setup c = wordsAsked (slotNamed setup (c .profile) .profile) c

@@ -1,7 +1,7 @@
 -- A tag's states and what it holds from one message to the next: clause 8, Annex A, and the scope paper, "States" and "Numbers the tag gives".
 use Prim.Native.Nat.{ℕ}
 use mathlib.Core.Bool.{Bool, true, false}
-use mathlib.Core.List.{List}
+use mathlib.Core.List.{List, [], _∷_}
 use lib.ListN.{replicate}
 use Rattle.sheet.specs.declared.Setup.{Setup}
 use Rattle.frames.specs.declared.Kind.{Kind}
@@ -10,6 +10,8 @@ use Rattle.tag.specs.declared.State.{State}
 use Rattle.tag.specs.declared.State.the-variants.{Initial, IamInit, MamInit, IaOk}
 use Rattle.tag.specs.declared.Session.{Session}
 use Rattle.tag.specs.declared.Tag.{Tag}
+use Rattle.tag.specs.declared.Outcome.{Outcome}
+use Rattle.tag.specs.declared.Outcome.the-variants.{Replied, Entered, Refused}
 use Rattle.tag.specs.declared.Fault.{Fault}
 use Rattle.tag.specs.declared.Fault.the-variants.{OtherError, NotSupported, MemoryOverrun, MemoryWriteError, OutOfTurn, ProofWrong, BenchFault}
 
@@ -68,3 +70,49 @@ numberOf MemoryWriteError = 4
 numberOf OutOfTurn = 5
 numberOf ProofWrong = 6
 numberOf BenchFault = 7
+
+-- The number that a call gives, 0 where nothing is refused; the reply's length; and what the tag holds after each refusal.
+abbrev pub numberGiven : Outcome → ℕ
+numberGiven (Replied n) = 0
+numberGiven (Entered purpose) = 0
+numberGiven (Refused f) = numberOf f
+
+abbrev pub replyLength : Outcome → ℕ
+replyLength (Replied n) = n
+replyLength (Entered purpose) = 0
+replyLength (Refused f) = 0
+
+abbrev pub sessionAfter : Fault → Session → Session
+sessionAfter OtherError held = cleared
+sessionAfter NotSupported held = cleared
+sessionAfter MemoryOverrun held = cleared
+sessionAfter MemoryWriteError held = cleared
+sessionAfter OutOfTurn held = cleared
+sessionAfter ProofWrong held = cleared
+sessionAfter BenchFault held = held
+
+-- Table A.1, row by row: the next state of each message that a state takes. Any other pair is an error, and leads to Initial.
+abbrev pub tableA1 : State → Kind → List State
+tableA1 s Tam1 = Initial ∷ []
+tableA1 s Tam2 = Initial ∷ []
+tableA1 Initial Iam1 = IamInit ∷ []
+tableA1 IaOk Iam1 = IamInit ∷ []
+tableA1 IamInit Iam2 = IaOk ∷ []
+tableA1 IamInit Iam3 = IaOk ∷ []
+tableA1 Initial Mam1 = MamInit ∷ []
+tableA1 IaOk Mam1 = MamInit ∷ []
+tableA1 MamInit Mam2 = IaOk ∷ []
+tableA1 Initial Iam2 = []
+tableA1 Initial Iam3 = []
+tableA1 Initial Mam2 = []
+tableA1 IamInit Iam1 = []
+tableA1 IamInit Mam1 = []
+tableA1 IamInit Mam2 = []
+tableA1 MamInit Iam1 = []
+tableA1 MamInit Iam2 = []
+tableA1 MamInit Iam3 = []
+tableA1 MamInit Mam1 = []
+tableA1 IaOk Iam2 = []
+tableA1 IaOk Iam3 = []
+tableA1 IaOk Mam2 = []
+tableA1 s Unsupported = []

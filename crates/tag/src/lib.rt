@@ -2,7 +2,7 @@
 use sheet::Setup;
 ghost use mathlib.Core.Path.{_≡_};
 ghost use lib.ListN.{length};
-ghost use Rattle.tag.specs.States.{poweredUp};
+ghost use Rattle.tag.specs.States.{poweredUp, numberOf, numberGiven, replyLength};
 ghost use Rattle.tag.specs.Answers.{answerOf};
 ghost use Rattle.tag.specs.Reactions.{lent, Steps};
 
@@ -69,6 +69,47 @@ pub struct Reacted {
 pub struct Stepped {
     pub outcome: Outcome,
     pub tag: Tag,
+}
+
+// The scope paper's number of a refusal.
+fn fault_number(fault: Fault) -> u8
+    ensures { λ r. ⌜ r ≡ numberOf fault ⌝ }
+{
+    match fault {
+        Fault::OtherError => 1,
+        Fault::NotSupported => 2,
+        Fault::MemoryOverrun => 3,
+        Fault::MemoryWriteError => 4,
+        Fault::OutOfTurn => 5,
+        Fault::ProofWrong => 6,
+        Fault::BenchFault => 7,
+    }
+}
+
+/// The scope paper's number of an outcome, 0 where nothing is refused.
+///
+/// Ruled out: 2 for a wrong length; a reply's length in the place of a number.
+pub fn number(outcome: Outcome) -> u8
+    ensures { λ r. ⌜ r ≡ numberGiven outcome ⌝ }
+{
+    match outcome {
+        Outcome::Replied(_) => 0,
+        Outcome::Entered(_) => 0,
+        Outcome::Refused(fault) => fault_number(fault),
+    }
+}
+
+/// The length of the reply.
+///
+/// Ruled out: a length given with a refusal; a Purpose given as a length.
+pub fn reply_length(outcome: Outcome) -> usize
+    ensures { λ r. ⌜ r ≡ replyLength outcome ⌝ }
+{
+    match outcome {
+        Outcome::Replied(n) => n,
+        Outcome::Entered(_) => 0,
+        Outcome::Refused(_) => 0,
+    }
 }
 
 /// A tag at power-up, and after a reset: nothing is held (clause 8).

@@ -13,7 +13,7 @@ ghost use mathlib.Core.Path.{_≡_};
 ghost use mathlib.Core.Bool.{true};
 ghost use Prim.Native.Nat.{_+_, _*_, _/_, _%_, _≤_};
 ghost use lib.ListN.{length};
-ghost use Rattle.ground.specs.Choice.{pick};
+ghost use Rattle.ground.specs.Choice.{pick, both};
 ghost use Rattle.aes.specs.AesEnc.{aesEnc};
 ghost use Rattle.modes.specs.Room.{over};
 ghost use Rattle.frames.specs.Blocks.{blocksLength};
@@ -44,19 +44,26 @@ fn purpose_allowed(p: u8) -> bool
     true
 }
 
+// Do both hold? Each check was completed before: a cryptographic error is told only after all of them (9.5.5, 9.6.5).
+fn both(a: bool, b: bool) -> bool
+    ensures { λ r. ⌜ r ≡ both a b ⌝ }
+{
+    if a {
+        return b;
+    }
+    false
+}
+
 // The proof of IAM2, and of IAM3's first block: the constant, the Purpose, and the challenge that the tag issued (9.5.5, 9.5.8).
 // Ruled out: a constant that is not looked at, and a challenge of which only the first bytes count.
 pub fn iam_proof(constant: u16, held: Session, b: [u8; 16]) -> bool
     ensures { λ r. ⌜ r ≡ iamProof constant held b ⌝ }
 {
-    if constant_in(b[0], b[1]) != constant {
-        return false;
-    }
-    if !purpose_allowed(purpose(b)) {
-        return false;
-    }
+    let known = constant_in(b[0], b[1]) == constant;
+    let allowed = purpose_allowed(purpose(b));
     let challenge = held.tchallenge;
-    payload::same(&b[6..16], &challenge)
+    let issued = payload::same(&b[6..16], &challenge);
+    both(known, both(allowed, issued))
 }
 
 // The proof of MAM2: also the last 32 bits of the reader's own challenge (9.6.5).
@@ -64,11 +71,10 @@ pub fn iam_proof(constant: u16, held: Session, b: [u8; 16]) -> bool
 pub fn mam_proof(held: Session, b: [u8; 16]) -> bool
     ensures { λ r. ⌜ r ≡ mamProof held b ⌝ }
 {
-    if !iam_proof(0xDA8, held, b) {
-        return false;
-    }
+    let proof = iam_proof(0xDA8, held, b);
     let challenge = held.ichallenge;
-    payload::same(&b[2..6], &challenge)
+    let own = payload::same(&b[2..6], &challenge);
+    both(proof, own)
 }
 
 // C_IAM3 of a ProtMode, without a Purpose.
@@ -136,17 +142,12 @@ fn iam3_proof(key: Key, held: Session, f: Iam3, m: &[u8], b: [u8; 16], p: &[u8])
         × (now p ≡ openedData key f (now m)) ⌝ }
     ensures { λ r. ⌜ r ≡ iam3Proof key held f (now (m .entry)) ⌝ }
 {
-    if !iam_proof(constant_of(f.protmode), held, b) {
-        return false;
-    }
-    if !mac_fits(key, f, m) {
-        return false;
-    }
     let custom = f.custom;
-    if !payload::header_fits(true, custom, p) {
-        return false;
-    }
-    payload::filler_fits(true, custom, p)
+    let first = iam_proof(constant_of(f.protmode), held, b);
+    let mac = mac_fits(key, f, m);
+    let header = payload::header_fits(true, custom, p);
+    let filler = payload::filler_fits(true, custom, p);
+    both(first, both(mac, both(header, filler)))
 }
 
 // An IAM3 whose fields f were judged (9.5.8, 9.5.9): where the proof holds, the words are written and the reader is let in.

@@ -13,9 +13,8 @@ use sheet::Keys;
 use sheet::Slot;
 ghost use mathlib.Core.Path.{_≡_};
 ghost use mathlib.Core.Bool.{false};
-ghost use Prim.Native.Nat.{_+_};
 ghost use lib.ListN.{take, getD};
-ghost use Rattle.memory.specs.Address.{addressOf};
+ghost use Rattle.frames.specs.Asked.{blockAsked};
 ghost use Rattle.sheet.specs.Setups.{noKey, noSlot};
 ghost use Rattle.tag.specs.States.{atRest, afterIam1, afterMam1, inTurn};
 ghost use Rattle.tag.specs.Records.{offered, sizeOffered, revOffered, modeOffered, modeSupported, hasKey, keyOf};
@@ -218,14 +217,12 @@ pub fn slot(profiles: [Slot; 16], profile: u8) -> Slot
     profiles[i]
 }
 
-/// The words that a message asks for in its slot: BlockCount n stands for n + 1 data blocks (9.2).
+/// The words that a message asks for in its slot (9.2).
 ///
-/// Ruled out: BlockCount taken for the number of blocks; an Offset that counts words in both block sizes.
+/// Ruled out: the words of another slot; BlockCount taken for the number of blocks.
 pub fn block_asked(slot: Slot, custom: Custom) -> Block
-    ensures { λ r. ⌜ r ≡ addressOf (slot .profile) (custom .blocksize) (custom .offset) (custom .blockcount + 1) ⌝ }
+    ensures { λ r. ⌜ r ≡ blockAsked (slot .profile) custom ⌝ }
 {
     let profile = slot.profile;
-    let size = custom.blocksize;
-    let offset = custom.offset;
-    memory::address(profile, size, offset, custom.blockcount as u16 + 1)
+    frames::sizes::block_asked(profile, custom)
 }

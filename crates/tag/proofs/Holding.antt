@@ -1,0 +1,77 @@
+-- While a challenge waits for its answer, a record has the KeyID that is held: from power-up on no key of zeros stands in for one that is missing.
+use mathlib.Core.Path.{_≡_, refl}
+use mathlib.Core.Bool.{true}
+use mathlib.Core.List.{List, []}
+use Prim.Native.Nat.{ℕ}
+use native.Mathlib.Omega.{arith}
+use Rattle.frames.specs.declared.Kind.{Kind}
+use Rattle.frames.specs.declared.Kind.the-variants.{Tam1, Tam2, Iam1, Iam2, Iam3, Mam1, Mam2, Unsupported}
+use Rattle.frames.specs.Kinds.{kindOf}
+use Rattle.frames.specs.Messages.{iam1Of, mam1Of}
+use Rattle.sheet.specs.declared.Setup.{Setup}
+use Rattle.tag.specs.declared.Fault.{Fault}
+use Rattle.tag.specs.declared.Fault.the-variants.{NotSupported}
+use Rattle.tag.specs.declared.Session.{Session}
+use Rattle.tag.specs.declared.State.the-variants.{IamInit, MamInit}
+use Rattle.tag.specs.declared.Tag.{Tag}
+use Rattle.tag.specs.States.{cleared, entered, poweredUp}
+use Rattle.tag.specs.Records.{keyPresent}
+use Rattle.tag.specs.Answers.{Answer, Call, refused, replied, letIn, tam1Answer, tam2Answer, iam1Answer, iam2Answer, iam3Answer, mam1Answer, mam2Answer, byKind, answerOf}
+use Rattle.tag.proofs.Cases.{fine-case, fine-known, answer-case}
+use Rattle.tag.proofs.Passed.{opening-key}
+
+pub record Holds (setup : Setup) (s : Session) : Type 0 where
+  pub iamInit : s .state ≡ IamInit → keyPresent setup (s .keyid) ≡ true
+  pub mamInit : s .state ≡ MamInit → keyPresent setup (s .keyid) ≡ true
+
+module _ (setup : Setup) where
+  cleared-holds : Holds setup cleared
+  unfolding cleared
+  cleared-holds = record {
+    iamInit = λ e. (let z : _≡_ {A = ℕ} 0 1 = cc in absurd (omega arith));
+    mamInit = λ e. (let z : _≡_ {A = ℕ} 0 1 = cc in absurd (omega arith));
+  }
+
+  entered-holds : Holds setup entered
+  unfolding entered
+  entered-holds = record {
+    iamInit = λ e. (let z : _≡_ {A = ℕ} 0 1 = cc in absurd (omega arith));
+    mamInit = λ e. (let z : _≡_ {A = ℕ} 0 1 = cc in absurd (omega arith));
+  }
+
+  pub powered-up-holds : Holds setup (poweredUp setup .session)
+  unfolding poweredUp
+  powered-up-holds = cleared-holds
+
+  module _ (c : Call) where
+    abbrev Of : Answer → Type 0
+    Of a = Holds setup (a .session)
+
+    refused-holds : (f : Fault) → Of (refused c f cleared)
+    unfolding refused
+    refused-holds f = cleared-holds
+
+    kind-holds : (held : Session) (k : Kind) → Of (byKind c setup held k)
+    unfolding byKind tam1Answer tam2Answer iam1Answer iam2Answer iam3Answer mam1Answer mam2Answer replied letIn
+    kind-holds held Tam1 = fine-case c Of refused-holds _ _ cleared-holds
+    kind-holds held Tam2 = fine-case c Of refused-holds _ _ cleared-holds
+    kind-holds held Iam1 =
+        fine-known c Of refused-holds _ _
+        (λ v.
+        (let k = opening-key Iam1 (iam1Of (c .message) .rfu) (iam1Of (c .message) .keyid) setup (c .message) v in
+        record { iamInit = λ e. k; mamInit = λ e. k }))
+    kind-holds held Iam2 = fine-case c Of refused-holds _ _ entered-holds
+    kind-holds held Iam3 = fine-case c Of refused-holds _ _ entered-holds
+    kind-holds held Mam1 =
+        fine-known c Of refused-holds _ _
+        (λ v.
+        (let k = opening-key Mam1 (mam1Of (c .message) .rfu) (mam1Of (c .message) .keyid) setup (c .message) v in
+        record { iamInit = λ e. k; mamInit = λ e. k }))
+    kind-holds held Mam2 = fine-case c Of refused-holds _ _ entered-holds
+    kind-holds held Unsupported = refused-holds NotSupported
+
+-- a call keeps it so
+pub answer-holds : (c : Call) (tag : Tag) → Holds (tag .setup) (tag .session) → Holds (tag .setup) (answerOf c tag .session)
+unfolding refused
+answer-holds c tag h =
+    answer-case c (Of (tag .setup) c) (refused-holds (tag .setup) c) tag (λ f. h) (λ first rest e o t. kind-holds (tag .setup) c (tag .session) (kindOf first))

@@ -1,0 +1,64 @@
+-- The scope paper's table of the tag's numbers, row by row, and the reply's length.
+use mathlib.Core.Path.{_≡_, refl}
+use mathlib.Core.List.{List}
+use Prim.Native.Nat.{ℕ}
+use lib.ListN.{length}
+use Rattle.frames.specs.declared.Kind.{Kind}
+use Rattle.frames.specs.declared.Kind.the-variants.{Tam1, Tam2, Iam1, Iam2, Iam3, Mam1, Mam2, Unsupported}
+use Rattle.frames.specs.Kinds.{kindOf}
+use Rattle.sheet.specs.declared.Setup.{Setup}
+use Rattle.tag.specs.declared.Fault.{Fault}
+use Rattle.tag.specs.declared.Fault.the-variants.{OtherError, NotSupported, MemoryOverrun, MemoryWriteError, OutOfTurn, ProofWrong, BenchFault}
+use Rattle.tag.specs.declared.Session.{Session}
+use Rattle.tag.specs.declared.Tag.{Tag}
+use Rattle.tag.specs.States.{cleared, numberOf, replyLength, sessionAfter}
+use Rattle.tag.specs.Answers.{Answer, Call, refused, replied, letIn, tam1Answer, tam2Answer, iam1Answer, iam2Answer, iam3Answer, mam1Answer, mam2Answer, byKind, answerOf}
+use Rattle.tag.proofs.Cases.{fine-case, answer-case}
+
+-- A row: the number, and what the tag holds afterwards, where it held `held`.
+abbrev Row : Fault → ℕ → Type 0
+Row f n = (numberOf f ≡ n) × ((held : Session) → sessionAfter f held ≡ cleared)
+
+pub other-error : Row OtherError 1
+other-error = (refl, λ held. refl)
+
+pub not-supported : Row NotSupported 2
+not-supported = (refl, λ held. refl)
+
+pub memory-overrun : Row MemoryOverrun 3
+memory-overrun = (refl, λ held. refl)
+
+pub memory-write-error : Row MemoryWriteError 4
+memory-write-error = (refl, λ held. refl)
+
+pub out-of-turn : Row OutOfTurn 5
+out-of-turn = (refl, λ held. refl)
+
+pub proof-wrong : Row ProofWrong 6
+proof-wrong = (refl, λ held. refl)
+
+pub bench-fault : (numberOf BenchFault ≡ 7) × ((held : Session) → sessionAfter BenchFault held ≡ held)
+bench-fault = (refl, λ held. refl)
+
+-- The length that is told is that of the reply; with a refusal it is 0.
+abbrev Told : Answer → Type 0
+Told a = replyLength (a .outcome) ≡ length (a .reply)
+
+module _ (c : Call) where
+  refusal-told : (f : Fault) (s : Session) → Told (refused c f s)
+  unfolding refused
+  refusal-told f s = refl
+
+  kind-told : (setup : Setup) (held : Session) (k : Kind) → Told (byKind c setup held k)
+  unfolding byKind tam1Answer tam2Answer iam1Answer iam2Answer iam3Answer mam1Answer mam2Answer replied letIn
+  kind-told setup held Tam1 = fine-case c Told (λ f. refusal-told f cleared) _ _ refl
+  kind-told setup held Tam2 = fine-case c Told (λ f. refusal-told f cleared) _ _ refl
+  kind-told setup held Iam1 = fine-case c Told (λ f. refusal-told f cleared) _ _ refl
+  kind-told setup held Iam2 = fine-case c Told (λ f. refusal-told f cleared) _ _ refl
+  kind-told setup held Iam3 = fine-case c Told (λ f. refusal-told f cleared) _ _ refl
+  kind-told setup held Mam1 = fine-case c Told (λ f. refusal-told f cleared) _ _ refl
+  kind-told setup held Mam2 = fine-case c Told (λ f. refusal-told f cleared) _ _ refl
+  kind-told setup held Unsupported = refusal-told NotSupported cleared
+
+  pub length-told : (tag : Tag) → replyLength (answerOf c tag .outcome) ≡ length (answerOf c tag .reply)
+  length-told tag = answer-case c Told (λ f. refusal-told f cleared) tag (λ f. refusal-told f (tag .session)) (λ first rest e o t. kind-told (tag .setup) (tag .session) (kindOf first))
