@@ -1,0 +1,74 @@
+-- Demand 2, recovery: what the reader's side makes of a tag's own answer. Whatever the message, the draws and the areas, where the tag takes the message and the reader has the keys
+-- of the record that the tag uses, the judge accepts the reply, hands over exactly the words of the block that the message asks for, and holds the challenge that the tag holds.
+use Prim.Native.Nat.{ℕ, _≤_}
+use mathlib.Core.Path.{_≡_}
+use mathlib.Core.List.{List}
+use Rattle.field.proofs.Block.{Bytes}
+use Rattle.memory.specs.Areas.{windowOf}
+use Rattle.sheet.specs.declared.Key.{Key}
+use Rattle.sheet.specs.Within.{Within}
+use Rattle.frames.specs.declared.Kind.{Kind}
+use Rattle.frames.specs.declared.Kind.the-variants.{Tam1, Tam2, Iam1, Iam2, Iam3, Mam1, Mam2, Unsupported}
+use Rattle.frames.specs.Fields.{byte}
+use Rattle.frames.specs.Kinds.{kindOf}
+use Rattle.frames.specs.Messages.{tam1Of, tam2Of, iam1Of, mam1Of}
+use Rattle.tag.specs.declared.Tag.{Tag}
+use Rattle.tag.specs.declared.Outcome.{Outcome}
+use Rattle.tag.specs.declared.Outcome.the-variants.{Replied, Entered, Refused}
+use Rattle.tag.specs.Answers.{Answer, Call, answerOf}
+use Rattle.tag.specs.Records.{keyNamed, blockAsked}
+use Rattle.reader.specs.declared.Keys.{Keys}
+use Rattle.reader.specs.Findings.{Finding, nothingMore, carries, worthOf, issues}
+use Rattle.reader.specs.Judged.{judgementOf}
+use Rattle.reader.specs.Own.{dataRoom}
+
+-- The tag took the message.
+abbrev pub Taken : Outcome → Type 0
+Taken (Replied n) = Unit {0}
+Taken (Entered purpose) = Unit {0}
+Taken (Refused f) = ⊥
+
+-- The KeyID of the record that the tag uses: the message's, or the one that is held since the message before.
+unfoldable pub keyidUsed : Tag → List ℕ → Kind → ℕ
+keyidUsed tag m Tam1 = tam1Of m .keyid
+keyidUsed tag m Tam2 = tam2Of m .keyid
+keyidUsed tag m Iam1 = iam1Of m .keyid
+keyidUsed tag m Iam2 = tag .session .keyid
+keyidUsed tag m Iam3 = tag .session .keyid
+keyidUsed tag m Mam1 = mam1Of m .keyid
+keyidUsed tag m Mam2 = tag .session .keyid
+keyidUsed tag m Unsupported = 0
+
+abbrev pub keyUsed : Tag → List ℕ → Key
+keyUsed tag m = keyNamed (tag .setup) (keyidUsed tag m (kindOf (byte m 0)))
+
+-- The reader has the keys of a record.
+pub record Shares (keys : Keys) (key : Key) : Type 0 where
+  pub enc : keys .enc ≡ key .enc
+  pub mac : keys .mac ≡ key .mac
+  pub mackey : keys .mackey ≡ key .mackey
+
+-- What is lent and what is sent are bytes, and the setup is one that a sheet says.
+pub record Fit (c : Call) (tag : Tag) (keys : Keys) : Type 0 where
+  pub setup : Within (tag .setup)
+  pub message : Bytes (c .message)
+  pub draws : Bytes (c .draws)
+  pub identity : Bytes (c .identity)
+  pub user : Bytes (c .user)
+  pub enc : Bytes (keys .enc)
+
+-- What the reader is to find, of an answer to a message of a kind.
+unfoldable pub due : Call → Tag → Answer → Kind → Finding
+due c tag a Tam1 = nothingMore
+due c tag a Tam2 = carries (worthOf (tam2Of (c .message) .protmode)) (windowOf (c .identity) (c .user) (blockAsked (tag .setup) (tam2Of (c .message) .custom)))
+due c tag a Iam1 = issues (a .session .tchallenge)
+due c tag a Iam2 = nothingMore
+due c tag a Iam3 = nothingMore
+due c tag a Mam1 = issues (a .session .tchallenge)
+due c tag a Mam2 = nothingMore
+due c tag a Unsupported = nothingMore
+
+abbrev pub Recovery : Type 0
+Recovery =
+    (c : Call) (tag : Tag) (keys : Keys) (room : ℕ) → Fit c tag keys → Shares keys (keyUsed tag (c .message)) → dataRoom ≤ room → Taken (answerOf c tag .outcome)
+    → judgementOf keys (c .message) (answerOf c tag .reply) room ≡ due c tag (answerOf c tag) (kindOf (byte (c .message) 0))
