@@ -35,7 +35,7 @@ use Rattle.reader.specs.declared.Keys.{Keys}
 use Rattle.reader.specs.Findings.{Finding, nothingMore, issues}
 use Rattle.reader.specs.Judged.{iam1Finding, emptyFinding, judgementOf, byKind as findingOf}
 use Rattle.reader.specs.Own.{dataRoom, modeFits, fieldsFit, ownFits}
-use Rattle.reader.proofs.Judging.{own}
+use Rattle.reader.proofs.Judging.{own-told}
 use Rattle.reader.proofs.Lines.{passes, ends}
 use Rattle.claims.specs.Recovery.{Taken, keyidUsed, Shares, Fit, due, Recovery}
 use Rattle.claims.proofs.Opens.{tam1-found, mam1-found}
@@ -82,7 +82,7 @@ module _ (c : Call) (tag : Tag) (keys : Keys) (room : ℕ) (fit : Fit c tag keys
       judges : (reply : List ℕ) (found : Finding) → lengthFits k (c .message) ≡ true → fieldsFit keys k (c .message) ≡ true → findingOf keys (c .message) reply k ≡ found
           → judgementOf keys (c .message) reply room ≡ found
       unfolding ownFits
-      judges reply found l h q = own keys (c .message) reply room k some e (ap₂ both (le-leb dataRoom room enough) (ap₂ both l h)) ∙ q
+      judges reply found l h q = own-told keys (c .message) reply room k some e (ap₂ both (le-leb dataRoom room enough) (ap₂ both l h)) ∙ q
 
       opens-with : (rfu keyid : ℕ) (reply : List ℕ) (found : Finding) → fieldsFit keys k (c .message) ≡ eqb rfu 0 → findingOf keys (c .message) reply k ≡ found
           → judged (openingChecks k rfu keyid (tag .setup) (c .message)) ≡ Fine → judgementOf keys (c .message) reply room ≡ found

@@ -80,7 +80,8 @@ module _ (keys : Keys) (f : Tam2) (reply : List ℕ) (h : 16 + blocksLength (f .
       picked false a b p q = q
 
   -- by the call that chains, and by the copy
-  module _ (r : ℕ) (room after : List ℕ) (e : r ≡ blocksLength (f .custom .blocksize) (f .rev) (f .custom .blockcount)) (fits : blocksLength (f .custom .blocksize) (f .rev) (f .custom .blockcount) ≤ length room) where
+  module _ (r : ℕ) (room after : List ℕ) (e : r ≡ blocksLength (f .custom .blocksize) (f .rev) (f .custom .blockcount))
+      (fits : blocksLength (f .custom .blocksize) (f .rev) (f .custom .blockcount) ≤ length room) where
     sent : take (16 + r - 16) (drop 16 reply) ≡ dataSent f reply
     sent = let k : 16 + r - 16 ≡ r = omega arith in ap (λ (j : ℕ). take j (drop 16 reply)) (k ∙ e)
 

@@ -10,16 +10,14 @@ use lib.ListN.{length, getD}
 use Rattle.ground.specs.Choice.{pick, both}
 use Rattle.modes.specs.Room.{over}
 use Rattle.frames.specs.declared.Kind.{Kind}
-use Rattle.frames.specs.declared.Tam1.{Tam1}
-use Rattle.frames.specs.declared.Mam1.{Mam1}
 use Rattle.frames.specs.Kinds.{kindOf}
 use Rattle.frames.specs.Lengths.{lengthFits}
 use Rattle.frames.proofs.Range.{both-left}
 use Rattle.reader.specs.declared.Keys.{Keys}
 use Rattle.reader.specs.declared.Fault.the-variants.{OwnMessage}
 use Rattle.reader.specs.declared.Judgement.{Judgement}
-use Rattle.reader.specs.Findings.{Finding, Check, refused, nothingMore, issues, judged, saidOf, verdictNumber, Judges}
-use Rattle.reader.specs.Judged.{tam1Finding, iam1Finding, mam1Finding, emptyFinding, byKind, ofKind, ofMessage, judgementOf}
+use Rattle.reader.specs.Findings.{Finding, Check, refused, judged, saidOf, verdictNumber, Judges}
+use Rattle.reader.specs.Judged.{byKind, ofKind, judgementOf}
 use Rattle.reader.specs.Own.{dataRoom, fieldsFit, ownFits}
 
 -- Data over the room's first bytes, as many as are said.
@@ -45,31 +43,20 @@ line-quiet (c ∷ cs) found e = chosen (c .holds) (judged cs found) (refused (c 
     chosen false f g p q = q
 
 -- The judge, from the message's first byte on.
-module _ (keys : Keys) (m reply : List ℕ) (room : ℕ) where
-  pub no-message : length m ≡ 0 → judgementOf keys m reply room ≡ refused OwnMessage
-  unfolding judgementOf ofMessage
-  no-message = on m
-    where
-      on : (l : List ℕ) → length l ≡ 0 → ofMessage keys m reply room l ≡ refused OwnMessage
-      on [] e = refl
-      on (x ∷ l) e = absurd (let w : ⊥ = omega arith in w)
+pub no-message : (keys : Keys) (m reply : List ℕ) (room : ℕ) → length m ≡ 0 → judgementOf keys m reply room ≡ refused OwnMessage
+unfolding judgementOf
+no-message keys [] reply room e = refl
+no-message keys (x ∷ m) reply room e = absurd (let w : ⊥ = omega arith in w)
 
-  by-first : (length m ≡ 0 → ⊥) → judgementOf keys m reply room ≡ ofKind keys m reply room (kindOf (getD m 0 0))
-  unfolding judgementOf ofMessage
-  by-first = on m
-    where
-      on : (l : List ℕ) → (length l ≡ 0 → ⊥) → ofMessage keys m reply room l ≡ ofKind keys m reply room (kindOf (getD l 0 0))
-      on [] h = absurd (h refl)
-      on (x ∷ l) h = refl
+by-first : (keys : Keys) (m reply : List ℕ) (room : ℕ) → (length m ≡ 0 → ⊥) → judgementOf keys m reply room ≡ ofKind keys m reply room (kindOf (getD m 0 0))
+unfolding judgementOf
+by-first keys [] reply room h = absurd (h refl)
+by-first keys (x ∷ m) reply room h = refl
 
-  module _ (kind : Kind) (some : length m ≡ 0 → ⊥) (e : kind ≡ kindOf (getD m 0 0)) where
-    pub not-own : ownFits keys kind m room ≡ false → judgementOf keys m reply room ≡ refused OwnMessage
-    unfolding ofKind
-    not-own h = by-first some ∙ ap (ofKind keys m reply room) (sym e) ∙ ap (λ (b : Bool). pick b (byKind keys m reply kind) (refused OwnMessage)) h
-
-    pub own : ownFits keys kind m room ≡ true → judgementOf keys m reply room ≡ byKind keys m reply kind
-    unfolding ofKind
-    own h = by-first some ∙ ap (ofKind keys m reply room) (sym e) ∙ ap (λ (b : Bool). pick b (byKind keys m reply kind) (refused OwnMessage)) h
+module _ (keys : Keys) (m reply : List ℕ) (room : ℕ) (kind : Kind) (some : length m ≡ 0 → ⊥) (e : kind ≡ kindOf (getD m 0 0)) where
+  pub own-told : {b : Bool} → ownFits keys kind m room ≡ b → judgementOf keys m reply room ≡ pick b (byKind keys m reply kind) (refused OwnMessage)
+  unfolding ofKind
+  own-told h = by-first keys m reply room some ∙ ap (ofKind keys m reply room) (sym e) ∙ ap (λ (b : Bool). pick b (byKind keys m reply kind) (refused OwnMessage)) h
 
 pub room-enough : (keys : Keys) (kind : Kind) (m : List ℕ) (room : ℕ) → ownFits keys kind m room ≡ true → dataRoom ≤ room
 unfolding ownFits

@@ -33,7 +33,7 @@ refused f = silent (Refused f)
 abbrev pub nothingMore : Finding
 nothingMore = silent Accepted
 
--- Table 3: only a MAC proves data.
+-- Table 3: only a MAC proves data. In Rev 0 it proves the bytes and not their address, since no header says it.
 unfoldable pub worthOf : ℕ → Worth
 worthOf protmode = pick (hasMac protmode) Proved Unproved
 

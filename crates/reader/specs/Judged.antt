@@ -79,15 +79,11 @@ module _ (keys : Keys) (m reply : List ℕ) where
   byKind Mam2 = emptyFinding reply
   byKind Unsupported = refused OwnMessage
 
-  module _ (room : ℕ) where
-    -- A message that is there, with a data room of so many bytes.
-    unfoldable pub ofKind : Kind → Finding
-    ofKind kind = pick (ownFits keys kind m room) (byKind kind) (refused OwnMessage)
-
-    unfoldable pub ofMessage : List ℕ → Finding
-    ofMessage [] = refused OwnMessage
-    ofMessage (first ∷ rest) = ofKind (kindOf first)
+-- A message of a kind, with a data room of so many bytes.
+unfoldable pub ofKind : Keys → List ℕ → List ℕ → ℕ → Kind → Finding
+ofKind keys m reply room kind = pick (ownFits keys kind m room) (byKind keys m reply kind) (refused OwnMessage)
 
 -- The judgement of a reply.
 unfoldable pub judgementOf : Keys → List ℕ → List ℕ → ℕ → Finding
-judgementOf keys m reply room = ofMessage keys m reply room m
+judgementOf keys [] reply room = refused OwnMessage
+judgementOf keys (first ∷ rest) reply room = ofKind keys (first ∷ rest) reply room (kindOf first)

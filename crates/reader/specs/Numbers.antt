@@ -1,4 +1,4 @@
--- The scope paper, "Numbers the reader's side gives".
+-- The scope paper's number of each refusal of the reader's side.
 use Prim.Native.Nat.{ℕ}
 use Rattle.reader.specs.declared.Fault.{Fault}
 use Rattle.reader.specs.declared.Fault.the-variants.{ReplyLength, ChallengeWrong, MacWrong, HeaderWrong, OwnMessage}

@@ -3,7 +3,7 @@ use mathlib.Core.Path.{refl}
 use lib.ListN.{length}
 use Rattle.reader.specs.Findings.{refused}
 use Rattle.reader.proofs.Lines.{yes, no}
-use Rattle.reader.proofs.Judging.{quiet, judges-as, no-message, not-own, own, room-enough}
+use Rattle.reader.proofs.Judging.{quiet, judges-as, no-message, own-told, room-enough}
 use borrow.Author.Needs.{needs}
 use Rattle.reader.proofs.judged.judge.Statement.{statement}
 use Rattle.reader.proofs.judged.judge.Tie as tie
@@ -31,7 +31,8 @@ returns-2 : tie.Need-returns-2
 returns-2 c = let k = c .before .before .before in
     let a = k .before .before .before .before .before .before .args in
     judges-as
-    (not-own (a .keys) (a .message .now) (a .reply .now) (length (a .room .now)) (k .kind-of .result) (k .before .before .if1 .left) (k .kind-of .ensures) (no (c .before .before .own-fits .ensures) (c .before .if2 .taken)))
+    (own-told (a .keys) (a .message .now) (a .reply .now) (length (a .room .now)) (k .kind-of .result) (k .before .before .if1 .left) (k .kind-of .ensures)
+    (no (c .before .before .own-fits .ensures) (c .before .if2 .taken)))
     (quiet (refused _) _ _ refl (c .refused2 .ensures))
 
 by-kind-requires : tie.Need-by-kind-requires
@@ -47,7 +48,8 @@ returns-3 c = let o = c .before .before .before .before .before in
     let k = o .before in
     let a = k .before .before .before .before .before .before .args in
     judges-as
-    (own (a .keys) (a .message .now) (a .reply .now) (length (a .room .now)) (k .kind-of .result) (k .before .before .if1 .left) (k .kind-of .ensures) (yes (o .own-fits .ensures) (c .before .before .before .before .if2 .left)))
+    (own-told (a .keys) (a .message .now) (a .reply .now) (length (a .room .now)) (k .kind-of .result) (k .before .before .if1 .left) (k .kind-of .ensures)
+    (yes (o .own-fits .ensures) (c .before .before .before .before .if2 .left)))
     (c .before .before .by-kind .ensures)
 
 pub judge-spec : {M : Type 1} → statement M

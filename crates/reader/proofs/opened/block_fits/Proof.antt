@@ -43,7 +43,9 @@ same-requires-2 c κs = search needs
 returns-2 : tie.Need-returns-2
 returns-2 c = let s = c .before .before .before .before .before .before .before .before in
     let a = s .args in
-    c .same2 .ensures ∙ sym (challenge-left (a .t1) (a .t2) (a .t3) (array-length 16 (a .t3) _ (s .good .1 .1 .0)) (yes (c .before .before .before .before .before .same .ensures) (c .before .before .before .before .if1 .left)))
+    c .same2 .ensures
+    ∙ sym (challenge-left (a .t1) (a .t2) (a .t3) (array-length 16 (a .t3) _ (s .good .1 .1 .0))
+    (yes (c .before .before .before .before .before .same .ensures) (c .before .before .before .before .if1 .left)))
 
 pub block-fits-spec : {M : Type 1} → statement M
 block-fits-spec =
