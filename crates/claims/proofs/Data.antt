@@ -62,7 +62,8 @@ mac-there : (b : Bool) (mackey s : List ℕ) → macs (length s) 12 ≡ true →
 mac-there true mackey s t = ap₂ both t (same-self (cmac96 mackey s))
 mac-there false mackey s t = refl
 
-module _ (keys : Keys) (key : Key) (e : Shares keys key) (b : Bytes (keys .enc)) (draws : List ℕ) (d : Ten draws) (f : Tam2) (t : Ten (f .ichallenge)) (fit : customFits (f .custom) ≡ true)
+module _ (keys : Keys) (key : Key) (e : Shares keys key) (b : Bytes (keys .enc)) (draws : List ℕ) (d : Ten draws)
+    (f : Tam2) (t : Ten (f .ichallenge)) (fit : customFits (f .custom) ≡ true)
     (words : List ℕ) (all : length words ≡ dataLength (f .custom .blocksize) (f .custom .blockcount)) (w : Bytes words) where
   abbrev count : ℕ
   count = blocksLength (f .custom .blocksize) (f .rev) (f .custom .blockcount)
@@ -115,7 +116,8 @@ module _ (keys : Keys) (key : Key) (e : Shares keys key) (b : Bytes (keys .enc))
   block-fits =
       let four : length (take 4 draws) ≡ 4 = length-take-le 4 draws (omega (arith, d .ten)) in
       let k = tam2Constant (f .rev) (f .protmode) in
-      ap (blockFits (twoBytes k) (f .ichallenge)) (opens k (take 4 draws) (f .ichallenge) four keys (key .enc) reply (e .enc) b (constant-le (f .rev) (f .protmode)) (bytes-take 4 draws (d .bytes)) t (front ∙ made-block (key .enc) (twoBytes k) draws (f .ichallenge)))
+      ap (blockFits (twoBytes k) (f .ichallenge)) (opens k (take 4 draws) (f .ichallenge) four keys (key .enc) reply (e .enc) b
+      (constant-le (f .rev) (f .protmode)) (bytes-take 4 draws (d .bytes)) t (front ∙ made-block (key .enc) (twoBytes k) draws (f .ichallenge)))
       ∙ block-right k (take 4 draws) (f .ichallenge) four
 
   mac-fits : macFits (keys .mackey) (f .protmode) (take (tam2MacAt (f .custom .blocksize) (f .rev) (f .custom .blockcount)) reply) (drop (tam2MacAt (f .custom .blocksize) (f .rev) (f .custom .blockcount)) reply) ≡ true
@@ -131,7 +133,8 @@ module _ (keys : Keys) (key : Key) (e : Shares keys key) (b : Bytes (keys .enc))
   opened =
       let be : Bytes (key .enc) = λ i. subst (λ (l : List ℕ). getD l i 0 < 256) (e .enc) (b i) in
       (λ i. pick (encrypts (f .protmode)) (cbcDecAesInv (front i) (e .enc i) (middle i)) (middle i))
-      ∙ undone (encrypts (f .protmode)) block (key .enc) clear (tam-block-block draws d (key .enc) (f .ichallenge) (tam2Constant (f .rev) (f .protmode)) be (constant-le (f .rev) (f .protmode)) t .bytes) be
+      ∙ undone (encrypts (f .protmode)) block (key .enc) clear
+      (tam-block-block draws d (key .enc) (f .ichallenge) (tam2Constant (f .rev) (f .protmode)) be (constant-le (f .rev) (f .protmode)) t .bytes) be
       (carried-bytes (f .rev) (f .custom) words fit w) clear-whole
 
   clear-found : dataFinding f clear ≡ carries (worthOf (f .protmode)) words
@@ -144,4 +147,5 @@ module _ (keys : Keys) (key : Key) (e : Shares keys key) (b : Bytes (keys .enc))
   unfolding tam2Finding
   tam2-found =
       ap (tam2Finding keys f) reply-is
-      ∙ passes _ _ _ (eq-eqb _ _ (sym (ap length reply-is) ∙ tam2-long key f words draws few)) (passes _ _ _ block-fits (passes _ _ _ mac-fits (ends _ ∙ ap (dataFinding f) opened ∙ clear-found)))
+      ∙ passes _ _ _ (eq-eqb _ _ (sym (ap length reply-is) ∙ tam2-long key f words draws few))
+      (passes _ _ _ block-fits (passes _ _ _ mac-fits (ends _ ∙ ap (dataFinding f) opened ∙ clear-found)))

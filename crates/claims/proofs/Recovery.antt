@@ -98,7 +98,9 @@ module _ (c : Call) (tag : Tag) (keys : Keys) (room : ℕ) (fit : Fit c tag keys
     unfolding tam1Answer replied due findingOf fieldsFit keyidUsed
     tam1-claim e s =
         let f = tam1Of (c .message) in
-        fine Tam1 _ _ (λ h t. opens-with Tam1 e s (f .rfu) (f .keyid) _ nothingMore refl (tam1-found keys (keyNamed (tag .setup) (f .keyid)) (s .enc) (fit .enc) (c .draws) ten f (tam1-challenge (c .message) (fit .message))) h)
+        fine Tam1 _ _
+        (λ h t. opens-with Tam1 e s (f .rfu) (f .keyid) _ nothingMore refl
+        (tam1-found keys (keyNamed (tag .setup) (f .keyid)) (s .enc) (fit .enc) (c .draws) ten f (tam1-challenge (c .message) (fit .message))) h)
 
     iam1-claim : Iam1 ≡ kindOf (byte (c .message) 0) → Keyed Iam1 → Claim Iam1 (iam1Answer c (tag .setup))
     unfolding iam1Answer replied due findingOf fieldsFit keyidUsed
@@ -110,7 +112,9 @@ module _ (c : Call) (tag : Tag) (keys : Keys) (room : ℕ) (fit : Fit c tag keys
     unfolding mam1Answer replied due findingOf fieldsFit keyidUsed
     mam1-claim e s =
         let f = mam1Of (c .message) in
-        fine Mam1 _ _ (λ h t. opens-with Mam1 e s (f .rfu) (f .keyid) _ (issues (c .draws)) refl (mam1-found keys (keyNamed (tag .setup) (f .keyid)) (s .enc) (fit .enc) (c .draws) ten f (mam1-challenge (c .message) (fit .message))) h)
+        fine Mam1 _ _
+        (λ h t. opens-with Mam1 e s (f .rfu) (f .keyid) _ (issues (c .draws)) refl
+        (mam1-found keys (keyNamed (tag .setup) (f .keyid)) (s .enc) (fit .enc) (c .draws) ten f (mam1-challenge (c .message) (fit .message))) h)
 
     iam2-claim : Iam2 ≡ kindOf (byte (c .message) 0) → Keyed Iam2 → Claim Iam2 (iam2Answer c (tag .setup) (tag .session))
     unfolding iam2Answer iam2Checks letIn due findingOf fieldsFit
@@ -125,7 +129,8 @@ module _ (c : Call) (tag : Tag) (keys : Keys) (room : ℕ) (fit : Fit c tag keys
     iam3-claim e s =
         fine Iam3 _ _
         (λ h t. judges Iam3 e s [] nothingMore (first-holds _ _ h)
-        (ap₂ both (first-holds _ _ (others-hold _ _ (others-hold _ _ h))) (mode-own (tag .setup) keys (keyNamed (tag .setup) (tag .session .keyid)) (iam3Of (c .message) .protmode) s (first-holds _ _ (others-hold _ _ h)))) empty-found)
+        (ap₂ both (first-holds _ _ (others-hold _ _ (others-hold _ _ h)))
+        (mode-own (tag .setup) keys (keyNamed (tag .setup) (tag .session .keyid)) (iam3Of (c .message) .protmode) s (first-holds _ _ (others-hold _ _ h)))) empty-found)
 
     module _ (h : judged (tam2Checks (tag .setup) (c .message)) ≡ Fine) (s : Keyed Tam2) where
       tam2-lengths : lengthFits Tam2 (c .message) ≡ true
@@ -136,7 +141,8 @@ module _ (c : Call) (tag : Tag) (keys : Keys) (room : ℕ) (fit : Fit c tag keys
       unfolding tam2Checks fieldsFit keyidUsed
       tam2-fields =
           let f = tam2Of (c .message) in
-          ap₂ both (first-holds _ _ (others-hold _ _ (others-hold _ _ (others-hold _ _ h)))) (mode-own (tag .setup) keys (keyNamed (tag .setup) (f .keyid)) (f .protmode) s (tam2-mode (tag .setup) (c .message) h))
+          ap₂ both (first-holds _ _ (others-hold _ _ (others-hold _ _ (others-hold _ _ h))))
+          (mode-own (tag .setup) keys (keyNamed (tag .setup) (f .keyid)) (f .protmode) s (tam2-mode (tag .setup) (c .message) h))
 
       tam2-slot : slotNamed (tag .setup) (tam2Of (c .message) .custom .profile) .present ≡ true
       unfolding tam2Checks
