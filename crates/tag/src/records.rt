@@ -106,7 +106,7 @@ fn at_rest(state: State) -> bool
 {
     match state {
         State::Initial => true,
-        State::IamInit => false,
+        State::IamInit => false, // a challenge waits for its answer
         State::MamInit => false,
         State::IaOk => true,
     }
