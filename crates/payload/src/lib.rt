@@ -107,7 +107,7 @@ fn lay(room: &mut [u8], a: &[u8], b: &[u8])
 }
 
 /// Header (in Rev 1), data and zeros up to D blocks, into the first bytes of a room (9.2). Where a field does not fit its bits, there
-/// are more data than BlockCount says, or the room is too short, the answer is false and no byte changes.
+/// are more data than BlockCount says, or the room is too short, the answer is false and no byte changes. Fewer data are filled up with zeros.
 ///
 /// Ruled out: a header in Rev 0; a last block that is filled with what the room held.
 pub fn carried_into(rev: bool, custom: Custom, words: &[u8], room: &mut [u8]) -> bool

@@ -1,7 +1,7 @@
 -- Only an IAM3 changes an area, and only bytes of the block that it addresses, in the area that the block is in.
-use mathlib.Core.Path.{_≡_, refl, sym, ap, _∙_, subst}
-use mathlib.Core.Bool.{Bool, true, false}
-use mathlib.Core.List.{List, [], _∷_}
+use mathlib.Core.Path.{_≡_, refl, ap}
+use mathlib.Core.Bool.{false}
+use mathlib.Core.List.{List, _∷_}
 use mathlib.Core.Logic.{_⊎_, inl, inr}
 use Prim.Native.Nat.{ℕ, _+_, _≤_, _<_}
 use native.Mathlib.Omega.{arith}
@@ -22,9 +22,8 @@ use Rattle.tag.specs.declared.Session.{Session}
 use Rattle.tag.specs.declared.Tag.{Tag}
 use Rattle.tag.specs.declared.Fault.the-variants.{NotSupported}
 use Rattle.tag.specs.States.{cleared}
-use Rattle.tag.specs.Records.{keyNamed, blockAsked}
-use Rattle.tag.specs.Opened.{openedData, wordsIn}
-use Rattle.tag.specs.Answers.{Answer, Call, refused, replied, letIn, ifFine, tam1Answer, tam2Answer, iam1Answer, iam2Answer, iam3Answer, mam1Answer, mam2Answer, byKind, answerOf}
+use Rattle.tag.specs.Records.{blockAsked}
+use Rattle.tag.specs.Answers.{Answer, Call, refused, replied, letIn, tam1Answer, tam2Answer, iam1Answer, iam2Answer, iam3Answer, mam1Answer, mam2Answer, byKind, answerOf}
 use Rattle.tag.proofs.Cases.{fine-case, answer-case}
 
 -- A byte of an area that is none of the block's: the block is in the other area, or the byte lies before it or behind it.

@@ -5,11 +5,9 @@ use mathlib.Core.List.{List, [], _∷_}
 use Prim.Native.Nat.{ℕ}
 use lib.ListN.{length}
 use Rattle.ground.specs.Choice.{pick}
-use Rattle.sheet.specs.declared.Setup.{Setup}
 use Rattle.frames.specs.Kinds.{kindOf}
 use Rattle.tag.specs.declared.Fault.{Fault}
 use Rattle.tag.specs.declared.Fault.the-variants.{OtherError, NotSupported, OutOfTurn}
-use Rattle.tag.specs.declared.Session.{Session}
 use Rattle.tag.specs.declared.Tag.{Tag}
 use Rattle.tag.specs.declared.Verdict.{Verdict}
 use Rattle.tag.specs.declared.Verdict.the-variants.{Fine, Wrong}

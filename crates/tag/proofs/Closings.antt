@@ -1,7 +1,7 @@
 -- What the code of IAM2, MAM2 and IAM3 leaves behind, from its parts.
 use mathlib.Core.Path.{_≡_, refl, sym, ap, _∙_, subst}
 use mathlib.Core.Bool.{Bool, true, false}
-use mathlib.Core.List.{List, [], _∷_, _++_}
+use mathlib.Core.List.{List}
 use Prim.Native.Nat.{ℕ, _+_, _≤_}
 use native.Mathlib.Omega.{arith}
 use lib.ListN.{length}
@@ -31,7 +31,7 @@ use Rattle.tag.specs.declared.Verdict.{Verdict}
 use Rattle.tag.specs.declared.Verdict.the-variants.{Fine, Wrong}
 use Rattle.tag.specs.States.{cleared, entered}
 use Rattle.tag.specs.Checks.{judged}
-use Rattle.tag.specs.Judged.{iam2Checks, mam2Checks, iam3Checks}
+use Rattle.tag.specs.Judged.{iam2Checks, mam2Checks}
 use Rattle.tag.specs.Parts.{closingChecks, iam3FieldChecks, heldAfter}
 use Rattle.tag.specs.Records.{keyNamed, blockAsked}
 use Rattle.tag.specs.Opened.{iamProof, mamProof, purposeIn, sentBlock, openedData, wordsIn, iam3Proof}

@@ -1,7 +1,6 @@
 -- While a challenge waits for its answer, a record has the KeyID that is held: from power-up on no key of zeros stands in for one that is missing.
-use mathlib.Core.Path.{_≡_, refl}
+use mathlib.Core.Path.{_≡_}
 use mathlib.Core.Bool.{true}
-use mathlib.Core.List.{List, []}
 use Prim.Native.Nat.{ℕ}
 use native.Mathlib.Omega.{arith}
 use Rattle.frames.specs.declared.Kind.{Kind}

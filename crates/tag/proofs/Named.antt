@@ -1,8 +1,7 @@
 -- What `find`, `slot` and `block_asked` gave is what the definitions name.
-use Prim.Native.Nat.{ℕ, _+_}
-use mathlib.Core.Path.{_≡_, _∙_}
+use Prim.Native.Nat.{ℕ}
+use mathlib.Core.Path.{_≡_}
 use mathlib.Core.Bool.{Bool}
-use mathlib.Core.List.{List}
 use lib.ListN.{take, getD}
 use Rattle.memory.specs.declared.Block.{Block}
 use Rattle.frames.specs.Asked.{blockAsked as wordsAsked}

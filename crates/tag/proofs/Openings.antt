@@ -1,7 +1,7 @@
 -- What the code of TAM1, IAM1, MAM1 and TAM2 leaves behind, from its parts.
 use mathlib.Core.Path.{_≡_, refl, sym, ap, _∙_}
 use mathlib.Core.List.{List, [], _∷_, _++_}
-use Prim.Native.Nat.{ℕ, _≤_}
+use Prim.Native.Nat.{ℕ}
 use lib.ListN.{length, getD, take, drop, replicate}
 use Rattle.modes.specs.Room.{over}
 use Rattle.modes.proofs.Rooms.{copied}

@@ -1,6 +1,5 @@
 -- The scope paper's table of the tag's numbers, row by row, and the reply's length.
 use mathlib.Core.Path.{_≡_, refl}
-use mathlib.Core.List.{List}
 use Prim.Native.Nat.{ℕ}
 use lib.ListN.{length}
 use Rattle.frames.specs.declared.Kind.{Kind}

@@ -13,7 +13,7 @@ use Rattle.sheet.specs.declared.Features.{Features}
 use Rattle.sheet.specs.declared.Key.{Key}
 use Rattle.sheet.specs.declared.Setup.{Setup}
 use Rattle.frames.specs.declared.Kind.{Kind}
-use Rattle.frames.specs.declared.Kind.the-variants.{Tam2, Iam3}
+use Rattle.frames.specs.declared.Kind.the-variants.{Iam3}
 use Rattle.frames.specs.Messages.{tam2Of, iam3Of}
 use Rattle.frames.specs.Lengths.{tam2Length, iam3FieldsLength, iam3Length, lengthFits, iam3LengthFits, replyRoom}
 use Rattle.tag.specs.declared.Verdict.the-variants.{Fine}

@@ -1,5 +1,5 @@
 -- The code's run is the definition's: over any sequence of calls, what is returned, every room and both areas are those of the fold.
-use mathlib.Core.Path.{_≡_, refl, sym, ap, _∙_, subst}
+use mathlib.Core.Path.{_≡_, refl, subst}
 use mathlib.Core.List.{List, [], _∷_}
 use Prim.Native.Nat.{ℕ}
 use contract.Lifetimes.{Lfts}
@@ -9,7 +9,7 @@ use denote.Ref.{now}
 use Rattle.tag.specs.declared.Tag.{Tag}
 use Rattle.tag.specs.Answers.{Answer, answerOf}
 use Rattle.tag.specs.Reactions.{lent}
-use Rattle.tag.specs.Runs.{run, tagAfter}
+use Rattle.tag.specs.Runs.{run}
 use Rattle.tag.specs.Plays.{Brought, Left, Called, Plays, sentAll, leftOf, leftAll}
 use Rattle.tag.proofs.step.Reads as step
 use Rattle.tag.proofs.step.Kinds as step-kinds

@@ -1,24 +1,15 @@
 -- What an IAM3 comes to, once its fields were judged: its proof decides.
-use mathlib.Core.Path.{_≡_, refl, sym, ap, _∙_}
+use mathlib.Core.Path.{_≡_, refl, ap, _∙_}
 use mathlib.Core.Bool.{Bool, true, false}
 use mathlib.Core.List.{List, []}
-use Prim.Native.Nat.{ℕ, zero, suc, _+_, _≤_, _<_}
-use native.Mathlib.Omega.{arith}
-use borrow.Author.Tests.{eqb-true, ne-eqb, le-ltb}
-use lib.Dec.{eqb, leb, ltb}
-use lib.ListN.{length}
-use Rattle.ground.specs.Choice.{pick, either, implies}
+use Prim.Native.Nat.{ℕ}
+use Rattle.ground.specs.Choice.{pick}
 use Rattle.aes.specs.AesEnc.{aesEnc}
 use Rattle.memory.specs.declared.Area.the-variants.{Identity, User}
 use Rattle.memory.specs.Areas.{storedIn}
-use Rattle.sheet.specs.declared.Features.{Features}
 use Rattle.sheet.specs.declared.Key.{Key}
 use Rattle.sheet.specs.declared.Setup.{Setup}
-use Rattle.frames.specs.declared.Kind.the-variants.{Iam3}
-use Rattle.frames.specs.Blocks.{blocksLength}
-use Rattle.frames.specs.Lengths.{hasMac, iam3MacAt, iam3Length, iam3LengthFits, lengthFits}
 use Rattle.frames.specs.Messages.{iam3Of}
-use Rattle.frames.proofs.Range.{both-left, both-right}
 use Rattle.tag.specs.declared.Session.{Session}
 use Rattle.tag.specs.declared.Fault.the-variants.{ProofWrong}
 use Rattle.tag.specs.declared.Outcome.the-variants.{Entered, Refused}
@@ -26,7 +17,7 @@ use Rattle.tag.specs.declared.Verdict.{Verdict}
 use Rattle.tag.specs.declared.Verdict.the-variants.{Fine}
 use Rattle.tag.specs.States.{cleared, entered}
 use Rattle.tag.specs.Checks.{after, judged}
-use Rattle.tag.specs.Records.{modeOffered, modeSupported, keyNamed, blockAsked}
+use Rattle.tag.specs.Records.{keyNamed, blockAsked}
 use Rattle.tag.specs.Opened.{purposeIn, sentBlock, openedData, wordsIn, iam3Proof}
 use Rattle.tag.specs.Judged.{iam3Checks}
 use Rattle.tag.specs.Answers.{refused, Call, letIn, ifFine, iam3Answer}

@@ -15,11 +15,10 @@ use Rattle.tag.specs.declared.Fault.the-variants.{NotSupported}
 use Rattle.tag.specs.declared.Session.{Session}
 use Rattle.tag.specs.declared.Outcome.the-variants.{Refused}
 use Rattle.tag.specs.declared.Tag.{Tag}
-use Rattle.tag.specs.declared.Verdict.{Verdict}
 use Rattle.tag.specs.States.{cleared, entered, poweredUp, atRest, afterIam1, afterMam1, inTurn, tableA1}
 use Rattle.tag.specs.Runs.{Sent, callOf, tagAfter, run}
 use Rattle.tag.specs.Records.{offered}
-use Rattle.tag.specs.Answers.{Answer, Call, refused, replied, letIn, ifFine, tam1Answer, tam2Answer, iam1Answer, iam2Answer, iam3Answer, mam1Answer, mam2Answer, byKind, answerOf}
+use Rattle.tag.specs.Answers.{Answer, Call, refused, replied, letIn, tam1Answer, tam2Answer, iam1Answer, iam2Answer, iam3Answer, mam1Answer, mam2Answer, byKind, answerOf}
 use Rattle.tag.proofs.Cases.{fine-case, answer-case}
 
 -- Table A.1, the last column.

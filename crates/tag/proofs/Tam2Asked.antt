@@ -1,26 +1,23 @@
 -- What the fields of a TAM2 message, and the words that it asks for, come with.
-use mathlib.Core.Path.{_≡_, refl, sym, ap, ap₂, _∙_, subst}
+use mathlib.Core.Path.{_≡_, sym, ap, ap₂, _∙_, subst}
 use mathlib.Core.Bool.{Bool, true, false, cond}
 use mathlib.Core.List.{List, [], _∷_}
 use Prim.Native.Nat.{ℕ, zero, suc, _+_, _*_, _/_, _%_, _≤_, _<_}
 use native.Mathlib.Omega.{arith}
-use native.Mathlib.Nat.{mul-assoc}
 use borrow.Author.Tests.{lt-ltb}
 use lib.Dec.{lit<}
 use lib.ListN.{length, take, drop}
 use Rattle.ground.specs.Choice.{both}
 use Rattle.field.proofs.Block.{Bytes}
 use Rattle.memory.specs.declared.BlockSize.{BlockSize}
-use Rattle.memory.specs.declared.BlockSize.the-variants.{Bits64, Bits16}
 use Rattle.memory.specs.declared.Area.{Area}
 use Rattle.memory.specs.declared.Area.the-variants.{Identity, User}
 use Rattle.memory.specs.declared.Block.{Block}
-use Rattle.memory.specs.Address.{stepOf, addressOf}
 use Rattle.memory.specs.Areas.{byteCount, firstByte, areaOf, within, partOf, windowOf}
 use Rattle.modes.proofs.Whole.{bytes-take}
 use Rattle.sheet.specs.declared.Setup.{Setup}
 use Rattle.frames.specs.declared.Custom.{Custom}
-use Rattle.frames.specs.Blocks.{blockBytes, dataLength}
+use Rattle.frames.specs.Blocks.{dataLength}
 use Rattle.frames.specs.Fields.{byte, bytesFrom, sizeOf, customFits, selectCustom}
 use Rattle.frames.specs.Messages.{tam1Of, tam2Of, mam1Of}
 use Rattle.frames.proofs.Places.{bytes-length}

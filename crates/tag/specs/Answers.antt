@@ -1,8 +1,7 @@
 -- The tag: what one message comes to. Read from the top: number 7, the empty message, method, step or feature, the turn, and then by kind.
 use Prim.Native.Nat.{ℕ}
-use mathlib.Core.Bool.{Bool, true, false}
 use mathlib.Core.List.{List, [], _∷_}
-use lib.ListN.{length, getD, take, drop, replicate}
+use lib.ListN.{length, drop, replicate}
 use Rattle.ground.specs.Choice.{pick}
 use Rattle.aes.specs.AesEnc.{aesEnc}
 use Rattle.memory.specs.declared.Area.the-variants.{Identity, User}

@@ -1,25 +1,22 @@
 -- What is judged of each message before anything is done, in the order of the clauses and of the scope paper.
 use Prim.Native.Nat.{ℕ, _*_}
-use mathlib.Core.Bool.{Bool, true, false, not}
+use mathlib.Core.Bool.{not}
 use mathlib.Core.List.{List, [], _∷_}
 use lib.Dec.{eqb, leb}
-use lib.ListN.{length}
 use Rattle.ground.specs.Choice.{both}
 use Rattle.aes.specs.AesEnc.{aesEnc}
 use Rattle.memory.specs.Address.{overruns}
 use Rattle.memory.specs.Rights.{permitted, someLocked}
-use Rattle.sheet.specs.declared.Key.{Key}
 use Rattle.sheet.specs.declared.Setup.{Setup}
 use Rattle.frames.specs.declared.Kind.{Kind}
-use Rattle.frames.specs.declared.Kind.the-variants.{Tam1, Tam2, Iam1, Iam2, Iam3, Mam1, Mam2}
-use Rattle.frames.specs.declared.Custom.{Custom}
+use Rattle.frames.specs.declared.Kind.the-variants.{Tam2, Iam2, Iam3, Mam2}
 use Rattle.frames.specs.Constants.{C-IAM2}
-use Rattle.frames.specs.Messages.{tam1Of, tam2Of, iam1Of, iam2Of, iam3Of, mam1Of, mam2Of}
+use Rattle.frames.specs.Messages.{tam2Of, iam2Of, iam3Of, mam2Of}
 use Rattle.frames.specs.Lengths.{lengthFits, replyRoom}
-use Rattle.tag.specs.declared.Fault.the-variants.{OtherError, NotSupported, MemoryOverrun, MemoryWriteError, OutOfTurn, ProofWrong, BenchFault}
+use Rattle.tag.specs.declared.Fault.the-variants.{OtherError, NotSupported, MemoryOverrun, MemoryWriteError, ProofWrong, BenchFault}
 use Rattle.tag.specs.declared.Session.{Session}
 use Rattle.tag.specs.Checks.{Check, _else_}
-use Rattle.tag.specs.Records.{offered, sizeOffered, revOffered, modeSupported, keyPresent, keyNamed, slotNamed, blockAsked}
+use Rattle.tag.specs.Records.{sizeOffered, revOffered, modeSupported, keyPresent, keyNamed, slotNamed, blockAsked}
 use Rattle.tag.specs.Opened.{iamProof, mamProof, iam3Proof}
 
 -- The draws each call brings.

@@ -31,7 +31,7 @@ middleIn b = take 4 (drop 2 b)
 abbrev pub challengeIn : List ℕ → List ℕ
 challengeIn b = take 10 (drop 6 b)
 
--- Which Purposes the tag supports: all sixteen for now (Table 1).
+-- Which Purposes the tag supports: all sixteen for now, also 0001 to 0111, which Table 1 reserves.
 unfoldable pub purposeAllowed : ℕ → Bool
 purposeAllowed purpose = true
 

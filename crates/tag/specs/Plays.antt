@@ -7,7 +7,7 @@ use Rattle.tag.specs.declared.Stepped.{Stepped}
 use Rattle.tag.specs.declared.Tag.{Tag}
 use Rattle.tag.specs.Answers.{Answer, answerOf}
 use Rattle.tag.specs.Reactions.{lent, Steps}
-use Rattle.tag.specs.Runs.{Sent, tagAfter, run}
+use Rattle.tag.specs.Runs.{Sent, tagAfter}
 
 -- What the bench brings to a call, the room with its bytes.
 pub record Brought : Type 0 where

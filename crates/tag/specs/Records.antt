@@ -1,14 +1,13 @@
 -- What a tag's setup offers: clause 11 and Table 27, 9.2, and the scope paper's feature record.
-use Prim.Native.Nat.{ℕ, _+_, _*_}
+use Prim.Native.Nat.{ℕ}
 use mathlib.Core.Bool.{Bool, true, false}
 use mathlib.Core.List.{List, [], _∷_}
-use lib.Dec.{eqb, leb}
-use lib.ListN.{length, take, getD}
+use lib.Dec.{eqb}
+use lib.ListN.{take, getD}
 use Rattle.ground.specs.Choice.{pick, both, either, implies}
 use Rattle.memory.specs.declared.BlockSize.{BlockSize}
 use Rattle.memory.specs.declared.BlockSize.the-variants.{Bits64, Bits16}
 use Rattle.memory.specs.declared.Block.{Block}
-use Rattle.memory.specs.declared.Profile.{Profile}
 use Rattle.sheet.specs.declared.Features.{Features}
 use Rattle.sheet.specs.declared.Key.{Key}
 use Rattle.sheet.specs.declared.Slot.{Slot}

@@ -1,4 +1,4 @@
--- What the tag sends: 9.4.3, 9.4.6, 9.5.3, 9.6.3. The keys are those of the record that the message named; `draws` are the tag's random bytes.
+-- What the tag sends: 9.4.3, 9.4.6, 9.6.3. (The reply to IAM1, 9.5.3, is the challenge itself.) The keys are those of the record that the message named; `draws` are the tag's random bytes.
 use Prim.Native.Nat.{ℕ}
 use mathlib.Core.List.{List, _++_}
 use lib.ListN.{take, drop}

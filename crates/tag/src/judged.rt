@@ -18,10 +18,10 @@ ghost use Rattle.tag.specs.Checks.{judged};
 ghost use Rattle.tag.specs.Judged.{benchChecks, openingChecks, tam2Checks};
 ghost use Rattle.tag.specs.Parts.{closingChecks, tam2BlockChecks, tam2FieldChecks, iam3BlockChecks, iam3MiddleChecks, iam3FieldChecks};
 
-/// The bytes that each call draws.
+/// The draws that each call brings.
 const DRAWS: usize = 10;
 
-/// The room that each reply has.
+/// The least room that a call must lend for the reply.
 const ROOM: usize = 172;
 
 /// Number 7: the draws, the room and the areas that the bench lends, by their lengths in bytes.
