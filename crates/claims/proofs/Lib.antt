@@ -1,4 +1,7 @@
 pub mod Proofs
+pub mod Opened
+pub mod InTurn
+pub mod EntryIam3
 pub mod Entry
 pub mod Opens
 pub mod Data

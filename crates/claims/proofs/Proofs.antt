@@ -1,20 +1,25 @@
 -- A block in the clear that the reader made for the tag's challenge holds as a proof.
-use mathlib.Core.Path.{_≡_, refl, sym, ap, ap₂, _∙_}
-use mathlib.Core.Bool.{Bool, true, false}
-use mathlib.Core.List.{List, [], _∷_, _++_}
-use Prim.Native.Nat.{ℕ, _+_, _*_, _/_, _%_, _<_, _≤_}
-use native.Mathlib.Nat.{le-refl}
+use mathlib.Core.Path.{_≡_, refl, ap, ap₂, _∙_}
+use mathlib.Core.Bool.{true}
+use mathlib.Core.List.{List, _++_}
+use Prim.Native.Nat.{ℕ, _+_, _*_, _/_, _%_, _<_}
 use native.Mathlib.Omega.{arith}
 use borrow.Author.Tests.{eq-eqb, ltb-true}
-use lib.ListN.{length, take, drop, getD}
+use lib.ListN.{length, take}
 use lib.Seq.{take-at, take-all, drop-at}
 use Rattle.ground.specs.Choice.{both}
-use Rattle.frames.specs.Constants.{C-IAM2, C-MAM2, withPurpose}
+use Rattle.field.proofs.Block.{Bytes}
+use Rattle.aes.specs.AesEnc.{aesEnc}
+use Rattle.sheet.specs.declared.Key.{Key}
+use Rattle.frames.specs.Constants.{withPurpose}
 use Rattle.tag.specs.declared.Session.{Session}
-use Rattle.tag.specs.Opened.{same, constantIn, purposeIn, middleIn, challengeIn, purposeAllowed, iamProof, mamProof}
-use Rattle.tag.proofs.Alike.{same-self}
-use Rattle.tag.proofs.Judging.{challenge-left, constant-back}
-use Rattle.reader.specs.Builds.{purposeFits}
+use Rattle.payload.specs.Alike.{same}
+use Rattle.tag.specs.Opened.{constantIn, purposeIn, middleIn, challengeIn, purposeAllowed, iamProof}
+use Rattle.payload.proofs.Alike.{same-self}
+use Rattle.reader.specs.declared.Keys.{Keys}
+use Rattle.reader.specs.Builds.{purposeFits, response}
+use Rattle.reader.proofs.Responses.{constant-bytes, constant-two, response-block, response-opened}
+use Rattle.claims.specs.Entry.{Array, Knows}
 
 module _ (k purpose : ℕ) (middle tchallenge : List ℕ) (m4 : length middle ≡ 4) (t10 : length tchallenge ≡ 10) where
   -- the block, and its parts
@@ -41,9 +46,28 @@ module _ (k purpose : ℕ) (middle tchallenge : List ℕ) (m4 : length middle �
 
   module _ (held : Session) (e : held .tchallenge ≡ tchallenge) where
     pub iam-holds : iamProof k held clear ≡ true
-    unfolding purposeAllowed
-    iam-holds =
-        challenge-left k held clear constant-in refl ∙ ap₂ same challenge-in e ∙ same-self tchallenge
+    unfolding iamProof purposeAllowed
+    iam-holds = ap₂ both (eq-eqb (constantIn clear) k constant-in) (ap₂ same challenge-in e ∙ same-self tchallenge)
 
     pub middle-holds : held .ichallenge ≡ middle → same (middleIn clear) (held .ichallenge) ≡ true
     middle-holds q = ap₂ same middle-in q ∙ same-self middle
+
+-- the block that the reader sends, and what the tag finds in it
+module _ (keys : Keys) (key : Key) (k purpose : ℕ) (middle tchallenge : List ℕ) (knows : Knows keys key) (h : k < 4096) (m : Array 4 middle) (t : Array 10 tchallenge) where
+  abbrev pub sent : List ℕ
+  sent = response (keys .enc) (withPurpose k purpose) middle tchallenge
+
+  pub sixteen : length sent ≡ 16
+  sixteen =
+      ap (λ (e : List ℕ). length (response e (withPurpose k purpose) middle tchallenge)) (knows .enc)
+      ∙ response-block (key .enc) (withPurpose k purpose) middle tchallenge (knows .array .bytes) (constant-bytes k purpose h) (m .bytes) (t .bytes) (constant-two k purpose) (m .long) (t .long) .sixteen
+
+  pub opened : aesEnc (key .enc) sent ≡ clear k purpose middle tchallenge (m .long) (t .long)
+  opened =
+      ap (λ (e : List ℕ). aesEnc (key .enc) (response e (withPurpose k purpose) middle tchallenge)) (knows .enc)
+      ∙ response-opened (key .enc) (withPurpose k purpose) middle tchallenge (knows .array .bytes) (constant-bytes k purpose h) (m .bytes) (t .bytes) (constant-two k purpose) (m .long) (t .long)
+
+  pub sent-bytes : Bytes sent
+  sent-bytes =
+      rw (knows .enc)
+      (response-block (key .enc) (withPurpose k purpose) middle tchallenge (knows .array .bytes) (constant-bytes k purpose h) (m .bytes) (t .bytes) (constant-two k purpose) (m .long) (t .long) .bytes)

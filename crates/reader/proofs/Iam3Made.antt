@@ -1,13 +1,13 @@
 -- IAM3 built: what it comes to once its data were laid out in the D blocks p.
 use mathlib.Core.Path.{_≡_, refl, sym, ap, ap₂, _∙_}
 use mathlib.Core.Bool.{Bool, true, false}
-use mathlib.Core.List.{List, _++_}
+use mathlib.Core.List.{List}
 use Prim.Native.Nat.{ℕ, _≤_}
 use native.Mathlib.Omega.{arith}
 use borrow.Author.Tests.{le-leb}
 use lib.Dec.{leb}
 use lib.ListN.{length, take, length-take}
-use Rattle.ground.specs.Choice.{pick, both}
+use Rattle.ground.specs.Choice.{both}
 use Rattle.modes.specs.Room.{over}
 use Rattle.frames.specs.declared.Custom.{Custom}
 use Rattle.frames.specs.Blocks.{dataLength, blocksLength}
@@ -20,9 +20,7 @@ use Rattle.frames.proofs.Joins.{built-front}
 use Rattle.payload.specs.Data.{carriedData}
 use Rattle.payload.proofs.Data.{blocks-fit, carried-long}
 use Rattle.reader.specs.declared.Keys.{Keys}
-use Rattle.reader.specs.declared.Made.{Made}
-use Rattle.reader.specs.declared.Made.the-variants.{Message, Refused}
-use Rattle.reader.specs.declared.Fault.the-variants.{OwnMessage}
+use Rattle.reader.specs.declared.Made.the-variants.{Message}
 use Rattle.reader.specs.Builds.{response, iam3Whole, iam3Made, iam3Fits}
 use Rattle.reader.specs.Makes.{Makes}
 use Rattle.reader.proofs.Making.{decided, partFits, parts-fit, part-count, part-select}

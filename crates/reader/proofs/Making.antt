@@ -135,3 +135,6 @@ module _ (keys : Keys) (custom : Custom) (protmode purpose n : ℕ) where
   part-select e f =
       let m = both-left (modeFits keys protmode) (both (purposeFits purpose) (dataFits custom n)) e in
       select-fit keys protmode custom m ∙ ap₂ both m f
+
+  pub part-purposed : partFits ≡ true → purposeFits purpose ≡ true
+  part-purposed e = both-left (purposeFits purpose) (dataFits custom n) (both-right (modeFits keys protmode) (both (purposeFits purpose) (dataFits custom n)) e)

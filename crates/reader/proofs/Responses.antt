@@ -1,12 +1,11 @@
 -- The block that the reader sends: it is sixteen bytes, and the tag's encryption opens it.
 use mathlib.Core.Path.{_≡_, ap, ap₂, _∙_}
 use mathlib.Core.List.{List, [], _∷_, _++_}
-use Prim.Native.Nat.{ℕ, zero, suc, _+_, _*_, _/_, _%_, _<_, _≤_}
+use Prim.Native.Nat.{ℕ, zero, suc, _+_, _*_, _/_, _%_, _<_}
 use native.Mathlib.Omega.{arith}
-use lib.ListN.{length, drop, getD, length-append}
+use lib.ListN.{length, drop, length-append}
 use Rattle.field.proofs.Block.{Bytes, Block}
 use Rattle.aes.specs.AesEnc.{aesEnc}
-use Rattle.aes_inverse.specs.AesDec.{aesDec}
 use Rattle.aes_inverse.proofs.Inverse.{dec-block, enc-dec}
 use Rattle.frames.specs.Constants.{C-IAM2, C-MAM2, withPurpose}
 use Rattle.frames.specs.Messages.{iam2Message, mam2Message}

@@ -12,7 +12,7 @@ use Rattle.aes_inverse.specs.AesDec.{aesDec}
 use Rattle.aes_inverse.specs.InvCipher.{invCipher}
 use Rattle.modes.specs.Blocks.{wholeBlocks}
 use Rattle.modes.specs.Cmac.{cmac96}
-use Rattle.modes.specs.Room.{Into, chains, macs, over}
+use Rattle.modes.specs.Room.{Into, chains, over}
 use Rattle.modes.specs.declared.Chaining.{Chaining}
 use Rattle.modes.proofs.Rooms.{copied, enough, room-for-mac}
 use Rattle.modes.proofs.Whole.{whole-count}
