@@ -22,6 +22,7 @@ use Rattle.sheet.specs.Setups.{noSlot}
 use Rattle.sheet.specs.Within.{SlotFine, SlotsFine, Within}
 use Rattle.sheet.specs.Writer.{areaByte}
 use Rattle.frames.specs.declared.Custom.{Custom}
+use Rattle.frames.specs.Asked.{blockAsked as wordsAsked}
 use Rattle.frames.specs.Blocks.{dataLength}
 use Rattle.frames.proofs.Range.{both-right}
 use Rattle.tag.specs.declared.Verdict.the-variants.{Fine}
@@ -61,7 +62,7 @@ module _ (setup : Setup) (identity user : List ℕ) (draws room : ℕ) (h : judg
   area-long User = bench-user
 
   holds-profile : (c : Custom) → Within setup → slotNamed setup (c .profile) .present ≡ true → profileEnd (slotNamed setup (c .profile) .profile) * 2 ≤ length (areaOf (blockAsked setup c .area) identity user)
-  unfolding blockAsked addressOf slotNamed
+  unfolding blockAsked wordsAsked addressOf slotNamed
   holds-profile c g p =
       let s = getD (setup .profiles) (c .profile) noSlot in
       omega (arith, area-long (s .profile .area), ends-in (setup .sizes) s (slot-fine (setup .sizes) (setup .profiles) (c .profile) (g .profiles)) p)
