@@ -28,8 +28,8 @@ pub extern "C" fn roualint_aes_dec(key: &[u8; 16], block: &mut [u8; 16])
 }
 
 // The tag of a sheet, powered up so many times and each time sent the first message, and the second where it is not empty.
-// Gives how many of these exchanges ended with an accepted message. It is there for docs/src/bench to time: no tag is kept
-// between two calls of it, as a host that plays a tag would need.
+// Gives how many of these exchanges ended with an accepted message. This is only what docs/src/bench times: the functions
+// by which a host keeps a tag from one call to the next are not here yet.
 // Ruled out: exchanges that are counted and not played; room or areas set back between two exchanges.
 #[no_mangle]
 pub extern "C" fn roualint_play(
