@@ -91,8 +91,8 @@ fn rattle(exchange: &Exchange, bench: &mut Bench, times: usize) -> usize {
     }
 }
 
-const ROUNDS: usize = 100;
-const TIMES: usize = 1000;
+const ROUNDS: usize = 200;
+const TIMES: usize = 500;
 
 /// Prints the figures, or gives the name of the exchange in which the two differ.
 pub fn measure() -> Result<(), String> {
