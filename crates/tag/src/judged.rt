@@ -54,7 +54,7 @@ pub fn opening(setup: Setup, kind: Kind, rfu: u8, keyid: u8, m: &[u8]) -> Verdic
     if !length_fits(kind, m) {
         return Verdict::Wrong(Fault::OtherError);
     }
-    if rfu != 0 {
+    if rfu != 0 { // each of its bits
         return Verdict::Wrong(Fault::NotSupported);
     }
     let keys = setup.keys;
