@@ -132,13 +132,13 @@ pub fn filler_place(f: Fields) -> usize {
 }
 
 /// What is wrong on the reader's own side, and with the reply's length. The reply has all other flaws already.
-pub fn spoil(draws: &mut Draws, places: &mut Places, kind: Kind, case: &mut Case, flaws: &[Flaw]) {
+pub fn spoil(draws: &mut Draws, places: &mut Places<Flaw>, kind: Kind, case: &mut Case, flaws: &[Flaw]) {
     // What takes the kind or the length away comes last.
     let mut ordered = flaws.to_vec();
     ordered.sort_by_key(|flaw| [NoKind, Empty, OwnLength, Length].contains(flaw));
     for flaw in ordered {
         let mut one_of = |count: usize| match flaws.len() {
-            1 => places.next(kind, flaw, count),
+            1 => places.next(kind, flaw, 0..count),
             _ => draws.word() / 8 % count,
         };
         match flaw {

@@ -7,7 +7,7 @@ use crate::cmac::cmac_96;
 use crate::draws::Draws;
 use crate::flaws::{filler_place, header_bytes, other_key, Flaw};
 use crate::frames::{self, constant, Fields, Kind};
-use crate::places::Places;
+use crate::places::{header_from, Places};
 use crate::sheet::Key;
 use crate::slips::flip;
 
@@ -21,7 +21,7 @@ struct Opened {
 /// Who makes the replies: with which flaws, and where they hit.
 pub struct Forger<'a> {
     pub draws: &'a mut Draws,
-    pub places: &'a mut Places,
+    pub places: &'a mut Places<Flaw>,
     pub flaws: &'a [Flaw],
 }
 
@@ -75,10 +75,16 @@ impl Forger<'_> {
         self.flaws.contains(&flaw)
     }
 
-    /// One bit, where this is a flaw of the reply.
+    /// One bit, where this is a flaw of the reply: of the next byte, or of any where there are more flaws than one, since
+    /// another may hide this one.
     fn flip(&mut self, kind: Kind, flaw: Flaw, bytes: &mut [u8]) {
-        if self.has(flaw) {
-            self.places.flip(self.draws, kind, flaw, self.flaws.len() == 1, bytes);
+        let from = if flaw == Flaw::Header { header_from(bytes.len()) } else { 0 };
+        if !self.has(flaw) {
+        } else if self.flaws.len() == 1 && !bytes.is_empty() {
+            let at = self.places.next(kind, flaw, from..from + bytes.len()) - from;
+            flip(self.draws, &mut bytes[at..at + 1]);
+        } else {
+            flip(self.draws, bytes);
         }
     }
 }

@@ -30,7 +30,7 @@ pub struct ReaderTally {
     forms: BTreeMap<(u8, u128), usize>,
     /// By the length of the room and whether it was taken.
     rooms: BTreeMap<(usize, bool), usize>,
-    pub places: Places,
+    pub places: Places<Flaw>,
     offsets: BTreeSet<(u128, u128)>,
     /// The longest message built and the longest reply accepted.
     longest: [usize; 2],
@@ -129,7 +129,21 @@ impl ReaderTally {
         }
         let (offsets, last) = (self.offsets.len(), self.offsets.contains(&(0, 4095)));
         report.expect(&format!("{offsets} Offsets, the last being {last}"), offsets >= OFFSETS && last);
-        self.places.held(report);
+        self.all_places(report);
         report.expect("16 blocks of 64 bits are built and judged", self.longest == [176, 172]);
+    }
+
+    /// All bytes of IChallenge, of the MAC, of both headers and of the longest filler; all RFU bits.
+    fn all_places(&self, report: &mut Report) {
+        for kind in [Kind::Tam1, Kind::Tam2, Kind::Mam1] {
+            self.places.held(report, kind, Flaw::Challenge, 10);
+        }
+        for (flaw, count) in [(Flaw::Mac, 12), (Flaw::Header, 8 + 4), (Flaw::Filler, 14)] {
+            self.places.held(report, Kind::Tam2, flaw, count);
+        }
+        for kind in KINDS {
+            self.places
+                .held(report, kind, Flaw::Rfu, frames::rfu_mask(kind).count_ones() as usize);
+        }
     }
 }
