@@ -1,10 +1,11 @@
-// The line of one call: tag, call, number (0 for accepted), reply length, Purpose or -, state, digest of the room, digest of
-// the areas.
+// The line of one call: tag, call, number (0 for accepted), reply length, Purpose or -, state, digest of what is held, digest
+// of the room, digest of the areas.
 use crate::counts::number;
 use lines::draws::digest;
 use lines::draws::more;
 use lines::print;
 use tag::Outcome;
+use tag::Session;
 use tag::State;
 
 // Which tag, and which of its calls.
@@ -46,6 +47,15 @@ pub fn state(state: State) {
         State::MamInit => print::text(b"MAM-Init "),
         State::IaOk => print::text(b"IA-OK "),
     }
+}
+
+// KeyID, TChallenge and IChallenge[31:0] as they are held.
+pub fn held(s: Session) {
+    let keyid = [s.keyid];
+    let tchallenge = s.tchallenge;
+    let ichallenge = s.ichallenge;
+    print::digits(more(more(digest(&keyid), &tchallenge), &ichallenge), 12);
+    print::space();
 }
 
 pub fn digests(room: &[u8], identity: &[u8], user: &[u8]) {

@@ -80,7 +80,7 @@ fn after(n: u64) -> u64 {
 
 fn powered_up(b: Bench, h: Head, identity: &mut [u8], user: &mut [u8]) -> Bench {
     let n = h.numbers;
-    let mut sheet = [0u8; 512];
+    let mut sheet = [0u8; 1024];
     let s = within(n[0], &sheet);
     let tag = read_tag(&mut sheet[..s]);
     read_area(n[1], identity);
@@ -192,7 +192,7 @@ fn printed(b: Bench, s: Stepped, room: &[u8], identity: &[u8], user: &[u8]) {
     line::digests(room, &identity[..i], &user[..u]);
 }
 
-// Number, reply length, Purpose, and the state that the tag is left in.
+// Number, reply length, Purpose, the state that the tag is left in and what it holds.
 fn said(s: Stepped) {
     let outcome = s.outcome;
     let tag = s.tag;
@@ -200,4 +200,5 @@ fn said(s: Stepped) {
     let state = session.state;
     line::answer(outcome);
     line::state(state);
+    line::held(session);
 }

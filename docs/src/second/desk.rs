@@ -12,8 +12,9 @@ use crate::memory::{request, Area, BlockSize, Memory, Profile};
 use crate::orders::{self, Misfit};
 use crate::report::Report;
 use crate::script_reader::{Case, ReaderScript};
+use crate::session::Session;
 use crate::sheet::{Key, Setup};
-use crate::tag::{Answer, Session, Tag, ROOM};
+use crate::tag::{Answer, Tag, ROOM};
 use crate::tally_reader::ReaderTally;
 
 /// The words of each area, the most there can be: Offsets up to 255 of 64-bit blocks are the tag's own.

@@ -1,5 +1,6 @@
 //! Drawn tags and drawn messages: right ones of every kind under the right keys, wrong ones by every slip and by two at
-//! once, out of turn, cut, empty, and any bytes. The script that comes of it is then run from its bytes.
+//! once, out of turn, cut, empty, and any bytes; and one tag with as many records as a sheet can have. The script that comes
+//! of it is then run from its bytes.
 
 use crate::annexf;
 use crate::draws::Draws;
@@ -11,7 +12,7 @@ use crate::tally::Tally;
 
 const TAGS: usize = 272;
 /// Each tag is sent at least so many messages. Every twelfth is a large one.
-const MESSAGES: usize = 16;
+const MESSAGES: usize = 23;
 const LARGE: usize = 12;
 
 /// At least so often a kind is accepted, and a number given.
@@ -40,12 +41,13 @@ pub fn script(report: &mut Report) -> Vec<u8> {
     let mut draws = Draws::from(12);
     for i in 0..TAGS {
         let scene = Scene::drawn(&mut draws, i % LARGE == 0);
-        script.tag(&scene.sheet, &scene.identity, &scene.user);
         let mut player = Player::new(&scene, &mut draws, &mut script, &mut tally);
         while player.sent < MESSAGES {
             player.turn();
         }
     }
+    let scene = Scene::full(&mut draws);
+    Player::new(&scene, &mut draws, &mut script, &mut tally).roll_call(report);
     script.end();
     tally.held(report);
     script.bytes

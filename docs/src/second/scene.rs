@@ -30,6 +30,44 @@ impl Scene {
             user: draws.bytes(2 * words[1] + 2),
         }
     }
+
+    /// A scene with all features, and 16 records, 16 profiles and 16 locks. Each record has the right to all profiles but the one
+    /// with its own place for a number. The profiles take turns in the areas. Each ends with its area and starts before the
+    /// locks; no lock is next to another.
+    pub fn full(draws: &mut Draws) -> Scene {
+        let mut sheet = Vec::new();
+        features(draws, &mut sheet, true);
+        let words = sizes(draws, &mut sheet, true);
+        let mut id = draws.number() % 16;
+        for i in 0..16 {
+            sheet.extend([3, id as u8, 1]);
+            put_word(&mut sheet, 0xffff ^ 1 << i);
+            sheet.extend(draws.bytes(32));
+            id += 1 + draws.number() % 15;
+        }
+        for number in 0..16 {
+            let (area, base) = (number % 2, draws.number() % 8);
+            sheet.extend([4, number as u8, area as u8]);
+            put_word(&mut sheet, base);
+            put_word(&mut sheet, words[area] - base);
+        }
+        for area in 0..2 {
+            let mut free = 8;
+            for _ in 0..8 {
+                let (first, count) = (free + draws.number() % 3, 1 + draws.number() % 3);
+                sheet.extend([5, area]);
+                put_word(&mut sheet, first);
+                put_word(&mut sheet, count);
+                free = first + count + 1;
+            }
+        }
+        sheet.push(6);
+        Scene {
+            sheet,
+            identity: draws.bytes(2 * words[0] + 2),
+            user: draws.bytes(2 * words[1] + 2),
+        }
+    }
 }
 
 fn features(draws: &mut Draws, sheet: &mut Vec<u8>, all: bool) {

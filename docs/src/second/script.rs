@@ -14,15 +14,17 @@
 //! 02 is one call of the last tag. Its room has as many bytes as the third number says, each of them the number of the
 //! call modulo 256. Lent are the first bytes of the areas, as many as the last two numbers say, as the last call left them.
 //!
-//! No body has more than 512 bytes, no message more than 180, no draws more than 11, no area more than 160, no room more
+//! No sheet has more than 1,024 bytes, no message more than 180, no draws more than 11, no area more than 160, no room more
 //! than 200.
 //!
 //! For each call there is one line:
 //!
-//!     tag, call, number (0 for accepted), reply length, Purpose or -, state, digest of the room, digest of the areas
+//!     tag, call, number (0 for accepted), reply length, Purpose or -, state, digest of what is held, digest of the room,
+//!     digest of the areas
 //!
-//! Digests are those of draws.rs in 12 hexadecimal digits: of the whole room; of the identity area and on over the user
-//! area, both with the two bytes more. After the last call come two lines: `accepted`, with how often each kind of message
+//! Digests are those of draws.rs in 12 hexadecimal digits: of KeyID, TChallenge and IChallenge[31:0] as the tag holds them
+//! after the call, 15 bytes, zeros where it holds none; of the whole room; of the identity area and on over the user area,
+//! both with the two bytes more. After the last call come two lines: `accepted`, with how often each kind of message
 //! was accepted (TAM1, TAM2, IAM1, IAM2, IAM3, MAM1, MAM2), and `refused`, with how often each number was given (1 to 7).
 
 use crate::draws::{digest, more};
@@ -123,7 +125,7 @@ pub fn run(script: &[u8], report: &mut Report) -> Counts {
             .collect();
         match (head[0], &mut bench) {
             (1, _) => {
-                report.expect("a body of 512 bytes", n[0] + n[1] + n[2] <= 512 && n[1].max(n[2]) <= 160);
+                report.expect("a tag as large as said", n[0] <= 1024 && n[1].max(n[2]) <= 160);
                 bench = Some(Bench::new(take(&mut rest, n[0]), take(&mut rest, n[1]), take(&mut rest, n[2])));
                 counts.tags += 1;
             }
@@ -166,9 +168,9 @@ fn line(report: &mut Report, bench: &mut Bench, call: &Call, counts: &mut Counts
     let purpose = purpose.map_or("-".to_string(), |value| value.to_string());
     let state = bench.tag.session.name();
     let areas = more(digest(&bench.memory.identity), &bench.memory.user);
-    let (tag, calls, room) = (counts.tags, bench.calls, digest(&room));
+    let (tag, calls, held, room) = (counts.tags, bench.calls, digest(&bench.tag.session.held()), digest(&room));
     report.line(&format!(
-        "{tag} {calls} {number} {length} {purpose} {state} {room:012x} {areas:012x}"
+        "{tag} {calls} {number} {length} {purpose} {state} {held:012x} {room:012x} {areas:012x}"
     ));
 }
 

@@ -7,6 +7,7 @@ use crate::chaining::{cbc_dec_aes, cbc_enc_aes};
 use crate::cmac::cmac_96;
 use crate::frames::{self, constant, constant_bytes, Fields, Kind};
 use crate::memory::{permits, request, BlockSize, Memory, Request};
+use crate::session::Session;
 use crate::sheet::{Key, Setup};
 
 const OTHER_ERROR: u8 = 1;
@@ -19,28 +20,6 @@ const BENCH_FAULT: u8 = 7;
 
 const DRAWS: usize = 10;
 pub const ROOM: usize = 172;
-
-/// The states of Annex A, each with what it holds. Initial and IA-OK hold nothing (clause 8).
-#[derive(Clone, Copy)]
-pub enum Session {
-    Initial,
-    /// KeyID and TChallenge.
-    IamInit(u8, [u8; 10]),
-    /// KeyID, TChallenge and IChallenge[31:0].
-    MamInit(u8, [u8; 10], [u8; 4]),
-    IaOk,
-}
-
-impl Session {
-    pub fn name(&self) -> &'static str {
-        match self {
-            Session::Initial => "Initial",
-            Session::IamInit(..) => "IAM-Init",
-            Session::MamInit(..) => "MAM-Init",
-            Session::IaOk => "IA-OK",
-        }
-    }
-}
 
 #[derive(Clone, Copy, PartialEq, Debug)]
 pub enum Answer {
@@ -110,7 +89,7 @@ impl Tag {
     }
 
     /// The features that are judged with the method and the step. Tag authentication is always there.
-    fn has(&self, kind: Kind) -> bool {
+    pub fn has(&self, kind: Kind) -> bool {
         match kind {
             Kind::Tam1 | Kind::Tam2 => true,
             Kind::Iam1 | Kind::Iam2 => self.setup.features[3],

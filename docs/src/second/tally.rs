@@ -1,40 +1,56 @@
 //! What the drawn messages have shown, and whether it is enough.
 
 use crate::frames::{self, place, Kind, KINDS};
+use crate::places::Places;
+use crate::plan::Plan;
 use crate::report::Report;
 use crate::slips::{self, Slip};
 use crate::tag::Answer;
 use std::collections::{BTreeMap, BTreeSet};
 
-/// At least so often a lone slip has its number; of two slips with different numbers the first has its own; each BlockSize, Rev and ProtMode of TAM2, and each BlockSize and ProtMode
-/// of IAM3, is accepted; each kind meets each state.
-const EACH_SLIP: usize = 6;
+/// At least so often a kind's lone slip has its number; of two slips with different numbers the first has its own; each
+/// BlockSize, Rev and ProtMode of TAM2, and each BlockSize and ProtMode of IAM3, is accepted; each kind meets each state.
+pub const EACH_SLIP: usize = 4;
 const EACH_PAIR: usize = 2;
 const EACH_FORM: usize = 8;
 const EACH_TURN: usize = 5;
 
 #[derive(Default)]
 pub struct Tally {
-    /// By slip and number: how often a message with this slip alone was given the number.
-    pub slips: BTreeMap<(Slip, u8), usize>,
+    /// By kind and slip: how often a message with this slip alone was given the number that is meant for it.
+    slips: BTreeMap<(usize, Slip), usize>,
+    /// Where these slips hit.
+    pub places: Places<Slip>,
     /// By kind, the numbers of two slips, the lower one first, and the number that was given.
-    pub pairs: BTreeMap<(usize, u8, u8, u8), usize>,
+    pairs: BTreeMap<(usize, u8, u8, u8), usize>,
     /// By first byte and ProtMode: how often a message was accepted.
-    pub forms: BTreeMap<(u8, u128), usize>,
+    forms: BTreeMap<(u8, u128), usize>,
     /// By the state before and the kind: how often a message was taken or out of turn.
-    pub turns: BTreeMap<(&'static str, usize), usize>,
+    turns: BTreeMap<(&'static str, usize), usize>,
     /// The longest message and the longest reply that were accepted.
-    pub longest: [usize; 2],
+    longest: [usize; 2],
 }
 
 impl Tally {
-    /// A message that was meant to be of a kind, and what came of it.
-    pub fn count(&mut self, meant: Kind, before: &'static str, message: &[u8], slips: &[Slip], answer: Answer) {
-        match (answer, slips) {
-            (Answer::Refused(number), [slip]) => *self.slips.entry((*slip, number)).or_default() += 1,
-            (Answer::Refused(number), [one, other]) => {
-                let (a, b) = (slips::meant(*one, meant), slips::meant(*other, meant));
-                *self.pairs.entry((place(meant), a.min(b), a.max(b), number)).or_default() += 1;
+    /// How often a kind's message with this slip alone was given its number.
+    pub fn often(&self, kind: Kind, slip: Slip) -> usize {
+        self.slips.get(&(place(kind), slip)).copied().unwrap_or(0)
+    }
+
+    /// A message with what was planned for it, and what came of it.
+    pub fn count(&mut self, plan: &Plan, before: &'static str, message: &[u8], answer: Answer) {
+        let meant = |slip: Slip| slips::meant(slip, plan.kind);
+        match (answer, &plan.slips[..]) {
+            _ if !plan.sound => {}
+            (Answer::Refused(number), &[slip]) if number == meant(slip) => {
+                *self.slips.entry((place(plan.kind), slip)).or_default() += 1;
+                if let Some(at) = plan.place {
+                    self.places.hit(plan.kind, slip, at);
+                }
+            }
+            (Answer::Refused(number), &[one, other]) => {
+                let (a, b) = (meant(one), meant(other));
+                *self.pairs.entry((place(plan.kind), a.min(b), a.max(b), number)).or_default() += 1;
             }
             _ => {}
         }
@@ -53,8 +69,14 @@ impl Tally {
     pub fn held(&self, report: &mut Report) {
         for kind in KINDS {
             for &slip in slips::of(kind) {
-                let count = *self.slips.get(&(slip, slips::meant(slip, kind))).unwrap_or(&0);
-                report.expect(&format!("{slip:?} had its number {count} times"), count >= EACH_SLIP);
+                let count = self.often(kind, slip);
+                report.expect(
+                    &format!("{slip:?} in kind {} had its number {count} times", place(kind) + 1),
+                    count >= EACH_SLIP,
+                );
+                if slips::places(slip, kind) > 0 {
+                    self.places.held(report, kind, slip, slips::places(slip, kind));
+                }
             }
         }
         for kind in KINDS {
