@@ -82,14 +82,14 @@ use Rattle.frames.proofs.build.mam2_into.Reads as mam2-into
 use Rattle.frames.proofs.build.mam2_into.Kinds as mam2-into-kinds
 use Rattle.frames.proofs.build.header_into.Reads as header-into
 use Rattle.frames.proofs.build.header_into.Kinds as header-into-kinds
-use Rattle.frames.proofs.bytes.byte.Reads as byte
-use Rattle.frames.proofs.bytes.byte.Kinds as byte-kinds
-use Rattle.frames.proofs.bytes.ten.Reads as ten
-use Rattle.frames.proofs.bytes.ten.Kinds as ten-kinds
-use Rattle.frames.proofs.bytes.sixteen.Reads as sixteen
-use Rattle.frames.proofs.bytes.sixteen.Kinds as sixteen-kinds
-use Rattle.frames.proofs.bytes.join.Reads as join
-use Rattle.frames.proofs.bytes.join.Kinds as join-kinds
+use Rattle.frames.proofs.parts.byte.Reads as byte
+use Rattle.frames.proofs.parts.byte.Kinds as byte-kinds
+use Rattle.frames.proofs.parts.ten.Reads as ten
+use Rattle.frames.proofs.parts.ten.Kinds as ten-kinds
+use Rattle.frames.proofs.parts.sixteen.Reads as sixteen
+use Rattle.frames.proofs.parts.sixteen.Kinds as sixteen-kinds
+use Rattle.frames.proofs.parts.join.Reads as join
+use Rattle.frames.proofs.parts.join.Kinds as join-kinds
 
 one-built : (fit : Bool) (n : ℕ) (m room : List ℕ) (x y : Bool) (s t : List ℕ) → Built fit n m room x s → Built fit n m room y t
     → _≡_ {A = Bool × List ℕ} (x, s) (y, t)

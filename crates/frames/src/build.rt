@@ -8,7 +8,7 @@ use super::Mam1;
 use super::Mam2;
 use super::Tam1;
 use super::Tam2;
-use super::bytes::join;
+use super::parts::join;
 use super::sizes::header_length;
 use memory::BlockSize;
 ghost use mathlib.Core.Path.{_≡_};

@@ -1,12 +1,12 @@
--- `frames::bytes::tail` meets its contract. Assumes nothing.
+-- `frames::parts::tail` meets its contract. Assumes nothing.
 use mathlib.Core.Path.{sym}
 use Prim.Native.Nat.{_-_}
 use native.Mathlib.Omega.{arith}
 use lib.ListN.{length, drop, length-drop, drop-of-length-le}
 use lib.Seq.{take-all}
 use borrow.Author.Needs.{needs}
-use Rattle.frames.proofs.bytes.tail.Statement.{statement}
-use Rattle.frames.proofs.bytes.tail.Tie as tie
+use Rattle.frames.proofs.parts.tail.Statement.{statement}
+use Rattle.frames.proofs.parts.tail.Tie as tie
 
 sub-result : tie.Need-sub-result
 sub-result c = search needs

@@ -1,9 +1,9 @@
--- `frames::bytes::join` meets its contract. Assumes nothing.
+-- `frames::parts::join` meets its contract. Assumes nothing.
 use native.Mathlib.Omega.{arith}
 use Rattle.frames.proofs.Joins.{joined, too-short}
 use borrow.Author.Needs.{needs}
-use Rattle.frames.proofs.bytes.join.Statement.{statement}
-use Rattle.frames.proofs.bytes.join.Tie as tie
+use Rattle.frames.proofs.parts.join.Statement.{statement}
+use Rattle.frames.proofs.parts.join.Tie as tie
 
 returns : tie.Need-returns
 returns c = let a = c .before .before .before .before .before .args in too-short _ _ (a .room .now) (omega arith)

@@ -1,9 +1,9 @@
--- `frames::bytes::byte` meets its contract. Assumes nothing.
+-- `frames::parts::byte` meets its contract. Assumes nothing.
 use mathlib.Core.Path.{sym}
 use lib.ListN.{List·getD-eq-default}
 use borrow.Author.Needs.{needs}
-use Rattle.frames.proofs.bytes.byte.Statement.{statement}
-use Rattle.frames.proofs.bytes.byte.Tie as tie
+use Rattle.frames.proofs.parts.byte.Statement.{statement}
+use Rattle.frames.proofs.parts.byte.Tie as tie
 
 shared-slice-read-result : tie.Need-shared-slice-read-result
 shared-slice-read-result c = search needs

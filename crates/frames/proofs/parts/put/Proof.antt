@@ -1,8 +1,8 @@
--- `frames::bytes::put` meets its contract. Assumes nothing.
+-- `frames::parts::put` meets its contract. Assumes nothing.
 use Rattle.frames.proofs.Places.{part-back}
 use borrow.Author.Needs.{needs}
-use Rattle.frames.proofs.bytes.put.Statement.{statement}
-use Rattle.frames.proofs.bytes.put.Tie as tie
+use Rattle.frames.proofs.parts.put.Statement.{statement}
+use Rattle.frames.proofs.parts.put.Tie as tie
 
 add-e : tie.Need-add-e
 add-e c = search needs

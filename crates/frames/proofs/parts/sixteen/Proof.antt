@@ -1,9 +1,9 @@
--- `frames::bytes::sixteen` meets its contract. Assumes nothing.
+-- `frames::parts::sixteen` meets its contract. Assumes nothing.
 use mathlib.Core.Path.{_∙_}
 use Rattle.frames.proofs.Places.{bytes-drop}
 use borrow.Author.Needs.{needs}
-use Rattle.frames.proofs.bytes.sixteen.Statement.{statement}
-use Rattle.frames.proofs.bytes.sixteen.Tie as tie
+use Rattle.frames.proofs.parts.sixteen.Statement.{statement}
+use Rattle.frames.proofs.parts.sixteen.Tie as tie
 
 slice-aggregate-fill : tie.Need-slice-aggregate-fill
 slice-aggregate-fill c = search needs

@@ -1,4 +1,4 @@
--- `frames::bytes::fill` meets its contract. The loop's invariant: the first `i` bytes are filled.
+-- `frames::parts::fill` meets its contract. The loop's invariant: the first `i` bytes are filled.
 use mathlib.Core.Path.{_≡_, refl}
 use Prim.Native.Nat.{_≤_, _-_}
 use native.Mathlib.Omega.{arith}
@@ -6,8 +6,8 @@ use lib.ListN.{length, take, length-set}
 use Rattle.frames.specs.Fields.{bytesFrom}
 use Rattle.frames.proofs.Places.{filled-more, filled-all}
 use borrow.Author.Needs.{needs}
-use Rattle.frames.proofs.bytes.fill.Statement.{statement}
-use Rattle.frames.proofs.bytes.fill.Tie as tie
+use Rattle.frames.proofs.parts.fill.Statement.{statement}
+use Rattle.frames.proofs.parts.fill.Tie as tie
 
 abbrev Inv-loop : tie.InvT-loop
 Inv-loop room₀ src i₀ room i = (i ≤ length room) × (length room ≡ length room₀) × (take i room ≡ bytesFrom src 0 i)

@@ -1,9 +1,9 @@
--- `frames::bytes::ten` meets its contract. Assumes nothing.
+-- `frames::parts::ten` meets its contract. Assumes nothing.
 use mathlib.Core.Path.{_∙_}
 use Rattle.frames.proofs.Places.{bytes-drop}
 use borrow.Author.Needs.{needs}
-use Rattle.frames.proofs.bytes.ten.Statement.{statement}
-use Rattle.frames.proofs.bytes.ten.Tie as tie
+use Rattle.frames.proofs.parts.ten.Statement.{statement}
+use Rattle.frames.proofs.parts.ten.Tie as tie
 
 slice-aggregate-fill : tie.Need-slice-aggregate-fill
 slice-aggregate-fill c = search needs
