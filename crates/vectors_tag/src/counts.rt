@@ -1,7 +1,7 @@
 // How often each kind of message was accepted, and each number given.
-use frames::Kind;
-use lines::numbers::sum;
-use lines::print;
+use script::tally;
+use script::tally::one_more;
+use script::tally::place;
 use tag::Fault;
 use tag::Outcome;
 
@@ -13,8 +13,8 @@ pub struct Counts {
 
 pub fn none() -> Counts {
     Counts {
-        accepted: [0u64; 8],
-        refused: [0u64; 8],
+        accepted: tally::none(),
+        refused: tally::none(),
     }
 }
 
@@ -34,14 +34,6 @@ pub fn counted(c: Counts, outcome: Outcome, message: &[u8]) -> Counts {
     }
 }
 
-fn one_more(counts: [u64; 8], at: usize) -> [u64; 8] {
-    let mut c = counts;
-    if at < 8 {
-        c[at] = c[at] % 1000000 + 1;
-    }
-    c
-}
-
 // The paper's number of a refusal.
 pub fn number(fault: Fault) -> usize {
     match fault {
@@ -55,49 +47,10 @@ pub fn number(fault: Fault) -> usize {
     }
 }
 
-fn place(message: &[u8]) -> usize {
-    if message.len() == 0 {
-        return 7;
-    }
-    place_of(frames::first::kind_of(message[0]))
-}
-
-fn place_of(kind: Kind) -> usize {
-    match kind {
-        Kind::Tam1 => 0,
-        Kind::Tam2 => 1,
-        Kind::Iam1 => 2,
-        Kind::Iam2 => 3,
-        Kind::Iam3 => 4,
-        Kind::Mam1 => 5,
-        Kind::Mam2 => 6,
-        Kind::Unsupported => 7,
-    }
-}
-
 // The last two lines.
 pub fn totals(c: Counts) {
     let accepted = c.accepted;
     let refused = c.refused;
-    print::text(b"accepted");
-    seven(accepted, 0);
-    print::text(b"refused");
-    seven(refused, 1);
-}
-
-fn seven(counts: [u64; 8], from: usize) {
-    let mut i: usize = 0;
-    while i < 7 {
-        print::space();
-        print::decimal(nth(counts, sum(from, i)));
-        i += 1;
-    }
-    print::end();
-}
-
-fn nth(counts: [u64; 8], at: usize) -> u64 {
-    if at < 8 {
-        return counts[at];
-    }
-    0
+    tally::line(b"accepted", accepted, 0, 7);
+    tally::line(b"refused", refused, 1, 7);
 }

@@ -4,7 +4,6 @@
 mod counts;
 mod line;
 mod play;
-mod script;
 
 fn main() {
     play::lines();

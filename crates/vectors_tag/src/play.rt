@@ -2,9 +2,9 @@
 use crate::counts;
 use crate::counts::Counts;
 use crate::line;
-use crate::script;
-use crate::script::Head;
-use crate::script::within;
+use script::Head;
+use script::tally::after;
+use script::within;
 use tag::Stepped;
 use tag::Tag;
 
@@ -18,9 +18,6 @@ struct Bench {
     counts: Counts,
 }
 
-// A proved loop has to end, and nothing says that the input does. No script has as many records.
-const RECORDS: u64 = 1000000;
-
 pub fn lines() {
     let mut identity = [0u8; 160];
     let mut user = [0u8; 160];
@@ -30,7 +27,7 @@ pub fn lines() {
 // Both areas stand as the last call left them.
 fn played(identity: &mut [u8], user: &mut [u8]) -> Counts {
     let mut b = empty();
-    let mut left = RECORDS;
+    let mut left = script::RECORDS;
     while 0 < left {
         let h = script::read();
         if h.kind == 0 {
@@ -71,11 +68,6 @@ fn set_up(sheet: &[u8]) -> Tag {
 fn read_tag(sheet: &mut [u8]) -> Tag {
     script::fill(sheet);
     set_up(sheet)
-}
-
-// The next number.
-fn after(n: u64) -> u64 {
-    n % 1000000 + 1
 }
 
 fn powered_up(b: Bench, h: Head, identity: &mut [u8], user: &mut [u8]) -> Bench {

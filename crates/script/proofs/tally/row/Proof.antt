@@ -1,14 +1,14 @@
--- `counts::seven` is safe and ends: what is left of the seven falls.
+-- `tally::row` is safe and ends: what is left of the n counts falls.
 use Prim.Native.Nat.{_≤_, _-_}
 use borrow.Author.Needs.{needs}
-use Rattle.vectors_tag.proofs.counts.seven.Statement.{statement}
-use Rattle.vectors_tag.proofs.counts.seven.Tie as tie
+use Rattle.script.proofs.tally.row.Statement.{statement}
+use Rattle.script.proofs.tally.row.Tie as tie
 
 abbrev Inv-loop : tie.InvT-loop
-Inv-loop counts from i₀ i = i ≤ 7
+Inv-loop counts from n i₀ i = i ≤ n
 
 abbrev μ-loop : tie.MeasureT-loop
-μ-loop counts from i₀ i = 7 - i
+μ-loop counts from n i₀ i = n - i
 
 loop-holds : tie.Need-loop-holds Inv-loop μ-loop
 loop-holds c = search needs
@@ -34,14 +34,11 @@ loop-less c = search needs
 loop-again : tie.Need-loop-again Inv-loop μ-loop
 loop-again c = search needs
 
-end-requires : tie.Need-end-requires Inv-loop μ-loop
-end-requires c κs = search needs
-
 returns : tie.Need-returns Inv-loop μ-loop
 returns c = search needs
 
-pub seven-spec : {M : Type 1} → statement M
-seven-spec =
+pub row-spec : {M : Type 1} → statement M
+row-spec =
     tie.close
     (tie.spec
     Inv-loop
@@ -54,5 +51,4 @@ seven-spec =
     add-i
     loop-less
     loop-again
-    end-requires
     returns)

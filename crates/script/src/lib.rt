@@ -1,4 +1,5 @@
-// The script on standard input (docs/src/second/script.rs): the heads of its records, and the bytes of their bodies.
+// The script that a program plays, on standard input (docs/src/second/script.rs and script_reader.rs): the heads of its
+// records, and the bytes of their bodies.
 use libc::STDIN_FILENO;
 use lines::numbers::get;
 use lines::numbers::get_word;
@@ -6,11 +7,16 @@ use lines::numbers::low;
 use lines::numbers::low_word;
 ghost use Rattle.io.specs.Counts.{Counts};
 
-// A kind of record, 0 the end, 1 a tag at power-up, 2 one call of it; then five numbers.
+pub mod tally; // tally.rt: how often each thing was
+
+// A kind of record, 0 the end; then five numbers.
 pub struct Head {
     pub kind: u8,
     pub numbers: [u16; 5],
 }
+
+// A proved loop has to end, and nothing says that the input does. No script has as many records.
+pub const RECORDS: u64 = 1000000;
 
 // The next head. Where the input ends in it, all that did not come is zero.
 pub fn read() -> Head {
@@ -29,8 +35,8 @@ pub fn read() -> Head {
 }
 
 // Two bytes, the more significant first.
-fn number(h: &[u8], at: usize) -> u16 {
-    low_word(get_word(h, at))
+pub fn number(bytes: &[u8], at: usize) -> u16 {
+    low_word(get_word(bytes, at))
 }
 
 // The next bytes of a body.
