@@ -9,6 +9,9 @@ pub mod judged; // judged.rt: the judge of a reply
 pub mod build; // build.rt: each message from its fields and keys, into a room
 mod sent; // sent.rt: what only a reader that has the keys can send
 
+ghost use mathlib.Core.Path.{_≡_};
+ghost use Rattle.reader.specs.Numbers.{numberOf};
+
 /// The keys that the reader has of one record.
 pub struct Keys {
     pub enc: [u8; 16],
@@ -53,4 +56,19 @@ pub struct Judgement {
 pub enum Made {
     Message(usize),
     Refused(Fault),
+}
+
+/// The scope paper's number of a refusal.
+///
+/// Ruled out: the MAC's number for a wrong challenge; the tag's numbers.
+pub fn number(fault: Fault) -> u8
+    ensures { λ r. ⌜ r ≡ numberOf fault ⌝ }
+{
+    match fault {
+        Fault::ReplyLength => 20,
+        Fault::ChallengeWrong => 21,
+        Fault::MacWrong => 22,
+        Fault::HeaderWrong => 23,
+        Fault::OwnMessage => 24,
+    }
 }

@@ -120,7 +120,7 @@ pub fn tam1(setup: Setup, m: &[u8], draws: [u8; 10], room: &mut [u8]) -> Reacted
     bytes::copy(&reply, room);
     Reacted {
         outcome: Outcome::Replied(16),
-        session: cleared(), // no challenge survives a TAM1
+        session: cleared(),
     }
 }
 

@@ -68,18 +68,7 @@ fn with_refused(c: Counts, fault: Fault) -> Counts {
     Counts {
         built,
         judged,
-        refused: one_more(refused, less(number(fault), 20)),
-    }
-}
-
-// The paper's number of a refusal.
-pub fn number(fault: Fault) -> usize {
-    match fault {
-        Fault::ReplyLength => 20,
-        Fault::ChallengeWrong => 21,
-        Fault::MacWrong => 22,
-        Fault::HeaderWrong => 23,
-        Fault::OwnMessage => 24,
+        refused: one_more(refused, less(reader::number(fault) as usize, 20)),
     }
 }
 

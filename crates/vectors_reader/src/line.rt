@@ -1,6 +1,5 @@
 // The line of one case. Of a build: case, kind, number (0 for built), length of the message, digest of the room. Of a judgement:
 // case, kind, number (0 for accepted), bytes of data, what they are worth or -, TChallenge or -, digest of the room.
-use crate::counts::number;
 use lines::draws::digest;
 use lines::print;
 use reader::Judgement;
@@ -12,7 +11,7 @@ pub fn built(case: u64, kind: u8, made: Made, room: &[u8]) {
     begun(case, kind);
     match made {
         Made::Message(n) => two(0, n),
-        Made::Refused(fault) => two(number(fault), 0),
+        Made::Refused(fault) => two(reader::number(fault), 0),
     }
     ended(room);
 }
@@ -35,17 +34,17 @@ fn begun(case: u64, kind: u8) {
     print::space();
 }
 
-fn two(number: usize, length: usize) {
+fn two(number: u8, length: usize) {
     print::decimal(number as u64);
     print::space();
     print::decimal(length as u64);
     print::space();
 }
 
-fn verdict_number(verdict: Verdict) -> usize {
+fn verdict_number(verdict: Verdict) -> u8 {
     match verdict {
         Verdict::Accepted => 0,
-        Verdict::Refused(fault) => number(fault),
+        Verdict::Refused(fault) => reader::number(fault),
     }
 }
 

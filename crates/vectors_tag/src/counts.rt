@@ -2,7 +2,6 @@
 use script::tally;
 use script::tally::one_more;
 use script::tally::place;
-use tag::Fault;
 use tag::Outcome;
 
 // The last of `accepted` and the first of `refused` stay 0.
@@ -27,23 +26,10 @@ pub fn counted(c: Counts, outcome: Outcome, message: &[u8]) -> Counts {
             accepted: one_more(accepted, place(message)),
             refused,
         },
-        Outcome::Refused(fault) => Counts {
+        Outcome::Refused(_) => Counts {
             accepted,
-            refused: one_more(refused, number(fault)),
+            refused: one_more(refused, tag::number(outcome) as usize),
         },
-    }
-}
-
-// The paper's number of a refusal.
-pub fn number(fault: Fault) -> usize {
-    match fault {
-        Fault::OtherError => 1,
-        Fault::NotSupported => 2,
-        Fault::MemoryOverrun => 3,
-        Fault::MemoryWriteError => 4,
-        Fault::OutOfTurn => 5,
-        Fault::ProofWrong => 6,
-        Fault::BenchFault => 7,
     }
 }
 

@@ -1,6 +1,5 @@
 // The line of one call: tag, call, number (0 for accepted), reply length, Purpose or -, state, digest of what is held, digest
 // of the room, digest of the areas.
-use crate::counts::number;
 use lines::draws::digest;
 use lines::draws::more;
 use lines::print;
@@ -18,26 +17,20 @@ pub fn begun(tag: u64, call: u64) {
 
 // Number, reply length, Purpose.
 pub fn answer(outcome: Outcome) {
+    print::decimal(tag::number(outcome) as u64);
+    print::space();
+    print::decimal(tag::reply_length(outcome) as u64);
+    print::space();
+    purpose(outcome);
+    print::space();
+}
+
+fn purpose(outcome: Outcome) {
     match outcome {
-        Outcome::Replied(n) => three(0, n, b"-"),
-        Outcome::Entered(purpose) => entered(purpose),
-        Outcome::Refused(fault) => three(number(fault), 0, b"-"),
+        Outcome::Replied(_) => print::text(b"-"),
+        Outcome::Entered(purpose) => print::decimal(purpose as u64),
+        Outcome::Refused(_) => print::text(b"-"),
     }
-}
-
-fn three(number: usize, length: usize, purpose: &[u8]) {
-    print::decimal(number as u64);
-    print::space();
-    print::decimal(length as u64);
-    print::space();
-    print::text(purpose);
-    print::space();
-}
-
-fn entered(purpose: u8) {
-    print::text(b"0 0 ");
-    print::decimal(purpose as u64);
-    print::space();
 }
 
 pub fn state(state: State) {
