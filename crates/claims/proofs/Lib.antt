@@ -7,3 +7,5 @@ pub mod Opens
 pub mod Data
 pub mod Windows
 pub mod Recovery
+pub mod Answered
+pub mod AnsweredReader

@@ -1,2 +1,4 @@
+-- What holds of the two halves together, and the demands.
 pub mod Entry
 pub mod Recovery
+pub mod Answered

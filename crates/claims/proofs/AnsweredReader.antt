@@ -1,0 +1,99 @@
+-- Demand 1 of the reader's side, proved: by the cases of its list.
+use mathlib.Core.Path.{_≡_, sym, ap, _∙_}
+use mathlib.Core.Bool.{Bool, true, false}
+use mathlib.Core.List.{List, [], _∷_}
+use Prim.Native.Nat.{ℕ}
+use native.Mathlib.Omega.{arith}
+use lib.ListN.{length}
+use Rattle.ground.specs.Choice.{pick}
+use Rattle.modes.specs.Room.{over}
+use Rattle.frames.specs.declared.Kind.{Kind}
+use Rattle.frames.specs.declared.Kind.the-variants.{Tam1, Tam2, Iam1, Iam2, Iam3, Mam1, Mam2, Unsupported}
+use Rattle.frames.specs.Kinds.{kindOf}
+use Rattle.reader.specs.declared.Fault.{Fault}
+use Rattle.reader.specs.declared.Fault.the-variants.{ReplyLength, ChallengeWrong, MacWrong, HeaderWrong, OwnMessage}
+use Rattle.reader.specs.declared.Judgement.{Judgement}
+use Rattle.reader.specs.declared.Keys.{Keys}
+use Rattle.reader.specs.declared.Made.the-variants.{Message, Refused as NotMade}
+use Rattle.reader.specs.declared.Verdict.the-variants.{Refused}
+use Rattle.reader.specs.declared.Worth.{Worth}
+use Rattle.reader.specs.Numbers.{numberOf}
+use Rattle.reader.specs.Findings.{Finding, Check, silent, refused, nothingMore, carries, issues, judged, saidOf}
+use Rattle.reader.specs.Own.{ownFits}
+use Rattle.reader.specs.Judged.{dataFinding, iam1Finding, emptyFinding, tam1Finding, tam2Finding, mam1Finding, byKind, ofKind, judgementOf}
+use Rattle.reader.specs.Makes.{taken, madeNumber}
+use Rattle.claims.specs.Answered.{FromTo, JudgeAnswers, BuilderAnswers}
+
+reader-number : (f : Fault) → FromTo 20 24 (numberOf f)
+reader-number ReplyLength = (omega arith, omega arith)
+reader-number ChallengeWrong = (omega arith, omega arith)
+reader-number MacWrong = (omega arith, omega arith)
+reader-number HeaderWrong = (omega arith, omega arith)
+reader-number OwnMessage = (omega arith, omega arith)
+
+-- ---- the judge
+
+-- a refused finding carries nothing
+abbrev Quiet : Finding → Type 0
+Quiet x = (f : Fault) → x .verdict ≡ Refused f → x ≡ refused f
+
+refused-quiet : (g : Fault) → Quiet (refused g)
+refused-quiet g f e = ap silent e
+
+nothing-quiet : Quiet nothingMore
+nothing-quiet f e = let z : _≡_ {A = ℕ} 0 1 = cc in absurd (omega arith)
+
+carries-quiet : (w : Worth) (bytes : List ℕ) → Quiet (carries w bytes)
+carries-quiet w bytes f e = let z : _≡_ {A = ℕ} 0 1 = cc in absurd (omega arith)
+
+issues-quiet : (challenge : List ℕ) → Quiet (issues challenge)
+issues-quiet challenge f e = let z : _≡_ {A = ℕ} 0 1 = cc in absurd (omega arith)
+
+picked-quiet : (t : Bool) (x y : Finding) → Quiet x → Quiet y → Quiet (pick t x y)
+picked-quiet true x y hx hy = hx
+picked-quiet false x y hx hy = hy
+
+judged-quiet : (cs : List Check) (x : Finding) → Quiet x → Quiet (judged cs x)
+unfolding judged
+judged-quiet [] x h = h
+judged-quiet (c ∷ cs) x h = picked-quiet (c .holds) (judged cs x) (refused (c .otherwise)) (judged-quiet cs x h) (refused-quiet (c .otherwise))
+
+module _ (keys : Keys) (m reply : List ℕ) where
+  kind-quiet : (k : Kind) → Quiet (byKind keys m reply k)
+  unfolding byKind tam1Finding tam2Finding dataFinding iam1Finding emptyFinding mam1Finding
+  kind-quiet Tam1 = judged-quiet _ _ nothing-quiet
+  kind-quiet Tam2 = judged-quiet _ _ (judged-quiet _ _ (carries-quiet _ _))
+  kind-quiet Iam1 = judged-quiet _ _ (issues-quiet _)
+  kind-quiet Iam2 = judged-quiet _ _ nothing-quiet
+  kind-quiet Iam3 = judged-quiet _ _ nothing-quiet
+  kind-quiet Mam1 = judged-quiet _ _ (issues-quiet _)
+  kind-quiet Mam2 = judged-quiet _ _ nothing-quiet
+  kind-quiet Unsupported = refused-quiet OwnMessage
+
+judgement-quiet : (keys : Keys) (m reply : List ℕ) (room : ℕ) → Quiet (judgementOf keys m reply room)
+unfolding judgementOf ofKind
+judgement-quiet keys [] reply room = refused-quiet OwnMessage
+judgement-quiet keys (b ∷ m) reply room =
+    picked-quiet (ownFits keys (kindOf b) (b ∷ m) room) (byKind keys (b ∷ m) reply (kindOf b)) (refused OwnMessage) (kind-quiet keys (b ∷ m) reply (kindOf b)) (refused-quiet OwnMessage)
+
+pub judge-answers : JudgeAnswers
+judge-answers keys m reply room r after f h e =
+    let q = judgement-quiet keys m reply (length room) f (sym (ap (λ (j : Judgement). j .verdict) (h .says)) ∙ e) in
+    let said : r ≡ saidOf (refused f) = h .says ∙ ap saidOf q in
+    record {
+      number = reader-number f;
+      silent = h .holds ∙ ap (λ (x : Finding). over (x .bytes) room) q;
+      bytes = ap (λ (j : Judgement). j .«data») said;
+      worth = ap (λ (j : Judgement). j .worth) said;
+      issued = ap (λ (j : Judgement). j .issued) said;
+    }
+
+-- ---- the builders
+
+builder-refused : (t : Bool) (n : ℕ) (message room after : List ℕ) (f : Fault)
+    → NotMade f ≡ pick t (Message n) (NotMade OwnMessage) → after ≡ pick t (over message room) room → (numberOf f ≡ 24) × (after ≡ room)
+builder-refused true n message room after f e h = let z : _≡_ {A = ℕ} 0 1 = cc in absurd (omega arith)
+builder-refused false n message room after f e h = (ap madeNumber e, h)
+
+pub builder-answers : BuilderAnswers
+builder-answers fit message room r after f h e = builder-refused (taken fit room) (length message) message room after f (sym e ∙ h .says) (h .holds)

@@ -1,0 +1,117 @@
+-- Demand 1: every call is answered. That each function takes any input and ends is its own proof, since no contract has a `requires`. Here: each number given
+-- is one of the list for that function, and a refusal sends nothing, writes no memory word, and leaves the tag in the state that the list names.
+use mathlib.Core.Path.{_≡_}
+use mathlib.Core.Logic.{_⊎_}
+use mathlib.Core.Bool.{Bool, false}
+use mathlib.Core.List.{List}
+use Prim.Native.Nat.{ℕ, _≤_}
+use lib.ListN.{length}
+use Rattle.modes.specs.declared.Chaining.{Chaining}
+use Rattle.modes.specs.Room as room
+use Rattle.sheet.specs.declared.Fault.{Fault as SheetFault}
+use Rattle.sheet.specs.declared.Finding.the-variants.{Faulty}
+use Rattle.sheet.specs.declared.Kept.{Kept}
+use Rattle.sheet.specs.declared.Verdict.the-variants.{Refused as NoSheet}
+use Rattle.sheet.specs.Kinds as sheet
+use Rattle.sheet.specs.Setups.{emptySetup}
+use Rattle.sheet.specs.Judgement.{judgedOf}
+use Rattle.sheet.specs.Sheet.{readOf}
+use Rattle.frames.specs.Built.{Built}
+use Rattle.tag.specs.declared.Fault.{Fault as TagFault}
+use Rattle.tag.specs.declared.Outcome.the-variants.{Refused as NoReply}
+use Rattle.tag.specs.declared.Tag.{Tag}
+use Rattle.tag.specs.States as states
+use Rattle.tag.specs.States.{sessionAfter}
+use Rattle.tag.specs.Plays.{Brought, Left, Called}
+use Rattle.reader.specs.declared.Fault.{Fault as ReaderFault}
+use Rattle.reader.specs.declared.Judgement.{Judgement}
+use Rattle.reader.specs.declared.Keys.{Keys}
+use Rattle.reader.specs.declared.Made.{Made}
+use Rattle.reader.specs.declared.Made.the-variants.{Refused as NotMade}
+use Rattle.reader.specs.declared.Verdict.the-variants.{Refused as NotBelieved}
+use Rattle.reader.specs.declared.Worth.the-variants.{NoData}
+use Rattle.reader.specs.Numbers as reader
+use Rattle.reader.specs.Findings.{Judges}
+use Rattle.reader.specs.Judged.{judgementOf}
+use Rattle.reader.specs.Makes.{Makes}
+
+-- The numbers from a to b.
+abbrev pub FromTo : ℕ → ℕ → ℕ → Type 0
+FromTo a b n = (a ≤ n) × (n ≤ b)
+
+-- ---- the tag
+
+-- A call that was refused: its number, the room and both areas with their bytes, and the tag: in Initial with nothing held (1 to 6), or as it was (7).
+pub record TagRefused (tag : Tag) (identity user : List ℕ) (b : Brought) (x : Left) (f : TagFault) : Type 0 where
+  pub number : FromTo 1 7 (states.numberOf f)
+  pub silent : x .room ≡ b .room
+  pub identity-kept : x .identity ≡ identity
+  pub user-kept : x .user ≡ user
+  pub setup : x .stepped .tag .setup ≡ tag .setup
+  pub session : x .stepped .tag .session ≡ sessionAfter f (tag .session)
+
+-- `tag::step`, by its contract.
+abbrev pub TagAnswers : Type 0
+TagAnswers =
+    (tag : Tag) (identity user : List ℕ) (b : Brought) (x : Left) (f : TagFault)
+    → Called tag identity user b x
+    → x .stepped .outcome ≡ NoReply f
+    → TagRefused tag identity user b x f
+
+-- ---- the reader's side
+
+-- `reader::judged::judge`: 20 to 24, no data, no challenge, and the data room as it was.
+pub record JudgeRefused (room : List ℕ) (r : Judgement) (after : List ℕ) (f : ReaderFault) : Type 0 where
+  pub number : FromTo 20 24 (reader.numberOf f)
+  pub silent : after ≡ room
+  pub bytes : r .«data» ≡ 0
+  pub worth : r .worth ≡ NoData
+  pub issued : r .issued ≡ false
+
+abbrev pub JudgeAnswers : Type 0
+JudgeAnswers =
+    (keys : Keys) (message reply room : List ℕ) (r : Judgement) (after : List ℕ) (f : ReaderFault)
+    → Judges (judgementOf keys message reply (length room)) room r after
+    → r .verdict ≡ NotBelieved f
+    → JudgeRefused room r after f
+
+-- The seven builders: 24, and the room as it was.
+abbrev pub BuilderAnswers : Type 0
+BuilderAnswers =
+    (fit : Bool) (message room : List ℕ) (r : Made) (after : List ℕ) (f : ReaderFault)
+    → Makes fit message room r after
+    → r ≡ NotMade f
+    → (reader.numberOf f ≡ 24) × (after ≡ room)
+
+-- ---- the sheet
+
+-- `sheet::read`: 30 to 35, and no tag: the setup says nothing.
+abbrev pub SheetAnswers : Type 0
+SheetAnswers =
+    (s : List ℕ) (f : SheetFault) (at : ℕ)
+    → readOf s .verdict ≡ NoSheet f at
+    → FromTo 30 35 (sheet.numberOf f) × (readOf s .setup ≡ emptySetup)
+
+-- `sheet::judge`: a record that is refused leaves what was kept.
+abbrev pub RecordAnswers : Type 0
+RecordAnswers =
+    (s : List ℕ) (k : Kept) (f : SheetFault)
+    → judgedOf s k .finding ≡ Faulty f
+    → FromTo 30 35 (sheet.numberOf f) × (judgedOf s k .kept ≡ k)
+
+-- ---- chaining and MAC, and the parts of messages
+
+-- The four chainings and the MAC: 0 or 8, and with 8 the room as it was.
+abbrev pub ChainAnswers : Type 0
+ChainAnswers =
+    (taken : Bool) (out before : List ℕ) (r : Chaining) (after : List ℕ)
+    → room.Into taken out before r after
+    → (room.numberOf r ≡ 0) ⊎ ((room.numberOf r ≡ 8) × (after ≡ before))
+
+-- What lays a message, a header or data into a room gives no number: where it says false, the room is as it was.
+abbrev pub LayerAnswers : Type 0
+LayerAnswers =
+    (fit : Bool) (n : ℕ) (message before : List ℕ) (r : Bool) (after : List ℕ)
+    → Built fit n message before r after
+    → r ≡ false
+    → after ≡ before
