@@ -9,3 +9,4 @@ pub mod Windows
 pub mod Recovery
 pub mod Answered
 pub mod AnsweredReader
+pub mod Edges

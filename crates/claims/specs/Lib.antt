@@ -2,3 +2,4 @@
 pub mod Entry
 pub mod Recovery
 pub mod Answered
+pub mod Edges
