@@ -10,3 +10,6 @@ pub mod Recovery
 pub mod Answered
 pub mod AnsweredReader
 pub mod Edges
+pub mod Bench
+pub mod ShutOut
+pub mod ReplyLength

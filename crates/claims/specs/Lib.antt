@@ -3,3 +3,4 @@ pub mod Entry
 pub mod Recovery
 pub mod Answered
 pub mod Edges
+pub mod ShutOut

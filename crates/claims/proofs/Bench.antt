@@ -1,0 +1,59 @@
+-- One tag for examples: the tag of a sheet with IAM1, IAM2, IAM3 and MAM, ProtMode 0, a user area of four words, a key record of KeyID 00 and one profile, which it may use.
+use mathlib.Core.Path.{_≡_, refl}
+use mathlib.Core.Bool.{true, false}
+use mathlib.Core.List.{List, [], _∷_, _++_}
+use Prim.Native.Nat.{ℕ}
+use lib.ListN.{set, replicate}
+use Rattle.memory.specs.declared.Area.the-variants.{User}
+use Rattle.sheet.specs.declared.Key.{Key}
+use Rattle.sheet.specs.declared.Setup.{Setup}
+use Rattle.sheet.specs.Limits.{keyLimit, profileLimit, lockLimit, wordLimit}
+use Rattle.sheet.specs.Kinds.{kindOf, inOrder}
+use Rattle.sheet.specs.Setups.{noKey, noSlot, noLock, emptySetup, noMarks, nothingKept}
+use Rattle.sheet.specs.Records.{areaOf, wordsIn, inside, allZero, featuresRule, featuresOf, sizesRule, sizesOf, keyRule, keyOf, profileRule, slotOf}
+use Rattle.sheet.specs.Judgement.{tooMany, openedOf, withFeatures, withSizes, withKey, withProfile, recordOf, judgedOf}
+use Rattle.sheet.specs.Sheet.{after, walk, readOf, whole}
+use Rattle.tag.specs.declared.Tag.{Tag}
+use Rattle.tag.specs.States.{poweredUp}
+use Rattle.tag.specs.Plays.{Brought}
+
+abbrev pub key : Key
+key = record { id = 0; mac = false; mpi = 1; enc = replicate 16 0; mackey = replicate 16 0 }
+
+unfoldable pub setup : Setup
+setup = record {
+  features = record { blocksize1 = false; rev0 = false; rev1 = false; iam = true; iam3 = true; mam = true; mode0 = true; mode1 = false; mode2 = false; mode3 = false };
+  sizes = record { identity = 0; user = 4 };
+  keys = record { count = 1; table = set (replicate keyLimit noKey) 0 key };
+  profiles = set (replicate profileLimit noSlot) 0 (record { present = true; profile = record { area = User; base = record { 0 = 0 }; words = 4 } });
+  locks = record { count = 0; table = replicate lockLimit noLock };
+}
+
+-- its sheet
+pub setup-read : readOf
+    (0x01 ∷ 0x38 ∷ 0x01
+    ∷ 0x02 ∷ 0x00 ∷ 0x00 ∷ 0x00 ∷ 0x04
+    ∷ 0x03 ∷ 0x00 ∷ 0x00 ∷ 0x00 ∷ 0x01 ∷ replicate 16 0 ++ replicate 16 0
+    ++ (0x04 ∷ 0x00 ∷ 0x01 ∷ 0x00 ∷ 0x00 ∷ 0x00 ∷ 0x04
+    ∷ 0x06 ∷ []))
+    ≡ whole setup
+unfolding setup readOf walk after judgedOf openedOf tooMany kindOf inOrder recordOf withFeatures withSizes withKey withProfile featuresRule featuresOf sizesRule sizesOf keyRule keyOf profileRule slotOf inside wordsIn areaOf allZero wordLimit keyLimit profileLimit lockLimit nothingKept noMarks emptySetup
+setup-read = refl
+
+unfoldable pub bench : Tag
+bench = poweredUp setup
+
+-- its areas
+abbrev pub user : List ℕ
+user = replicate 8 0
+
+-- a call: a message, ten draws of which the first is n, and a room
+abbrev pub drawn : ℕ → List ℕ
+drawn n = n ∷ replicate 9 0
+
+abbrev pub brings : List ℕ → ℕ → Brought
+brings message n = record { message = message; draws = drawn n; room = replicate 172 0 }
+
+-- IAM1 for KeyID 00
+abbrev pub iam1 : List ℕ
+iam1 = 0x40 ∷ 0x00 ∷ []

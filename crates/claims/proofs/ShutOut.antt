@@ -1,0 +1,104 @@
+-- The five false tags, shut out: each against a run of one or two calls on one tag. No cipher is computed, since the reply to an IAM1 is the ten draws.
+use mathlib.Core.Path.{_≡_, refl, sym, ap, _∙_, subst}
+use mathlib.Core.List.{List, [], _∷_}
+use Prim.Native.Nat.{ℕ}
+use native.Mathlib.Omega.{arith}
+use lib.ListN.{take, drop, getD, replicate}
+use Rattle.modes.specs.Room.{over}
+use Rattle.sheet.specs.Limits.{keyLimit, profileLimit}
+use Rattle.frames.specs.Kinds.{kindOf, iamKind}
+use Rattle.frames.specs.Lengths.{lengthFits}
+use Rattle.frames.specs.Messages.{iam1Of}
+use Rattle.tag.specs.declared.Fault.the-variants.{OtherError}
+use Rattle.tag.specs.declared.Outcome.the-variants.{Replied, Refused}
+use Rattle.tag.specs.declared.State.the-variants.{IamInit}
+use Rattle.tag.specs.declared.Tag.{Tag}
+use Rattle.tag.specs.States.{cleared, poweredUp, atRest, inTurn}
+use Rattle.tag.specs.Checks.{judged}
+use Rattle.tag.specs.Records.{offered, hasKey, keysOf}
+use Rattle.tag.specs.Judged.{benchChecks, openingChecks}
+use Rattle.tag.specs.Answers.{answerOf, ofMessage, inOrder, byKind, iam1Answer, ifFine, replied, refused}
+use Rattle.tag.specs.Runs.{run}
+use Rattle.tag.specs.Plays.{Brought, Left, Plays, sentAll, leftAll}
+use Rattle.tag.proofs.Played.{played}
+use Rattle.claims.specs.ShutOut.{Program, Standard, OneTag, SomeTag, Each, RefusesEverything, OneFixedReply, LaterForShow, MadeUpLength, ShutOut}
+use Rattle.claims.proofs.Bench.{setup, bench, user, drawn, brings, iam1}
+
+-- ---- there is one standard's tag
+
+abbrev pub defined : Program
+defined tag identity user bs = leftAll tag bs (run tag identity user (sentAll bs))
+
+pub one-tag : OneTag
+one-tag p q hp hq tag identity user bs = played bs _ tag identity user (hp tag identity user bs) ∙ sym (played bs _ tag identity user (hq tag identity user bs))
+
+plays : (bs : List Brought) (tag : Tag) (identity user : List ℕ) → Plays tag identity user bs (defined tag identity user bs)
+unfolding Plays leftAll run sentAll
+plays [] tag identity user = tt
+plays (b ∷ bs) tag identity user = (record { outcome = refl; number = refl; next = refl; reply = refl; identity = refl; user = refl }, plays bs _ _ _)
+
+pub some-tag : SomeTag
+some-tag = record { program = defined; standard = λ tag identity user bs. plays bs tag identity user }
+
+-- what holds of a program that is the standard's, holds of the definition's run
+module _ (p : Program) (h : Standard p) (tag : Tag) (identity user : List ℕ) (bs : List Brought) where
+  pub is-defined : p tag identity user bs ≡ defined tag identity user bs
+  is-defined = played bs _ tag identity user (h tag identity user bs)
+
+-- ---- the runs
+
+-- what an IAM1 with these draws leaves: they are its reply, and its challenge
+abbrev pub answered : ℕ → Left
+answered n = record {
+  stepped = record { outcome = Replied 10; tag = record { setup = setup; session = record { state = IamInit; keyid = 0; tchallenge = drawn n; ichallenge = replicate 4 0 } } };
+  room = over (drawn n) (replicate 172 0);
+  identity = [];
+  user = user;
+}
+
+-- what an empty message leaves: number 1
+abbrev pub unanswered : Left
+unanswered = record { stepped = record { outcome = Refused OtherError; tag = bench }; room = replicate 172 0; identity = []; user = user }
+
+one-call : (n : ℕ) → defined bench [] user (brings iam1 n ∷ []) ≡ answered n ∷ []
+unfolding leftAll run sentAll setup bench poweredUp cleared atRest inTurn judged offered hasKey keysOf benchChecks openingChecks answerOf ofMessage inOrder byKind iam1Answer ifFine replied refused kindOf iamKind lengthFits iam1Of keyLimit profileLimit
+one-call n = refl
+
+two-calls : (n : ℕ) → defined bench [] user (brings [] 0 ∷ brings iam1 n ∷ []) ≡ unanswered ∷ answered n ∷ []
+unfolding leftAll run sentAll setup bench poweredUp cleared atRest inTurn judged offered hasKey keysOf benchChecks openingChecks answerOf ofMessage inOrder byKind iam1Answer ifFine replied refused kindOf iamKind lengthFits iam1Of keyLimit profileLimit
+two-calls n = refl
+
+-- ---- the programs
+
+-- of one call
+module _ (p : Program) (h : Standard p) (n : ℕ) (P : Left → Type 0) where
+  of-one : Each P (p bench [] user (brings iam1 n ∷ [])) → P (answered n)
+  unfolding Each
+  of-one e = subst (λ (xs : List Left). Each P xs) (is-defined p h bench [] user (brings iam1 n ∷ []) ∙ one-call n) e .0
+
+pub refuses-everything : ShutOut RefusesEverything
+refuses-everything p says h = of-one p h 0 (λ x. (n : ℕ) → x .stepped .outcome ≡ Replied n → ⊥) (says bench [] user (brings iam1 0 ∷ [])) 10 refl
+
+-- the first draw tells two replies apart
+apart : drawn 0 ≡ drawn 1 → ⊥
+apart e = let z : _≡_ {A = ℕ} 0 1 = ap (λ (l : List ℕ). getD l 0 0) e in omega arith
+
+pub one-fixed-reply : (reply : List ℕ) → ShutOut (OneFixedReply reply)
+one-fixed-reply reply p says h = apart (sym (sent 0) ∙ sent 1)
+  where
+    sent : (n : ℕ) → reply ≡ drawn n
+    sent n = sym (of-one p h n (λ x. (k : ℕ) → x .stepped .outcome ≡ Replied k → take k (x .room) ≡ reply) (says bench [] user (brings iam1 n ∷ [])) 10 refl)
+
+pub made-up-length : ShutOut MadeUpLength
+unfolding kindOf iamKind
+made-up-length p says h = of-one p h 0 (λ x. x .stepped .outcome ≡ Replied 10 → ⊥) (says bench [] user (brings iam1 0) 0x40 (0x00 ∷ []) refl refl) refl
+
+pub later-for-show : ShutOut LaterForShow
+later-for-show p says h = apart (ap first (sym (later 0) ∙ says bench [] user (brings [] 0) (brings iam1 0 ∷ []) (brings iam1 1 ∷ []) refl ∙ later 1))
+  where
+    later : (n : ℕ) → drop 1 (p bench [] user (brings [] 0 ∷ brings iam1 n ∷ [])) ≡ answered n ∷ []
+    later n = ap (drop 1) (is-defined p h bench [] user (brings [] 0 ∷ brings iam1 n ∷ []) ∙ two-calls n)
+
+    first : List Left → List ℕ
+    first [] = []
+    first (x ∷ xs) = take 10 (x .room)
