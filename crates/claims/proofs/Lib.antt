@@ -13,3 +13,5 @@ pub mod Edges
 pub mod Bench
 pub mod ShutOut
 pub mod ReplyLength
+pub mod Entered
+pub mod NeverStores

@@ -1,0 +1,122 @@
+-- The premises of Entry hold: on the bench of examples a reader that has the keys is let in by IAM2, by MAM2, and by an IAM3 that writes. No cipher is computed.
+use mathlib.Core.Path.{_≡_, refl}
+use mathlib.Core.Bool.{Bool, true, false}
+use mathlib.Core.List.{List, [], _∷_}
+use Prim.Native.Nat.{ℕ, zero, suc, _<_}
+use native.Mathlib.Omega.{arith}
+use lib.ListN.{length, drop, getD, replicate}
+use Rattle.memory.specs.declared.Area.the-variants.{Identity, User}
+use Rattle.memory.specs.declared.BlockSize.the-variants.{Bits64}
+use Rattle.memory.specs.Address.{addressOf, stepOf, lastWord, profileEnd, overruns}
+use Rattle.memory.specs.Areas.{storedIn}
+use Rattle.memory.specs.Rights.{permitted, meetsAny, someLocked}
+use Rattle.sheet.specs.Limits.{keyLimit, profileLimit, lockLimit}
+use Rattle.frames.specs.declared.Custom.{Custom}
+use Rattle.frames.specs.declared.Kind.{Kind}
+use Rattle.frames.specs.declared.Kind.the-variants.{Iam2, Iam3, Mam2}
+use Rattle.frames.specs.Asked.{blockAsked as wordsAsked}
+use Rattle.frames.specs.Blocks.{dataLength, blockBytes}
+use Rattle.frames.specs.Fields.{customFits}
+use Rattle.frames.specs.Lengths.{hasMac}
+use Rattle.tag.specs.declared.Session.{Session}
+use Rattle.tag.specs.declared.State.{State}
+use Rattle.tag.specs.declared.State.the-variants.{IamInit, MamInit}
+use Rattle.tag.specs.declared.Tag.{Tag}
+use Rattle.tag.specs.States.{afterIam1, afterMam1, inTurn}
+use Rattle.tag.specs.Checks.{judged}
+use Rattle.tag.specs.Judged.{benchChecks}
+use Rattle.tag.specs.Records.{offered, sizeOffered, modeOffered, modeSupported, keyNamed, keyOf, keysOf, slotNamed, blockAsked}
+use Rattle.tag.specs.Answers.{Call, answerOf, letIn}
+use Rattle.tag.specs.Reactions.{lent}
+use Rattle.reader.specs.declared.Keys.{Keys}
+use Rattle.reader.specs.Own.{modeFits}
+use Rattle.reader.specs.Builds.{purposeFits, dataFits, iam2Made, mam2Made, iam3Made, iam3Fits}
+use Rattle.claims.specs.Entry.{Array, Knows, Waits, Writable}
+use Rattle.claims.proofs.Entry.{iam2-enters, mam2-enters}
+use Rattle.claims.proofs.EntryIam3.{iam3-enters}
+use Rattle.claims.proofs.Bench.{setup, user, drawn}
+
+-- zeros are bytes
+zeros : (n i : ℕ) → getD {A = ℕ} (replicate n 0) i 0 < 256
+zeros zero i = omega arith
+zeros (suc n) zero = omega arith
+zeros (suc n) (suc i) = zeros n i
+
+-- the tag after an IAM1 or a MAM1 whose draws are zeros, and a call
+abbrev pub waiting : State → Tag
+waiting state = record { setup = setup; session = record { state = state; keyid = 0; tchallenge = drawn 0; ichallenge = replicate 4 0 } }
+
+abbrev pub call : List ℕ → Call
+call message = lent message (drawn 0) (replicate 172 0) [] user
+
+-- the reader has the keys
+abbrev keys : Keys
+keys = record { enc = replicate 16 0; mac = false; mackey = replicate 16 0 }
+
+knows : (state : State) → Knows keys (keyNamed (waiting state .setup) (waiting state .session .keyid))
+unfolding setup keyOf keysOf keyLimit
+knows state = record { enc = refl; mackey = refl; array = record { long = refl; bytes = zeros 16 } }
+
+ten : Array 10 (drawn 0)
+ten = record { long = refl; bytes = zeros 10 }
+
+four : Array 4 (replicate 4 0)
+four = record { long = refl; bytes = zeros 4 }
+
+purpose-0 : purposeFits 0 ≡ true
+unfolding purposeFits
+purpose-0 = refl
+
+-- ---- IAM2 and MAM2
+
+abbrev iam2 : Call
+iam2 = call (iam2Made keys 0 (replicate 4 0) (drawn 0))
+
+iam2-waits : Waits iam2 (waiting IamInit) Iam2
+unfolding judged benchChecks offered inTurn afterIam1 setup
+iam2-waits = record { bench = refl; there = refl; turn = refl }
+
+pub iam2-entered : answerOf iam2 (waiting IamInit) ≡ letIn iam2 0 [] user
+iam2-entered = iam2-enters iam2 (waiting IamInit) keys 0 (replicate 4 0) iam2-waits (knows IamInit) ten four purpose-0 refl
+
+abbrev mam2 : Call
+mam2 = call (mam2Made keys 0 (replicate 10 0) (drawn 0))
+
+mam2-waits : Waits mam2 (waiting MamInit) Mam2
+unfolding judged benchChecks offered inTurn afterMam1 setup
+mam2-waits = record { bench = refl; there = refl; turn = refl }
+
+pub mam2-entered : answerOf mam2 (waiting MamInit) ≡ letIn mam2 0 [] user
+mam2-entered = mam2-enters mam2 (waiting MamInit) keys 0 (replicate 10 0) mam2-waits (knows MamInit) ten ten refl purpose-0 refl
+
+-- ---- IAM3: ProtMode 0, one 64-bit block at Offset 0 of profile 0
+
+abbrev pub custom : Custom
+custom = record { blocksize = Bits64; profile = 0; offset = record { 0 = 0 }; blockcount = 0 }
+
+abbrev pub words : List ℕ
+words = 1 ∷ replicate 7 0
+
+words-bytes : (i : ℕ) → getD words i 0 < 256
+words-bytes zero = omega arith
+words-bytes (suc i) = zeros 7 i
+
+unfoldable pub iam3 : List ℕ
+iam3 = iam3Made keys custom 0 0 (replicate 4 0) (drawn 0) words
+
+iam3-waits : Waits (call iam3) (waiting IamInit) Iam3
+unfolding judged benchChecks offered inTurn afterIam1 setup
+iam3-waits = record { bench = refl; there = refl; turn = refl }
+
+fits : iam3Fits keys custom 0 0 8 ≡ true
+unfolding iam3Fits modeFits hasMac purposeFits dataFits dataLength blockBytes customFits
+fits = refl
+
+writable : Writable setup (keyNamed setup 0) custom 0
+unfolding setup modeSupported modeOffered hasMac keyOf keysOf slotNamed permitted sizeOffered overruns lastWord profileEnd blockAsked wordsAsked addressOf stepOf someLocked meetsAny keyLimit profileLimit lockLimit
+writable = record { mode = refl; present = refl; right = refl; size = refl; inside = refl; unlocked = refl }
+
+pub iam3-entered : answerOf (call iam3) (waiting IamInit)
+    ≡ letIn (call iam3) 0 (storedIn Identity (blockAsked setup custom) words []) (storedIn User (blockAsked setup custom) words user)
+unfolding iam3
+iam3-entered = iam3-enters (call iam3) (waiting IamInit) keys custom 0 0 (replicate 4 0) words iam3-waits (knows IamInit) ten four words-bytes fits writable refl

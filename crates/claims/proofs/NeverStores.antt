@@ -1,0 +1,47 @@
+-- The tag that never stores, shut out: after an IAM1 and an IAM3 the user area holds the reader's words.
+use mathlib.Core.Path.{_≡_, refl, sym, ap, _∙_, subst}
+use mathlib.Core.List.{List, [], _∷_}
+use Prim.Native.Nat.{ℕ}
+use native.Mathlib.Omega.{arith}
+use lib.ListN.{getD}
+use Rattle.memory.specs.Address.{sameArea, areaNumber, addressOf, stepOf}
+use Rattle.memory.specs.Areas.{storedIn, written, within}
+use Rattle.sheet.specs.Limits.{keyLimit, profileLimit}
+use Rattle.frames.specs.Asked.{blockAsked as wordsAsked}
+use Rattle.frames.specs.Kinds.{kindOf, iamKind}
+use Rattle.frames.specs.Lengths.{lengthFits}
+use Rattle.frames.specs.Messages.{iam1Of}
+use Rattle.tag.specs.declared.State.the-variants.{IamInit}
+use Rattle.tag.specs.States.{cleared, poweredUp, atRest, inTurn}
+use Rattle.tag.specs.Checks.{judged}
+use Rattle.tag.specs.Records.{offered, hasKey, keysOf, slotNamed, blockAsked}
+use Rattle.tag.specs.Judged.{benchChecks, openingChecks}
+use Rattle.tag.specs.Answers.{Answer, answerOf, ofMessage, inOrder, byKind, iam1Answer, ifFine, replied, refused, letIn}
+use Rattle.tag.specs.Runs.{run}
+use Rattle.tag.specs.Plays.{Brought, Left, sentAll, leftOf, leftAll}
+use Rattle.claims.specs.ShutOut.{Program, Standard, Each, NeverStores, ShutOut}
+use Rattle.claims.proofs.Bench.{setup, bench, user, brings, iam1}
+use Rattle.claims.proofs.Entered.{waiting, call, words, iam3, iam3-entered}
+use Rattle.claims.proofs.ShutOut.{is-defined, answered}
+
+-- the words are stored
+stored : answerOf (call iam3) (waiting IamInit) .user ≡ words
+unfolding letIn setup profileLimit slotNamed blockAsked wordsAsked addressOf stepOf storedIn written within sameArea areaNumber
+stored = ap (λ (a : Answer). a .user) iam3-entered
+
+-- the run: an IAM1, and the IAM3
+module _ (p : Program) (h : Standard p) where
+  abbrev bs : List Brought
+  bs = brings iam1 0 ∷ brings iam3 0 ∷ []
+
+  left : p bench [] user bs ≡ answered 0 ∷ leftOf (waiting IamInit) (brings iam3 0) (answerOf (call iam3) (waiting IamInit)) ∷ []
+  unfolding leftAll run sentAll setup bench poweredUp cleared atRest inTurn judged offered hasKey keysOf benchChecks openingChecks answerOf ofMessage inOrder byKind iam1Answer ifFine replied refused kindOf iamKind lengthFits iam1Of keyLimit profileLimit
+  left = is-defined p h bench [] user bs
+
+pub never-stores : ShutOut NeverStores
+unfolding Each
+never-stores p says h =
+    let e = subst (λ (xs : List Left). Each (λ x. (x .identity ≡ []) × (x .user ≡ user)) xs) (left p h) (says bench [] user (bs p h)) in
+    let same : words ≡ user = sym stored ∙ e .1 .0 .1 in
+    let z : _≡_ {A = ℕ} 1 0 = ap (λ (l : List ℕ). getD l 0 0) same in
+    omega arith
