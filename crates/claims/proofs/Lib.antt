@@ -15,3 +15,4 @@ pub mod ShutOut
 pub mod ReplyLength
 pub mod Entered
 pub mod NeverStores
+pub mod Inhabited

@@ -1,0 +1,107 @@
+-- No premise is hollow: each theorem of the demands with premises, applied to something of which they hold. (Entry's are in Entered.)
+use mathlib.Core.Path.{_≡_, refl, ap, ap₂}
+use mathlib.Core.Logic.{_⊎_}
+use mathlib.Core.Bool.{true, false}
+use mathlib.Core.List.{List, [], _∷_}
+use Prim.Native.Nat.{ℕ, zero, suc}
+use native.Mathlib.Omega.{arith}
+use lib.ListN.{length, take, drop, replicate}
+use Rattle.modes.specs.declared.Chaining.the-variants.{Refused as NotChained}
+use Rattle.modes.specs.Room as room
+use Rattle.sheet.specs.declared.Fault.the-variants.{Cut}
+use Rattle.sheet.specs.declared.Reading.{Reading}
+use Rattle.sheet.specs.Kinds as sheet
+use Rattle.sheet.specs.Setups.{nothingKept, emptySetup}
+use Rattle.sheet.specs.Judgement.{judgedOf}
+use Rattle.sheet.specs.Sheet.{readOf}
+use Rattle.sheet.proofs.Examples.{example-12}
+use Rattle.tag.specs.declared.Fault.the-variants.{OtherError}
+use Rattle.tag.specs.declared.Outcome.the-variants.{Replied, Refused}
+use Rattle.tag.specs.declared.Tag.{Tag}
+use Rattle.tag.specs.States.{cleared, poweredUp}
+use Rattle.tag.specs.Checks.{judged}
+use Rattle.tag.specs.Judged.{benchChecks}
+use Rattle.tag.specs.Answers.{answerOf, ofMessage, refused}
+use Rattle.tag.specs.Plays.{Brought, Left, Called}
+use Rattle.reader.specs.declared.Fault.the-variants.{OwnMessage}
+use Rattle.reader.specs.declared.Keys.{Keys}
+use Rattle.reader.specs.declared.Made.the-variants.{Refused as NotMade}
+use Rattle.reader.specs.Numbers as reader
+use Rattle.reader.specs.Findings as findings
+use Rattle.reader.specs.Judged.{judgementOf}
+use Rattle.claims.specs.Answered.{FromTo, TagRefused, JudgeRefused}
+use Rattle.claims.specs.ShutOut.{Program, Each, RefusesEverything, OneFixedReply, LaterForShow, MadeUpLength, NeverStores}
+use Rattle.claims.proofs.Answered.{tag-answers, sheet-answers, record-answers, chain-answers, layer-answers}
+use Rattle.claims.proofs.AnsweredReader.{judge-answers, builder-answers}
+use Rattle.claims.proofs.Bench.{setup, bench, user, brings}
+use Rattle.claims.proofs.ShutOut.{unanswered}
+
+-- ---- demand 1
+
+called : Called bench [] user (brings [] 0) unanswered
+unfolding answerOf judged benchChecks ofMessage refused bench setup poweredUp cleared
+called = record { outcome = refl; number = refl; next = refl; reply = refl; identity = refl; user = refl }
+
+pub tag-refused : TagRefused bench [] user (brings [] 0) unanswered OtherError
+tag-refused = tag-answers bench [] user (brings [] 0) unanswered OtherError called refl
+
+pub judge-refused : (keys : Keys) → JudgeRefused [] (findings.saidOf (findings.refused OwnMessage)) [] OwnMessage
+unfolding judgementOf
+judge-refused keys = judge-answers keys [] [] [] _ [] OwnMessage (record { says = refl; number = refl; holds = refl }) refl
+
+pub builder-refused : (reader.numberOf OwnMessage ≡ 24) × (_≡_ {A = List ℕ} [] [])
+builder-refused = builder-answers true [] [] (NotMade OwnMessage) [] OwnMessage (record { says = refl; number = refl; holds = refl }) refl
+
+pub sheet-refused : FromTo 30 35 (sheet.numberOf Cut) × (readOf [] .setup ≡ emptySetup)
+sheet-refused = sheet-answers [] Cut 0 (ap (λ (r : Reading). r .verdict) example-12)
+
+pub record-refused : FromTo 30 35 (sheet.numberOf Cut) × (judgedOf [] nothingKept .kept ≡ nothingKept)
+unfolding judgedOf
+record-refused = record-answers [] nothingKept Cut refl
+
+pub chain-refused : (room.numberOf NotChained ≡ 0) ⊎ ((room.numberOf NotChained ≡ 8) × (_≡_ {A = List ℕ} [] []))
+chain-refused = chain-answers false [] [] NotChained [] (record { says = refl; number = refl; leaves = refl })
+
+pub layer-refused : _≡_ {A = List ℕ} [] []
+layer-refused = layer-answers false 0 [] [] false [] (record { says = refl; holds = refl }) refl
+
+-- ---- demand 2: one program that is each of the five false ones, since it refuses whatever comes
+
+abbrev refusing : Tag → List ℕ → List ℕ → Left
+refusing tag identity user = record { stepped = record { outcome = Refused OtherError; tag = tag }; room = []; identity = identity; user = user }
+
+pub refuser : Program
+refuser tag identity user [] = []
+refuser tag identity user (b ∷ bs) = refusing tag identity user ∷ refuser tag identity user bs
+
+module _ (tag : Tag) (identity user : List ℕ) where
+  each-left : (P : Left → Type 0) → P (refusing tag identity user) → (bs : List Brought) → Each P (refuser tag identity user bs)
+  unfolding refuser Each
+  each-left P h [] = tt
+  each-left P h (b ∷ bs) = (h, each-left P h bs)
+
+  as-long : (bs cs : List Brought) → length bs ≡ length cs → refuser tag identity user bs ≡ refuser tag identity user cs
+  unfolding refuser
+  as-long [] [] e = refl
+  as-long [] (c ∷ cs) e = absurd (omega arith)
+  as-long (b ∷ bs) [] e = absurd (omega arith)
+  as-long (b ∷ bs) (c ∷ cs) e = ap (λ (xs : List Left). refusing tag identity user ∷ xs) (as-long bs cs (omega arith))
+
+no-reply : (n : ℕ) → Refused OtherError ≡ Replied n → ⊥
+no-reply n e = let z : _≡_ {A = ℕ} 0 1 = cc in omega arith
+
+pub refuses-everything : RefusesEverything refuser
+refuses-everything tag identity user = each-left tag identity user _ no-reply
+
+pub one-fixed-reply : (reply : List ℕ) → OneFixedReply reply refuser
+one-fixed-reply reply tag identity user = each-left tag identity user _ (λ n e. absurd (no-reply n e))
+
+pub never-stores : NeverStores refuser
+never-stores tag identity user = each-left tag identity user _ (refl, refl)
+
+pub made-up-length : MadeUpLength refuser
+made-up-length tag identity user b first rest e k = each-left tag identity user _ (no-reply 10) (b ∷ [])
+
+pub later-for-show : LaterForShow refuser
+unfolding refuser
+later-for-show tag identity user b bs cs e = as-long tag identity user bs cs e
