@@ -16,3 +16,4 @@ pub mod ReplyLength
 pub mod Entered
 pub mod NeverStores
 pub mod Inhabited
+pub mod Ways

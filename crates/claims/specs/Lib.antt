@@ -4,3 +4,4 @@ pub mod Recovery
 pub mod Answered
 pub mod Edges
 pub mod ShutOut
+pub mod Ways

@@ -1,0 +1,22 @@
+-- Clause 5: a tag has encryption alone. What the reader sends it, it opens by AES-ENC; the Purpose is read from the block so opened.
+use Prim.Native.Nat.{ℕ}
+use mathlib.Core.Path.{_≡_}
+use mathlib.Core.Bool.{Bool, true}
+use mathlib.Core.List.{List}
+use Rattle.aes.specs.AesEnc.{aesEnc}
+use Rattle.frames.specs.Constants.{C-IAM2}
+use Rattle.frames.specs.Messages.{iam2Of, mam2Of}
+use Rattle.sheet.specs.declared.Setup.{Setup}
+use Rattle.tag.specs.declared.Session.{Session}
+use Rattle.tag.specs.declared.Verdict.the-variants.{Fine}
+use Rattle.tag.specs.Checks.{judged}
+use Rattle.tag.specs.Judged.{iam2Checks, mam2Checks}
+use Rattle.tag.specs.Records.{keyNamed}
+use Rattle.tag.specs.Opened.{iamProof, mamProof}
+
+-- An IAM2, and a MAM2, that passes its checks proves itself in the block that AES-ENC makes of IResponse.
+abbrev pub TagEncrypts : Type 0
+TagEncrypts =
+    (setup : Setup) (held : Session) (m : List ℕ)
+    → (judged (iam2Checks setup held m) ≡ Fine → iamProof C-IAM2 held (aesEnc (keyNamed setup (held .keyid) .enc) (iam2Of m .iresponse)) ≡ true)
+    × (judged (mam2Checks setup held m) ≡ Fine → mamProof held (aesEnc (keyNamed setup (held .keyid) .enc) (mam2Of m .iresponse)) ≡ true)
