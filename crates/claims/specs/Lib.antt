@@ -5,3 +5,6 @@ pub mod Answered
 pub mod Edges
 pub mod ShutOut
 pub mod Ways
+pub mod Names
+pub mod Silence
+pub mod Sheets

@@ -1,0 +1,104 @@
+-- Demand 3, by induction over the messages: two tags that are alike stay alike.
+use mathlib.Core.Path.{_≡_, refl, sym, ap, _∙_, subst}
+use mathlib.Core.Logic.{_⊎_, ⊎-elim, inl, inr}
+use mathlib.Core.Bool.{Bool, true, false}
+use mathlib.Core.List.{List, [], _∷_}
+use Prim.Native.Nat.{ℕ}
+use lib.Dec.{eqb}
+use borrow.Author.Tests.{eqb-true, eqb-false}
+use Rattle.ground.specs.Choice.{either}
+use Rattle.modes.specs.Room.{over}
+use Rattle.sheet.specs.declared.Setup.{Setup}
+use Rattle.tag.specs.declared.Session.{Session}
+use Rattle.tag.specs.declared.Tag.{Tag}
+use Rattle.tag.specs.States.{cleared, poweredUp}
+use Rattle.tag.specs.Answers.{Answer, answerOf}
+use Rattle.tag.specs.Runs.{Sent, callOf, tagAfter, run}
+use Rattle.tag.specs.Plays.{Brought, Left, sentAll, leftAll}
+use Rattle.tag.proofs.Played.{played}
+use Rattle.claims.specs.Names.{namedBy, namedIn}
+use Rattle.claims.specs.Silence.{SetupsAlike, Memory, MemoriesAlike, SameChange, SameAnswers, SameLefts, wordOf, Silent, SilentCode, ChangeAlike}
+use Rattle.claims.proofs.SilenceStores.{unchanged, one-after-another}
+use Rattle.claims.proofs.SilenceWords.{still-alike}
+use Rattle.claims.proofs.SilenceSteps.{HeldNamed, cleared-named, step-alike}
+
+either-left : (b d : Bool) → b ≡ true → either b d ≡ true
+either-left b d h = rw h refl
+
+either-right : (b d : Bool) → d ≡ true → either b d ≡ true
+either-right true d h = refl
+either-right false d h = h
+
+module _ (named : ℕ → Bool) (s t : Setup) (alike : SetupsAlike named s t) (x y : Memory) (mem : MemoriesAlike named s x y) where
+  abbrev holding : Setup → Session → Tag
+  holding setup held = record { setup = setup; session = held }
+
+  -- from any moment on
+  silent-from : (ss : List Sent) → ((keyid : ℕ) → namedIn ss keyid ≡ true → named keyid ≡ true) → (held : Session) → HeldNamed named held
+      → (i u j v : List ℕ) → SameChange (x .identity) (y .identity) i j → SameChange (x .user) (y .user) u v
+      → SameAnswers x y (run (holding s held) i u ss) (run (holding t held) j v ss)
+  unfolding SameAnswers run namedIn
+  silent-from [] all held h i u j v f g = tt
+  silent-from (sent ∷ ss) all held h i u j v f g =
+      let now = still-alike named s x y mem i j u v f g in
+      let step = step-alike named s t alike (record { identity = i; user = u }) (record { identity = j; user = v }) now sent (λ k n. all k (either-left _ _ n)) held h in
+      let a = answerOf (callOf sent i u) (holding s held) in
+      let b = answerOf (callOf sent j v) (holding t held) in
+      let f′ = one-after-another (x .identity) (y .identity) i j (a .identity) (b .identity) f (step .same .identity) in
+      let g′ = one-after-another (x .user) (y .user) u v (a .user) (b .user) g (step .same .user) in (
+        record { outcome = step .same .outcome; reply = step .same .reply; session = step .same .session; identity = f′; user = g′ },
+        subst (λ (z : Session). SameAnswers x y (run (holding s (a .session)) (a .identity) (a .user) ss) (run (holding t z) (b .identity) (b .user) ss)) (step .same .session)
+            (silent-from ss (λ k n. all k (either-right (namedBy (sent .message) k) _ n)) (a .session) (step .holds) (a .identity) (a .user) (b .identity) (b .user) f′ g′),
+      )
+
+-- Demand 3.
+pub silent : Silent
+unfolding poweredUp
+silent ss s t x y alike mem =
+    silent-from (namedIn ss) s t alike x y mem ss (λ k n. n) cleared (cleared-named (namedIn ss)) (x .identity) (x .user) (y .identity) (y .user)
+    (unchanged (x .identity) (y .identity)) (unchanged (x .user) (y .user))
+
+-- ---- the code
+
+lefts : (x y : Memory) (bs : List Brought) (p q : Tag) (as′ bs′ : List Answer) → SameAnswers x y as′ bs′ → SameLefts x y (leftAll p bs as′) (leftAll q bs bs′)
+unfolding SameAnswers SameLefts leftAll
+lefts x y [] p q as′ bs′ h = tt
+lefts x y (b ∷ bs) p q [] [] h = tt
+lefts x y (b ∷ bs) p q [] (c ∷ cs) h = absurd h
+lefts x y (b ∷ bs) p q (a ∷ more) [] h = absurd h
+lefts x y (b ∷ bs) p q (a ∷ more) (c ∷ cs) (e, h) = (
+  record { outcome = e .outcome; session = e .session; room = ap (λ (r : List ℕ). over r (b .room)) (e .reply); identity = e .identity; user = e .user },
+  lefts x y bs (tagAfter p a) (tagAfter q c) more cs h,
+)
+
+pub silent-code : SilentCode
+silent-code bs s t x y ls rs alike mem p q =
+    let e = played bs ls (poweredUp s) (x .identity) (x .user) p in
+    let f = played bs rs (poweredUp t) (y .identity) (y .user) q in
+    let h = lefts x y bs (poweredUp s) (poweredUp t) _ _ (silent (sentAll bs) s t x y alike mem) in
+    subst (λ (z : List Left). SameLefts x y ls z) (sym f)
+    (subst (λ (z : List Left). SameLefts x y z (leftAll (poweredUp t) bs (run (poweredUp t) (y .identity) (y .user) (sentAll bs)))) (sym e) h)
+
+-- ---- from one moment to another
+
+-- two words are the same or not
+same-pair : (a b c d : ℕ) (p q : Bool) → eqb a c ≡ p → eqb b d ≡ q → (_≡_ {A = ℕ × ℕ} (a, b) (c, d)) ⊎ (_≡_ {A = ℕ × ℕ} (a, b) (c, d) → ⊥)
+same-pair a b c d true true h k = inl (λ j. (eqb-true a c h j, eqb-true b d k j))
+same-pair a b c d true false h k = inr (λ e. eqb-false b d k (λ j. e j .1))
+same-pair a b c d false q h k = inr (λ e. eqb-false a c h (λ j. e j .0))
+
+same-word : (s t : List ℕ) (w : ℕ) → (wordOf s w ≡ wordOf t w) ⊎ (wordOf s w ≡ wordOf t w → ⊥)
+same-word s t w = same-pair (wordOf s w .0) (wordOf s w .1) (wordOf t w .0) (wordOf t w .1) _ _ refl refl
+
+pub change-alike : ChangeAlike
+change-alike s t m n k l f g w =
+    ⊎-elim
+    (λ e.
+    let p = f .agreed w e in
+    let q = g .agreed w e in
+    (((λ z. sym p ∙ z ∙ q), (λ z. p ∙ z ∙ sym q)), (λ h. q)))
+    (λ h.
+    let p = f .differed w h in
+    let q = g .differed w h in
+    (((λ z. p .1 ∙ sym (q .1)), (λ z. p .0 ∙ sym (q .0))), (λ z. absurd (z (p .0 ∙ sym (q .0))))))
+    (same-word s t w)
