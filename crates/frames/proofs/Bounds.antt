@@ -1,4 +1,4 @@
--- No reply is longer than 172 bytes, no message longer than 176, and no header with its data longer than 144. Assumes nothing.
+-- No reply is longer than 172 bytes, no message longer than 176, and no header with its data longer than 144.
 use mathlib.Core.Bool.{Bool, true, false}
 use Prim.Native.Nat.{ℕ, _≤_, _<_}
 use native.Mathlib.Omega.{arith}

@@ -1,4 +1,4 @@
--- Examples of the papers, computed. Assumes nothing.
+-- Examples of the papers, computed.
 use mathlib.Core.Path.{_≡_, refl}
 use mathlib.Core.Bool.{true, false}
 use mathlib.Core.List.{List, [], _∷_}

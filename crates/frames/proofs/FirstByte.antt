@@ -1,4 +1,4 @@
--- The kind of each of the 256 first bytes, computed once. Assumes nothing.
+-- The kind of each of the 256 first bytes, computed once.
 use mathlib.Core.Path.{_≡_, refl, sym, ap, _∙_, subst}
 use mathlib.Core.Bool.{Bool, true}
 use Prim.Native.Nat.{ℕ, zero, suc, _≤_, _<_}

@@ -1,5 +1,5 @@
 -- No second answer fits the contract of an exported function: for a function that answers a value, the value; for a builder, its answer and what the room
--- holds afterwards. Assumes nothing.
+-- holds afterwards.
 use mathlib.Core.Path.{_≡_}
 use mathlib.Core.Bool.{Bool}
 use mathlib.Core.List.{List}

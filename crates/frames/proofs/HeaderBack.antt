@@ -1,4 +1,4 @@
--- The fields come back out of a header, so that no two custom data blocks have one header; and a header comes back out of its fields. Assumes nothing.
+-- The fields come back out of a header, so that no two custom data blocks have one header; and a header comes back out of its fields.
 use mathlib.Core.Path.{_≡_, sym, ap, _∙_}
 use mathlib.Core.Bool.{true}
 use mathlib.Core.List.{List, [], _∷_, _++_}

@@ -1,4 +1,4 @@
--- A message that was taken apart is built of its fields again: of any message of bytes, of the right kind and length, each of the seven. Assumes nothing.
+-- A message that was taken apart is built of its fields again: of any message of bytes, of the right kind and length, each of the seven.
 use mathlib.Core.Path.{_≡_, ap, _∙_}
 use mathlib.Core.List.{List, [], _∷_, _++_}
 use Prim.Native.Nat.{ℕ, _+_, _*_, _/_, _%_, _≤_, _<_}

@@ -1,4 +1,4 @@
--- Parts put into a room one after the other, and what a builder leaves behind. Assumes nothing.
+-- Parts put into a room one after the other, and what a builder leaves behind.
 use mathlib.Core.Path.{_≡_, refl, sym, ap, _∙_}
 use mathlib.Core.Bool.{Bool, true, false}
 use mathlib.Core.List.{List, _++_, append-assoc}

@@ -1,4 +1,4 @@
--- A message as the parts that are put into a room. Assumes nothing.
+-- A message as the parts that are put into a room.
 use mathlib.Core.Path.{_≡_, refl}
 use mathlib.Core.List.{List, [], _∷_, _++_}
 use Prim.Native.Nat.{ℕ, _+_, _*_, _-_, _≤_}

@@ -1,4 +1,4 @@
--- D is the least number of 128-bit blocks that holds header and data; it is what 9.2 prints, and at most 9. Assumes nothing.
+-- D is the least number of 128-bit blocks that holds header and data; it is what 9.2 prints, and at most 9.
 use mathlib.Core.Path.{_≡_, refl}
 use mathlib.Core.Bool.{Bool, true, false}
 use mathlib.Core.List.{List, [], _∷_}

@@ -1,4 +1,4 @@
--- The bytes of a message from a place on. Assumes nothing.
+-- The bytes of a message from a place on.
 use mathlib.Core.Path.{_≡_, refl, sym, ap, _∙_}
 use mathlib.Core.List.{List, [], _∷_, _++_}
 use Prim.Native.Nat.{ℕ, zero, suc, _+_, _-_, _≤_, _<_}

@@ -1,4 +1,4 @@
--- What it says of the fields that they fit. Assumes nothing.
+-- What it says of the fields that they fit.
 use mathlib.Core.Path.{_≡_, refl}
 use mathlib.Core.Bool.{Bool, true, false}
 use Prim.Native.Nat.{ℕ, zero, suc, _<_}

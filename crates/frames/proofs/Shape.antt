@@ -1,4 +1,4 @@
--- What is built has the kind and the length of its message. Assumes nothing.
+-- What is built has the kind and the length of its message.
 use mathlib.Core.Path.{_≡_, refl, ap, _∙_}
 use mathlib.Core.Bool.{Bool, true, false}
 use mathlib.Core.List.{List, _++_}

@@ -1,4 +1,4 @@
--- A message that was built is taken apart into its fields again, where its fields fit their bits: for each of the seven. Assumes nothing.
+-- A message that was built is taken apart into its fields again, where its fields fit their bits: for each of the seven.
 use mathlib.Core.Path.{_≡_, ap, _∙_}
 use mathlib.Core.Bool.{true}
 use mathlib.Core.List.{List, _++_}

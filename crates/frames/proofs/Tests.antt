@@ -1,4 +1,4 @@
--- A test that antt computes at each byte, and what it shows. Assumes nothing.
+-- A test that antt computes at each byte, and what it shows.
 use mathlib.Core.Path.{_∙_, subst, sym}
 use mathlib.Core.Bool.{Bool, true, false}
 use Prim.Native.Nat.{ℕ, zero, suc, _+_, _<_}

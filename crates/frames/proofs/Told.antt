@@ -1,4 +1,4 @@
--- What the first two bytes of a block tell of its constant and its Purpose. Assumes nothing.
+-- What the first two bytes of a block tell of its constant and its Purpose.
 use mathlib.Core.Path.{_≡_, ap}
 use mathlib.Core.List.{List, [], _∷_}
 use Prim.Native.Nat.{ℕ, _+_, _*_, _/_, _%_, _<_}

@@ -1,5 +1,5 @@
 -- The scope paper's examples (8) to (10), with the sizes that 9.2 gives the two values of BlockSize: the paper has them exchanged.
--- What 9.2 makes of the paper's own wording stands beside them, and the edges of locks and MPI. Assumes nothing.
+-- What 9.2 makes of the paper's own wording stands beside them, and the edges of locks and MPI.
 use mathlib.Core.Path.{_≡_, refl}
 use mathlib.Core.Bool.{true, false}
 use Prim.Native.Nat.{ℕ}

@@ -1,4 +1,4 @@
--- What owning a `[u8; n]` by value says of its list: it has n elements. Assumes nothing.
+-- What owning a `[u8; n]` by value says of its list: it has n elements.
 use mathlib.Core.Path.{_≡_}
 use mathlib.Core.List.{List}
 use Prim.Native.Nat.{ℕ}

@@ -1,4 +1,4 @@
--- Each record's body as it is written: its length, that its rule holds, and that it reads back. Assumes nothing.
+-- Each record's body as it is written: its length, that its rule holds, and that it reads back.
 use mathlib.Core.Path.{_≡_, refl, sym}
 use mathlib.Core.Bool.{Bool, true, false}
 use mathlib.Core.List.{[], _∷_}

@@ -1,4 +1,4 @@
--- A byte of bits gives each bit back, and has no bit above. Two bytes give a number back. Assumes nothing.
+-- A byte of bits gives each bit back, and has no bit above. Two bytes give a number back.
 use mathlib.Core.Path.{_≡_, refl, sym, ap, fun-ext, _∙_}
 use mathlib.Core.Bool.{Bool, true, false}
 use mathlib.Core.List.{List, [], _∷_}

@@ -1,4 +1,4 @@
--- The records read so far of an accepted sheet keep the rules, and are what is written of what they say. Assumes nothing.
+-- The records read so far of an accepted sheet keep the rules, and are what is written of what they say.
 use mathlib.Core.Path.{_≡_, refl, sym, ap, subst₂, _∙_}
 use mathlib.Core.Bool.{true, false}
 use mathlib.Core.Logic.{inr}

@@ -1,4 +1,4 @@
--- Loops over sixteen bytes. Assumes nothing.
+-- Loops over sixteen bytes.
 use mathlib.Core.Path.{_≡_, refl, ap, sym, _∙_}
 use mathlib.Core.Bool.{true, false}
 use mathlib.Core.List.{List, [], _∷_, _++_}

@@ -1,4 +1,4 @@
--- Examples of the scope paper at the edges of a sheet, by computation. Assumes nothing.
+-- Examples of the scope paper at the edges of a sheet, by computation.
 use mathlib.Core.Path.{_≡_, refl, ap}
 use mathlib.Core.Bool.{true, false}
 use mathlib.Core.List.{List, [], _∷_, _++_}

@@ -1,4 +1,4 @@
--- No second answer fits the contract of an exported function, as the checker reads it from the source. Assumes nothing.
+-- No second answer fits the contract of an exported function, as the checker reads it from the source.
 use Prim.Native.Nat.{ℕ}
 use Rattle.sheet.specs.declared.Kept.{Kept}
 use Rattle.sheet.specs.declared.Judged.{Judged}

@@ -1,4 +1,4 @@
--- Each body that its rule takes is what is written of what it says, and what it says is within the rules. Assumes nothing.
+-- Each body that its rule takes is what is written of what it says, and what it says is within the rules.
 use mathlib.Core.Path.{_≡_, refl, sym, ap, ap₂, _∙_}
 use mathlib.Core.Bool.{true, false}
 use mathlib.Core.List.{List, [], _∷_, _++_, append-nil}

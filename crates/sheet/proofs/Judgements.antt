@@ -1,4 +1,4 @@
--- One record judged: what the calls on the way give. Assumes nothing.
+-- One record judged: what the calls on the way give.
 use mathlib.Core.Path.{_≡_, refl, sym, _∙_}
 use mathlib.Core.Bool.{false}
 use mathlib.Core.List.{List, [], _∷_}

@@ -1,4 +1,4 @@
--- What is written of a setup within the rules: bytes, and at most 809 of them. Assumes nothing.
+-- What is written of a setup within the rules: bytes, and at most 809 of them.
 use mathlib.Core.Path.{_≡_, refl}
 use mathlib.Core.Bool.{Bool, true, false}
 use mathlib.Core.Logic.{inl, inr}

@@ -1,4 +1,4 @@
--- One record more behind those of its kind: the rules go on, and what is written of it comes last. Assumes nothing.
+-- One record more behind those of its kind: the rules go on, and what is written of it comes last.
 use mathlib.Core.Path.{_≡_, refl, sym, ap}
 use mathlib.Core.Bool.{true}
 use mathlib.Core.Logic.{inl}

@@ -1,4 +1,4 @@
--- Laws on tests of numbers. Assumes nothing.
+-- Laws on tests of numbers.
 use mathlib.Core.Path.{_≡_, refl, sym, ap, _∙_}
 use mathlib.Core.Bool.{Bool, true, false}
 use Prim.Native.Nat.{ℕ, _+_, _-_, _<_, _≤_}

@@ -1,4 +1,4 @@
--- The four checks before a body's values: one law for each way out, and what holds where none of them refuses. Assumes nothing.
+-- The four checks before a body's values: one law for each way out, and what holds where none of them refuses.
 use mathlib.Core.Path.{_≡_, refl}
 use mathlib.Core.Bool.{Bool, true, false, not}
 use Prim.Native.Nat.{ℕ, _<_, _≤_}

@@ -1,4 +1,4 @@
--- What is written of a setup within the rules reads back: the reader refuses no sheet that it should take. Assumes nothing.
+-- What is written of a setup within the rules reads back: the reader refuses no sheet that it should take.
 use mathlib.Core.Path.{_≡_, refl, sym, ap, _∙_}
 use mathlib.Core.Bool.{true, false}
 use mathlib.Core.Logic.{inl, inr}

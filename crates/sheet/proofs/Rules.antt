@@ -1,4 +1,4 @@
--- Each kind's rule: what follows of it from the calls on the way. Assumes nothing.
+-- Each kind's rule: what follows of it from the calls on the way.
 use mathlib.Core.Path.{_≡_, refl}
 use mathlib.Core.Bool.{Bool, true, false, not}
 use mathlib.Core.List.{List}

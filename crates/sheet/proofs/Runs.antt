@@ -1,4 +1,4 @@
--- Every accepted sheet is a run of records that are taken, and then the end record. Assumes nothing.
+-- Every accepted sheet is a run of records that are taken, and then the end record.
 use mathlib.Core.Path.{_≡_, refl, sym, ap, _∙_}
 use mathlib.Core.Bool.{Bool, true, false}
 use mathlib.Core.List.{List, [], _∷_, _++_, append-assoc}

@@ -1,4 +1,4 @@
--- Accepted sheets and setups within the rules belong together one to one. Assumes nothing.
+-- Accepted sheets and setups within the rules belong together one to one.
 use mathlib.Core.Path.{_≡_, sym, ap, _∙_}
 use mathlib.Core.Bool.{true}
 use mathlib.Core.List.{List, [], _∷_, _++_, append-assoc, append-nil}

@@ -1,4 +1,4 @@
--- What is kept when lists of keys, slots and locks have been read, and after one record more. Assumes nothing.
+-- What is kept when lists of keys, slots and locks have been read, and after one record more.
 use mathlib.Core.Path.{_≡_}
 use mathlib.Core.List.{List, [], _∷_, _++_}
 use Prim.Native.Nat.{ℕ, _+_, _-_, _≤_, _<_}

@@ -1,4 +1,4 @@
--- Tables that are filled from the front. Assumes nothing.
+-- Tables that are filled from the front.
 use mathlib.Core.Path.{_≡_, sym, ap, _∙_}
 use mathlib.Core.List.{List, [], _∷_, _++_, append-assoc, append-nil}
 use Prim.Native.Nat.{ℕ, zero, suc, _+_, _-_, _≤_, _<_}

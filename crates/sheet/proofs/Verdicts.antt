@@ -1,4 +1,4 @@
--- Whoever has the value of a judgement or of a reading has its number and its place. Assumes nothing.
+-- Whoever has the value of a judgement or of a reading has its number and its place.
 use mathlib.Core.Path.{_≡_, ap}
 use mathlib.Core.List.{List}
 use Prim.Native.Nat.{ℕ}

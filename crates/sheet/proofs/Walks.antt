@@ -1,4 +1,4 @@
--- The walk over a sheet's bytes: a record that is taken is passed. Assumes nothing.
+-- The walk over a sheet's bytes: a record that is taken is passed.
 use mathlib.Core.Path.{_≡_, refl, sym, ap, _∙_}
 use mathlib.Core.Bool.{Bool, true, false}
 use mathlib.Core.List.{List, [], _∷_}

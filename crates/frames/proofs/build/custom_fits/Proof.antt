@@ -1,4 +1,4 @@
--- `frames::build::custom_fits` meets its contract. Assumes nothing.
+-- `frames::build::custom_fits` meets its contract.
 use borrow.Author.Tests.{lt-ltb, le-ltb}
 use Rattle.frames.specs.Fields.{customFits}
 use Rattle.frames.proofs.build.custom_fits.Statement.{statement}

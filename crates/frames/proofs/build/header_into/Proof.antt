@@ -1,4 +1,4 @@
--- `frames::build::header_into` meets its contract. Assumes nothing.
+-- `frames::build::header_into` meets its contract.
 use mathlib.Core.Path.{sym, _∙_}
 use lib.Seq.{length-take-le}
 use borrow.Author.Tests.{not-true, not-false}

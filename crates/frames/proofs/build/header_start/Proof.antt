@@ -1,4 +1,4 @@
--- `frames::build::header_start` meets its contract. Assumes nothing.
+-- `frames::build::header_start` meets its contract.
 use native.Mathlib.Omega.{arith}
 use Rattle.frames.specs.Header.{headerStart}
 use Rattle.frames.proofs.Range.{custom-range}

@@ -1,4 +1,4 @@
--- `frames::build::iam2_into` meets its contract. Assumes nothing.
+-- `frames::build::iam2_into` meets its contract.
 use mathlib.Core.Path.{refl}
 use borrow.Author.Tests.{eq-eqb, ne-eqb}
 use Rattle.frames.specs.Messages.{iam2Message}

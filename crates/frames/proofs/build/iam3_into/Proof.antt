@@ -1,4 +1,4 @@
--- `frames::build::iam3_into` meets its contract. Assumes nothing.
+-- `frames::build::iam3_into` meets its contract.
 use mathlib.Core.Path.{_≡_, sym, _∙_}
 use borrow.Author.Tests.{not-true, not-false}
 use mathlib.Core.Bool.{true}

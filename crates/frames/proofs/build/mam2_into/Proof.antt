@@ -1,4 +1,4 @@
--- `frames::build::mam2_into` meets its contract. Assumes nothing.
+-- `frames::build::mam2_into` meets its contract.
 use mathlib.Core.Path.{refl}
 use borrow.Author.Tests.{eq-eqb, ne-eqb}
 use Rattle.frames.specs.Messages.{mam2Message}

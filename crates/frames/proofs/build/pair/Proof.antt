@@ -1,4 +1,4 @@
--- `frames::build::pair` meets its contract. Assumes nothing.
+-- `frames::build::pair` meets its contract.
 use mathlib.Core.Path.{refl}
 use mathlib.Core.List.{append-nil}
 use native.Mathlib.Omega.{arith}

@@ -1,4 +1,4 @@
--- `frames::build::select` meets its contract. Assumes nothing.
+-- `frames::build::select` meets its contract.
 use mathlib.Core.Path.{refl}
 use native.Mathlib.Omega.{arith}
 use Rattle.frames.specs.Fields.{selectBytes}

@@ -1,4 +1,4 @@
--- `frames::build::select_fits` meets its contract. Assumes nothing.
+-- `frames::build::select_fits` meets its contract.
 use borrow.Author.Tests.{lt-ltb, le-ltb, eq-eqb, ne-eqb}
 use Rattle.frames.specs.Messages.{selectFits}
 use borrow.Author.Needs.{needs}

@@ -1,4 +1,4 @@
--- `frames::build::size_bit` meets its contract. Assumes nothing.
+-- `frames::build::size_bit` meets its contract.
 use native.Mathlib.Omega.{arith}
 use Rattle.memory.specs.Address.{blockSizeBit}
 use borrow.Author.Needs.{needs}

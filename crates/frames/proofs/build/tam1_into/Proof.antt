@@ -1,4 +1,4 @@
--- `frames::build::tam1_into` meets its contract. Assumes nothing.
+-- `frames::build::tam1_into` meets its contract.
 use mathlib.Core.Path.{refl}
 use mathlib.Core.List.{append-nil}
 use borrow.Author.Tests.{eq-eqb, ne-eqb}

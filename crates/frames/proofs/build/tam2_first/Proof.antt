@@ -1,4 +1,4 @@
--- `frames::build::tam2_first` meets its contract. Assumes nothing.
+-- `frames::build::tam2_first` meets its contract.
 use native.Mathlib.Omega.{arith}
 use borrow.Author.Needs.{needs}
 use Rattle.frames.proofs.build.tam2_first.Statement.{statement}

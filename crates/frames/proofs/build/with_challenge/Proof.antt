@@ -1,4 +1,4 @@
--- `frames::build::with_challenge` meets its contract. Assumes nothing.
+-- `frames::build::with_challenge` meets its contract.
 use mathlib.Core.Path.{refl}
 use native.Mathlib.Omega.{arith}
 use borrow.Kind.Array.{eInt, good-length}

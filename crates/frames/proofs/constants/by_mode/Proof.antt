@@ -1,4 +1,4 @@
--- `frames::constants::by_mode` meets its contract. Assumes nothing.
+-- `frames::constants::by_mode` meets its contract.
 use borrow.Author.Tests.{eq-eqb, ne-eqb}
 use Rattle.frames.specs.Constants.{byMode}
 use Rattle.frames.proofs.constants.by_mode.Statement.{statement}

@@ -1,4 +1,4 @@
--- `frames::constants::iam3_constant` meets its contract. Assumes nothing.
+-- `frames::constants::iam3_constant` meets its contract.
 use mathlib.Core.Path.{ap, _∙_}
 use Prim.Native.Nat.{ℕ}
 use native.Mathlib.Omega.{arith}

@@ -1,4 +1,4 @@
--- `frames::constants::tam2_constant` meets its contract. Assumes nothing.
+-- `frames::constants::tam2_constant` meets its contract.
 use mathlib.Core.Path.{ap, _∙_}
 use Rattle.frames.specs.Constants.{tam2Constant, twoBytes}
 use borrow.Author.Needs.{needs}

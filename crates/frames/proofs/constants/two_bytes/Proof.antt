@@ -1,4 +1,4 @@
--- `frames::constants::two_bytes` meets its contract. Assumes nothing.
+-- `frames::constants::two_bytes` meets its contract.
 use mathlib.Core.Path.{refl}
 use Rattle.frames.specs.Constants.{twoBytes}
 use borrow.Author.Needs.{needs}

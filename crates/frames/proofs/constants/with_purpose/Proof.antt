@@ -1,4 +1,4 @@
--- `frames::constants::with_purpose` meets its contract. Assumes nothing.
+-- `frames::constants::with_purpose` meets its contract.
 use mathlib.Core.Path.{refl}
 use Rattle.frames.specs.Constants.{withPurpose}
 use borrow.Author.Needs.{needs}

@@ -1,4 +1,4 @@
--- `frames::fields::custom_of` meets its contract. Assumes nothing.
+-- `frames::fields::custom_of` meets its contract.
 use mathlib.Core.Path.{refl}
 use Rattle.frames.specs.Fields.{selectCustom}
 use borrow.Author.Needs.{needs}

@@ -1,4 +1,4 @@
--- `frames::fields::mam2_of` meets its contract. Assumes nothing.
+-- `frames::fields::mam2_of` meets its contract.
 use Prim.Native.Nat.{_%_}
 use Rattle.frames.specs.Messages.{mam2Of}
 use borrow.Author.Needs.{needs}

@@ -1,4 +1,4 @@
--- `frames::fields::size_of_bit` meets its contract. Assumes nothing.
+-- `frames::fields::size_of_bit` meets its contract.
 use borrow.Author.Tests.{eq-eqb, ne-eqb}
 use Rattle.frames.specs.Fields.{sizeOf}
 use Rattle.frames.proofs.fields.size_of_bit.Statement.{statement}

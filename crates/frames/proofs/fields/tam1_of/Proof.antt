@@ -1,4 +1,4 @@
--- `frames::fields::tam1_of` meets its contract. Assumes nothing.
+-- `frames::fields::tam1_of` meets its contract.
 use Prim.Native.Nat.{_%_}
 use Rattle.frames.specs.Messages.{tam1Of}
 use borrow.Author.Needs.{needs}

@@ -1,4 +1,4 @@
--- `frames::fields::tam2_of` meets its contract. Assumes nothing.
+-- `frames::fields::tam2_of` meets its contract.
 use mathlib.Core.Path.{ap, _∙_}
 use Prim.Native.Nat.{ℕ, _/_, _%_}
 use Rattle.frames.specs.Messages.{tam2Of}

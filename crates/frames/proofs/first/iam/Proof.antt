@@ -1,4 +1,4 @@
--- `frames::first::iam` meets its contract. Assumes nothing.
+-- `frames::first::iam` meets its contract.
 use borrow.Author.Tests.{eq-eqb, ne-eqb}
 use Rattle.frames.specs.Kinds.{iamKind}
 use Rattle.frames.proofs.first.iam.Statement.{statement}

@@ -1,4 +1,4 @@
--- `frames::first::kind_of` meets its contract. Assumes nothing.
+-- `frames::first::kind_of` meets its contract.
 use borrow.Author.Tests.{eq-eqb, ne-eqb}
 use Rattle.frames.specs.Kinds.{kindOf}
 use borrow.Author.Needs.{needs}

@@ -1,4 +1,4 @@
--- `frames::first::mam` meets its contract. Assumes nothing.
+-- `frames::first::mam` meets its contract.
 use borrow.Author.Tests.{eq-eqb, ne-eqb}
 use Rattle.frames.specs.Kinds.{mamKind}
 use Rattle.frames.proofs.first.mam.Statement.{statement}

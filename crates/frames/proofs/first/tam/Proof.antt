@@ -1,4 +1,4 @@
--- `frames::first::tam` meets its contract. Assumes nothing.
+-- `frames::first::tam` meets its contract.
 use borrow.Author.Tests.{eq-eqb, ne-eqb}
 use Rattle.frames.specs.Kinds.{tamKind}
 use Rattle.frames.proofs.first.tam.Statement.{statement}

@@ -1,4 +1,4 @@
--- `frames::parts::byte` meets its contract. Assumes nothing.
+-- `frames::parts::byte` meets its contract.
 use mathlib.Core.Path.{sym}
 use lib.ListN.{List·getD-eq-default}
 use borrow.Author.Needs.{needs}

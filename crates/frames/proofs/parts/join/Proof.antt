@@ -1,4 +1,4 @@
--- `frames::parts::join` meets its contract. Assumes nothing.
+-- `frames::parts::join` meets its contract.
 use native.Mathlib.Omega.{arith}
 use Rattle.frames.proofs.Joins.{joined, too-short}
 use borrow.Author.Needs.{needs}

@@ -1,4 +1,4 @@
--- `frames::parts::put` meets its contract. Assumes nothing.
+-- `frames::parts::put` meets its contract.
 use Rattle.frames.proofs.Places.{part-back}
 use borrow.Author.Needs.{needs}
 use Rattle.frames.proofs.parts.put.Statement.{statement}

@@ -1,4 +1,4 @@
--- `frames::parts::tail` meets its contract. Assumes nothing.
+-- `frames::parts::tail` meets its contract.
 use mathlib.Core.Path.{sym}
 use Prim.Native.Nat.{_-_}
 use native.Mathlib.Omega.{arith}

@@ -1,4 +1,4 @@
--- `frames::parts::ten` meets its contract. Assumes nothing.
+-- `frames::parts::ten` meets its contract.
 use mathlib.Core.Path.{_∙_}
 use Rattle.frames.proofs.Places.{bytes-drop}
 use borrow.Author.Needs.{needs}

@@ -1,4 +1,4 @@
--- `frames::sizes::block_asked` meets its contract. Assumes nothing.
+-- `frames::sizes::block_asked` meets its contract.
 use Rattle.frames.specs.Asked.{blockAsked}
 use borrow.Author.Needs.{needs}
 use Rattle.frames.proofs.sizes.block_asked.Statement.{statement}

@@ -1,4 +1,4 @@
--- `frames::sizes::d_of` meets its contract. Assumes nothing.
+-- `frames::sizes::d_of` meets its contract.
 use native.Mathlib.Omega.{arith}
 use Rattle.frames.proofs.Least.{data-bound, header-bound, d-with, d-without}
 use borrow.Author.Needs.{needs}

@@ -1,4 +1,4 @@
--- `frames::sizes::data_length` meets its contract. Assumes nothing.
+-- `frames::sizes::data_length` meets its contract.
 use Rattle.frames.specs.Blocks.{dataLength, blockBytes}
 use borrow.Author.Needs.{needs}
 use Rattle.frames.proofs.sizes.data_length.Statement.{statement}

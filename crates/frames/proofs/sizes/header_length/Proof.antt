@@ -1,4 +1,4 @@
--- `frames::sizes::header_length` meets its contract. Assumes nothing.
+-- `frames::sizes::header_length` meets its contract.
 use Rattle.frames.specs.Blocks.{headerLength}
 use borrow.Author.Needs.{needs}
 use Rattle.frames.proofs.sizes.header_length.Statement.{statement}

@@ -1,4 +1,4 @@
--- `frames::sizes::iam3_length` meets its contract. Assumes nothing.
+-- `frames::sizes::iam3_length` meets its contract.
 use Prim.Native.Nat.{_+_}
 use native.Mathlib.Omega.{arith}
 use mathlib.Core.Bool.{true}

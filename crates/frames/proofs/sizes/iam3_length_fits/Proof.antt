@@ -1,4 +1,4 @@
--- `frames::sizes::iam3_length_fits` meets its contract. Assumes nothing.
+-- `frames::sizes::iam3_length_fits` meets its contract.
 use borrow.Author.Tests.{lt-leb, le-leb, le-ltb, lt-ltb}
 use Rattle.frames.specs.Lengths.{iam3LengthFits}
 use borrow.Author.Needs.{needs}

@@ -1,4 +1,4 @@
--- `frames::sizes::length_fits` meets its contract. Assumes nothing.
+-- `frames::sizes::length_fits` meets its contract.
 use Rattle.frames.specs.Lengths.{lengthFits}
 use borrow.Author.Needs.{needs}
 use Rattle.frames.proofs.sizes.length_fits.Statement.{statement}

@@ -1,4 +1,4 @@
--- `frames::sizes::mac_length` meets its contract. Assumes nothing.
+-- `frames::sizes::mac_length` meets its contract.
 use borrow.Author.Tests.{eq-eqb, ne-eqb}
 use Rattle.frames.specs.Lengths.{macLength, hasMac}
 use Rattle.frames.proofs.sizes.mac_length.Statement.{statement}

@@ -1,4 +1,4 @@
--- `frames::sizes::tam2_mac_at` meets its contract. Assumes nothing.
+-- `frames::sizes::tam2_mac_at` meets its contract.
 use native.Mathlib.Omega.{arith}
 use mathlib.Core.Path.{ap}
 use Prim.Native.Nat.{ℕ, _+_}

@@ -1,4 +1,4 @@
--- `frames::sizes::tam2_reply_length` meets its contract. Assumes nothing.
+-- `frames::sizes::tam2_reply_length` meets its contract.
 use Prim.Native.Nat.{_+_}
 use native.Mathlib.Omega.{arith}
 use Rattle.frames.specs.Lengths.{tam2MacAt, tam2ReplyLength}
