@@ -65,16 +65,14 @@ module _ (named : ℕ → Bool) where
   pub same-kept : (k : Kept) → KeptAlike k k
   same-kept k = record { marks = refl; features = refl; sizes = refl; count = refl; table = same-records (k .setup .keys .table); profiles = refl; locks = refl }
 
-  pub setups : (k l : Kept) → KeptAlike k l → SetupsAlike named (k .setup) (l .setup)
+  in-use : (k l : Kept) → KeptAlike k l → RecordsAlike named (keysOf (k .setup)) (keysOf (l .setup))
   unfolding keysOf
-  setups k l a = record {
-    features = a .features;
-    sizes = a .sizes;
-    records = subst (λ (n : ℕ). RecordsAlike named (take (k .setup .keys .count) (k .setup .keys .table)) (take n (l .setup .keys .table))) (a .count)
-        (taken-alike (k .setup .keys .count) (k .setup .keys .table) (l .setup .keys .table) (a .table));
-    profiles = a .profiles;
-    locks = a .locks;
-  }
+  in-use k l a =
+      subst (λ (n : ℕ). RecordsAlike named (take (k .setup .keys .count) (k .setup .keys .table)) (take n (l .setup .keys .table))) (a .count)
+      (taken-alike (k .setup .keys .count) (k .setup .keys .table) (l .setup .keys .table) (a .table))
+
+  pub setups : (k l : Kept) → KeptAlike k l → SetupsAlike named (k .setup) (l .setup)
+  setups k l a = record { features = a .features; sizes = a .sizes; records = in-use k l a; profiles = a .profiles; locks = a .locks }
 
   -- ---- one record
 
