@@ -1,10 +1,10 @@
 -- The premises of Entry hold: on the bench of examples a reader that has the keys is let in by IAM2, by MAM2, and by an IAM3 that writes. No cipher is computed.
 use mathlib.Core.Path.{_≡_, refl}
-use mathlib.Core.Bool.{Bool, true, false}
+use mathlib.Core.Bool.{true, false}
 use mathlib.Core.List.{List, [], _∷_}
 use Prim.Native.Nat.{ℕ, zero, suc, _<_}
 use native.Mathlib.Omega.{arith}
-use lib.ListN.{length, drop, getD, replicate}
+use lib.ListN.{getD, replicate}
 use Rattle.memory.specs.declared.Area.the-variants.{Identity, User}
 use Rattle.memory.specs.declared.BlockSize.the-variants.{Bits64}
 use Rattle.memory.specs.Address.{addressOf, stepOf, lastWord, profileEnd, overruns}
@@ -12,13 +12,11 @@ use Rattle.memory.specs.Areas.{storedIn}
 use Rattle.memory.specs.Rights.{permitted, meetsAny, someLocked}
 use Rattle.sheet.specs.Limits.{keyLimit, profileLimit, lockLimit}
 use Rattle.frames.specs.declared.Custom.{Custom}
-use Rattle.frames.specs.declared.Kind.{Kind}
 use Rattle.frames.specs.declared.Kind.the-variants.{Iam2, Iam3, Mam2}
 use Rattle.frames.specs.Asked.{blockAsked as wordsAsked}
 use Rattle.frames.specs.Blocks.{dataLength, blockBytes}
 use Rattle.frames.specs.Fields.{customFits}
 use Rattle.frames.specs.Lengths.{hasMac}
-use Rattle.tag.specs.declared.Session.{Session}
 use Rattle.tag.specs.declared.State.{State}
 use Rattle.tag.specs.declared.State.the-variants.{IamInit, MamInit}
 use Rattle.tag.specs.declared.Tag.{Tag}

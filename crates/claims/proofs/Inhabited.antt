@@ -1,11 +1,11 @@
 -- No premise is hollow: each theorem of the demands with premises, applied to something of which they hold. (Entry's are in Entered.)
-use mathlib.Core.Path.{_≡_, refl, ap, ap₂}
+use mathlib.Core.Path.{_≡_, refl, ap}
 use mathlib.Core.Logic.{_⊎_}
 use mathlib.Core.Bool.{true, false}
 use mathlib.Core.List.{List, [], _∷_}
-use Prim.Native.Nat.{ℕ, zero, suc}
+use Prim.Native.Nat.{ℕ}
 use native.Mathlib.Omega.{arith}
-use lib.ListN.{length, take, drop, replicate}
+use lib.ListN.{length}
 use Rattle.modes.specs.declared.Chaining.the-variants.{Refused as NotChained}
 use Rattle.modes.specs.Room as room
 use Rattle.sheet.specs.declared.Fault.the-variants.{Cut}

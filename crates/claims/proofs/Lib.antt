@@ -29,3 +29,5 @@ pub mod SheetsRead
 pub mod SheetsExamples
 pub mod Traces
 pub mod SilenceShown
+pub mod Rechained
+pub mod Fixed

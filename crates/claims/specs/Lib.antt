@@ -8,3 +8,4 @@ pub mod Ways
 pub mod Names
 pub mod Silence
 pub mod Sheets
+pub mod Fixed

@@ -1,7 +1,7 @@
 -- Clause 5: a tag has encryption alone. What the reader sends it, it opens by AES-ENC; the Purpose is read from the block so opened.
 use Prim.Native.Nat.{ℕ}
 use mathlib.Core.Path.{_≡_}
-use mathlib.Core.Bool.{Bool, true}
+use mathlib.Core.Bool.{true}
 use mathlib.Core.List.{List}
 use Rattle.aes.specs.AesEnc.{aesEnc}
 use Rattle.frames.specs.Constants.{C-IAM2}
