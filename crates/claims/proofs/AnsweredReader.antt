@@ -86,6 +86,7 @@ judge-answers keys m reply room r after f h e =
       bytes = ap (λ (j : Judgement). j .«data») said;
       worth = ap (λ (j : Judgement). j .worth) said;
       issued = ap (λ (j : Judgement). j .issued) said;
+      challenge = ap (λ (j : Judgement). j .challenge) said;
     }
 
 -- ---- the builders

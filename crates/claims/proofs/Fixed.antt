@@ -48,7 +48,7 @@ use Rattle.reader.specs.Findings.{Finding, refused, issues, judged}
 use Rattle.reader.specs.Judged.{dataFinding, iam1Finding, emptyFinding, tam1Finding, tam2Finding, mam1Finding, byKind, ofKind, judgementOf}
 use Rattle.reader.specs.Opened.{openedBlock, blockFits, challengeIn, dataSent, openedData}
 use Rattle.reader.specs.Own.{ownFits}
-use Rattle.claims.specs.Fixed.{trndIn, remade, Fixed, FixedTwice}
+use Rattle.claims.specs.Fixed.{trndIn, remade, Fixed, hasTrnd, FixedTwice}
 use Rattle.claims.specs.Recovery.{Shares}
 use Rattle.claims.proofs.Rechained.{enc-undoes-dec-inv}
 
@@ -227,9 +227,22 @@ fixed keys key (first ∷ rest) reply room share he hr e =
     kind-fixed keys key share he reply hr (first ∷ rest) (kindOf first) (one .1)
     ∙ ap (λ (x : Finding). remade key (first ∷ rest) (trndIn keys reply) x (kindOf first)) (sym (one .2))
 
+-- random bytes count in TAM1 and TAM2 alone
+remade-same : (key : Key) (m trnd trnd′ : List ℕ) (found : Finding) (k : Kind) → (hasTrnd k ≡ true → trnd ≡ trnd′) → remade key m trnd found k ≡ remade key m trnd′ found k
+unfolding remade hasTrnd
+remade-same key m trnd trnd′ found Tam1 h = ap (tam1Reply key (tam1Of m)) (h refl)
+remade-same key m trnd trnd′ found Tam2 h = ap (tam2Reply key (tam2Of m) (found .bytes)) (h refl)
+remade-same key m trnd trnd′ found Iam1 h = refl
+remade-same key m trnd trnd′ found Iam2 h = refl
+remade-same key m trnd trnd′ found Iam3 h = refl
+remade-same key m trnd trnd′ found Mam1 h = refl
+remade-same key m trnd trnd′ found Mam2 h = refl
+remade-same key m trnd trnd′ found Unsupported h = refl
+
 pub fixed-twice : FixedTwice
 fixed-twice keys key m reply other room share he hr ho e same-found same-trnd =
     let e′ : judgementOf keys m other room .verdict ≡ Accepted = sym (ap (λ (x : Finding). x .verdict) same-found) ∙ e in
     fixed keys key m reply room share he hr e
-    ∙ (λ j. remade key m (same-trnd j) (same-found j) (kindOf (byte m 0)))
+    ∙ ap (λ (x : Finding). remade key m (trndIn keys reply) x (kindOf (byte m 0))) same-found
+    ∙ remade-same key m (trndIn keys reply) (trndIn keys other) (judgementOf keys m other room) (kindOf (byte m 0)) same-trnd
     ∙ sym (fixed keys key m other room share he ho e′)

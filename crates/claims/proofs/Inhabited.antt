@@ -1,4 +1,4 @@
--- No premise is hollow: each theorem of the demands with premises, applied to something of which they hold. (Entry's are in Entered.)
+-- No premise is hollow: the theorems of demand 1 and the five false tags, applied to something of which they hold. (Entry's are in Entered, demand 3's in SilenceExamples and SheetsExamples.)
 use mathlib.Core.Path.{_≡_, refl, ap}
 use mathlib.Core.Logic.{_⊎_}
 use mathlib.Core.Bool.{true, false}

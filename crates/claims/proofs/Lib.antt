@@ -31,3 +31,4 @@ pub mod Traces
 pub mod SilenceShown
 pub mod Rechained
 pub mod Fixed
+pub mod RecoveryCode

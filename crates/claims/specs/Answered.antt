@@ -5,7 +5,7 @@ use mathlib.Core.Logic.{_⊎_}
 use mathlib.Core.Bool.{Bool, false}
 use mathlib.Core.List.{List}
 use Prim.Native.Nat.{ℕ, _≤_}
-use lib.ListN.{length}
+use lib.ListN.{length, replicate}
 use Rattle.modes.specs.declared.Chaining.{Chaining}
 use Rattle.modes.specs.Room as room
 use Rattle.sheet.specs.declared.Fault.{Fault as SheetFault}
@@ -67,6 +67,7 @@ pub record JudgeRefused (room : List ℕ) (r : Judgement) (after : List ℕ) (f 
   pub bytes : r .«data» ≡ 0
   pub worth : r .worth ≡ NoData
   pub issued : r .issued ≡ false
+  pub challenge : r .challenge ≡ replicate 10 0
 
 abbrev pub JudgeAnswers : Type 0
 JudgeAnswers =

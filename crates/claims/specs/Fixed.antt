@@ -1,5 +1,6 @@
 -- A reply that is accepted fixes its content: the own message, the keys, what the judge handed over and the tag's random bytes make every byte of it.
 use mathlib.Core.Path.{_≡_}
+use mathlib.Core.Bool.{Bool, true, false}
 use mathlib.Core.List.{List, []}
 use Prim.Native.Nat.{ℕ}
 use lib.ListN.{take, drop}
@@ -43,7 +44,18 @@ Fixed =
     → judgementOf keys m reply room .verdict ≡ Accepted
     → reply ≡ remade key m (trndIn keys reply) (judgementOf keys m reply room) (kindOf (byte m 0))
 
--- So two replies that are accepted for one message with the same finding differ at most by the tag's random bytes, and by what follows from them.
+-- The kinds whose replies carry random bytes that the judge does not hand out.
+unfoldable pub hasTrnd : Kind → Bool
+hasTrnd Tam1 = true
+hasTrnd Tam2 = true
+hasTrnd Iam1 = false
+hasTrnd Iam2 = false
+hasTrnd Iam3 = false
+hasTrnd Mam1 = false
+hasTrnd Mam2 = false
+hasTrnd Unsupported = false
+
+-- So two replies that are accepted for one message with the same finding are the same, but in TAM1 and TAM2 for the tag's random bytes and what follows from them.
 abbrev pub FixedTwice : Type 0
 FixedTwice =
     (keys : Keys) (key : Key) (m reply other : List ℕ) (room : ℕ)
@@ -53,5 +65,5 @@ FixedTwice =
     → Bytes other
     → judgementOf keys m reply room .verdict ≡ Accepted
     → judgementOf keys m reply room ≡ judgementOf keys m other room
-    → trndIn keys reply ≡ trndIn keys other
+    → (hasTrnd (kindOf (byte m 0)) ≡ true → trndIn keys reply ≡ trndIn keys other)
     → reply ≡ other

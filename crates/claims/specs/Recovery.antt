@@ -3,6 +3,7 @@
 use Prim.Native.Nat.{ℕ, _≤_}
 use mathlib.Core.Path.{_≡_}
 use mathlib.Core.List.{List}
+use lib.ListN.{length, take}
 use Rattle.field.proofs.Block.{Bytes}
 use Rattle.memory.specs.Areas.{windowOf}
 use Rattle.sheet.specs.declared.Key.{Key}
@@ -16,9 +17,13 @@ use Rattle.tag.specs.declared.Tag.{Tag}
 use Rattle.tag.specs.declared.Outcome.{Outcome}
 use Rattle.tag.specs.declared.Outcome.the-variants.{Replied, Entered, Refused}
 use Rattle.tag.specs.Answers.{Answer, Call, answerOf}
+use Rattle.tag.specs.States.{replyLength}
 use Rattle.tag.specs.Records.{keyNamed, blockAsked}
+use Rattle.tag.specs.Reactions.{lent}
+use Rattle.tag.specs.Plays.{Brought, Left, Called}
+use Rattle.reader.specs.declared.Judgement.{Judgement}
 use Rattle.reader.specs.declared.Keys.{Keys}
-use Rattle.reader.specs.Findings.{Finding, nothingMore, carries, worthOf, issues}
+use Rattle.reader.specs.Findings.{Finding, nothingMore, carries, worthOf, issues, Judges}
 use Rattle.reader.specs.Judged.{judgementOf}
 use Rattle.reader.specs.Own.{dataRoom}
 
@@ -72,3 +77,15 @@ abbrev pub Recovery : Type 0
 Recovery =
     (c : Call) (tag : Tag) (keys : Keys) (room : ℕ) → Fit c tag keys → Shares keys (keyUsed tag (c .message)) → dataRoom ≤ room → Taken (answerOf c tag .outcome)
     → judgementOf keys (c .message) (answerOf c tag .reply) room ≡ due c tag (answerOf c tag) (kindOf (byte (c .message) 0))
+
+-- The same of the code: what `tag::step` left in the room, as far as `tag::reply_length` says, given to the judge.
+abbrev pub RecoveryCode : Type 0
+RecoveryCode =
+    (tag : Tag) (identity user : List ℕ) (b : Brought) (x : Left) (keys : Keys) (room : List ℕ) (r : Judgement) (after : List ℕ)
+    → Called tag identity user b x
+    → Fit (lent (b .message) (b .draws) (b .room) identity user) tag keys
+    → Shares keys (keyUsed tag (b .message))
+    → dataRoom ≤ length room
+    → Taken (x .stepped .outcome)
+    → Judges (judgementOf keys (b .message) (take (replyLength (x .stepped .outcome)) (x .room)) (length room)) room r after
+    → Judges (due (lent (b .message) (b .draws) (b .room) identity user) tag (answerOf (lent (b .message) (b .draws) (b .room) identity user) tag) (kindOf (byte (b .message) 0))) room r after

@@ -56,7 +56,7 @@ pub fn put(room: &mut [u8], at: usize, src: &[u8]) -> bool
     true
 }
 
-/// A block of a constant, four bytes and a challenge (9.4.3, 9.5.4, 9.6.3, 9.6.4).
+/// A block of a constant, four bytes and a challenge (9.4.3, 9.5.5, 9.6.3, 9.6.5).
 ///
 /// Ruled out: the challenge before the four bytes; a constant cut to one byte.
 pub fn block_of(constant: [u8; 2], middle: [u8; 4], challenge: [u8; 10]) -> [u8; 16]

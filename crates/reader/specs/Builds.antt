@@ -49,7 +49,7 @@ mam1Made keyid ichallenge = mam1Message (record { rfu = 0; keyid = keyid; ichall
 
 -- ---- what the reader proves to the tag
 
--- 9.5.4, 9.5.8.1 a), 9.6.4: constant and Purpose, four bytes, TChallenge, by AES-DEC. The reader decrypts to send, so that the tag encrypts to read.
+-- 9.5.5, 9.5.8.1 a), 9.6.5: constant and Purpose, four bytes, TChallenge, by AES-DEC. The reader decrypts to send, so that the tag encrypts to read.
 unfoldable pub response : List ℕ → List ℕ → List ℕ → List ℕ → List ℕ
 response enc constant middle tchallenge = aesDec enc (constant ++ (middle ++ tchallenge))
 

@@ -33,7 +33,7 @@ refused f = silent (Refused f)
 abbrev pub nothingMore : Finding
 nothingMore = silent Accepted
 
--- Table 3: only a MAC proves data. In Rev 0 it proves the bytes and not their address, since no header says it.
+-- Table 3: only a MAC proves data. In Rev 0 it proves the blocks as they were sent: no constant of its own says the ProtMode, and no header the address and the count.
 unfoldable pub worthOf : ℕ → Worth
 worthOf protmode = pick (hasMac protmode) Proved Unproved
 

@@ -1,4 +1,4 @@
-// Each message that the reader's side sends, from its fields and keys, over the first bytes of a lent room (9.4.2, 9.4.5, 9.5.2, 9.5.4, 9.6.2, 9.6.4).
+// Each message that the reader's side sends, from its fields and keys, over the first bytes of a lent room (9.4.2, 9.4.5, 9.5.2, 9.5.5, 9.5.8, 9.6.2, 9.6.5).
 // A message that is not of the table, or a room of under 176 bytes: 24, and no byte of the room changes.
 use super::Fault;
 use super::Keys;
@@ -152,7 +152,7 @@ pub fn iam2(keys: Keys, purpose: u8, irnd: [u8; 4], tchallenge: [u8; 10], room: 
     made(iam2_into(Iam2 { rfu: 0, iresponse }, room), 17)
 }
 
-/// MAM2 (9.6.4, 9.6.5). Ruled out: the first four bytes of IChallenge in place of its last; the tag's challenge left out.
+/// MAM2 (9.6.5). Ruled out: the first four bytes of IChallenge in place of its last; the tag's challenge left out.
 pub fn mam2(
     keys: Keys,
     purpose: u8,

@@ -29,7 +29,7 @@ pub enum Fault {
 }
 
 /// What a reply's data are worth: none came; no MAC proves them (ProtModes 0 and 1); the MAC proves them (2 and 3).
-/// In TAM2 Rev 0 what is proved is the bytes, and not their address: no header says it.
+/// In TAM2 Rev 0 what is proved is the blocks as they were sent: neither their address and number nor the ProtMode that the tag saw.
 pub enum Worth {
     NoData,
     Unproved,

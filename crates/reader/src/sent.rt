@@ -18,7 +18,7 @@ ghost use Rattle.frames.specs.Lengths.{messageRoom};
 ghost use Rattle.frames.specs.Messages.{selectFits};
 ghost use Rattle.reader.specs.Builds.{response, sentData, iam3Response, iam3Whole};
 
-/// The block that the tag opens by encryption: the reader makes it by decryption (9.5.4, 9.5.8.1 a, 9.6.4).
+/// The block that the tag opens by encryption: the reader makes it by decryption (9.5.5, 9.5.8.1 a, 9.6.5).
 /// Ruled out: AES-ENC; the challenge before the four bytes.
 pub fn response(enc: [u8; 16], constant: [u8; 2], middle: [u8; 4], tchallenge: [u8; 10]) -> [u8; 16]
     ensures { λ r. ⌜ r ≡ response enc constant middle tchallenge ⌝ }

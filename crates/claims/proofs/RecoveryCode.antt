@@ -1,0 +1,25 @@
+-- Recovery of the code: what a step left in its room is the reply, so that the judge finds what is due.
+use mathlib.Core.Path.{_≡_, refl, ap, _∙_, subst}
+use mathlib.Core.List.{List}
+use Prim.Native.Nat.{ℕ}
+use lib.ListN.{length, take, drop}
+use lib.Seq.{take-at}
+use Rattle.tag.specs.States.{replyLength}
+use Rattle.tag.specs.Answers.{answerOf}
+use Rattle.tag.specs.Reactions.{lent}
+use Rattle.tag.proofs.PaperNumbers.{length-told}
+use Rattle.reader.specs.Findings.{Finding, Judges}
+use Rattle.reader.specs.Judged.{judgementOf}
+use Rattle.claims.specs.Recovery.{Taken, RecoveryCode}
+use Rattle.claims.proofs.Recovery.{recovery}
+
+pub recovery-code : RecoveryCode
+recovery-code tag identity user b x keys room r after called fit share enough taken judges =
+    let c = lent (b .message) (b .draws) (b .room) identity user in
+    let a = answerOf c tag in
+    let long : replyLength (x .stepped .outcome) ≡ length (a .reply) = ap replyLength (called .outcome) ∙ length-told c tag in
+    let reply : take (replyLength (x .stepped .outcome)) (x .room) ≡ a .reply =
+    (λ j. take (long j) (called .reply j)) ∙ take-at (a .reply) (drop (length (a .reply)) (b .room)) (length (a .reply)) refl in
+    let found = ap (λ (l : List ℕ). judgementOf keys (b .message) l (length room)) reply
+    ∙ recovery c tag keys (length room) fit share enough (subst Taken (called .outcome) taken) in
+    subst (λ (f : Finding). Judges f room r after) found judges
