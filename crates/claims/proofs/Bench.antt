@@ -30,13 +30,15 @@ setup = record {
 }
 
 -- its sheet
-pub setup-read : readOf
-    (0x01 ∷ 0x38 ∷ 0x01
+abbrev pub sheet : List ℕ
+sheet =
+    0x01 ∷ 0x38 ∷ 0x01
     ∷ 0x02 ∷ 0x00 ∷ 0x00 ∷ 0x00 ∷ 0x04
     ∷ 0x03 ∷ 0x00 ∷ 0x00 ∷ 0x00 ∷ 0x01 ∷ replicate 16 0 ++ replicate 16 0
     ++ (0x04 ∷ 0x00 ∷ 0x01 ∷ 0x00 ∷ 0x00 ∷ 0x00 ∷ 0x04
-    ∷ 0x06 ∷ []))
-    ≡ whole setup
+    ∷ 0x06 ∷ [])
+
+pub setup-read : readOf sheet ≡ whole setup
 unfolding setup readOf walk after judgedOf openedOf tooMany kindOf inOrder recordOf withFeatures withSizes withKey withProfile featuresRule featuresOf sizesRule sizesOf keyRule keyOf profileRule slotOf inside wordsIn areaOf allZero wordLimit keyLimit profileLimit lockLimit nothingKept noMarks emptySetup
 setup-read = refl
 

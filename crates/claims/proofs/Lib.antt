@@ -32,3 +32,4 @@ pub mod SilenceShown
 pub mod Rechained
 pub mod Fixed
 pub mod RecoveryCode
+pub mod Recovered

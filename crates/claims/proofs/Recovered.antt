@@ -1,0 +1,97 @@
+-- The premises of recovery and of Fixed hold: on the bench of examples an IAM1 is taken, and the reader recovers the challenge. No cipher is computed.
+use mathlib.Core.Path.{_≡_, refl}
+use mathlib.Core.Bool.{Bool, true, false}
+use mathlib.Core.List.{List, [], _∷_}
+use Prim.Native.Nat.{ℕ, zero, suc, _<_}
+use native.Mathlib.Omega.{arith}
+use borrow.Author.Tests.{ltb-true}
+use lib.Dec.{ltb, lit<}
+use Rattle.ground.specs.Choice.{both}
+use Rattle.frames.proofs.Range.{both-left, both-right}
+use lib.ListN.{length, take, replicate}
+use Rattle.field.proofs.Block.{Bytes}
+use Rattle.modes.specs.Room.{over}
+use Rattle.sheet.specs.Limits.{keyLimit, profileLimit}
+use Rattle.sheet.specs.Within.{Within, Bytes as SheetBytes}
+use Rattle.sheet.proofs.Sheets.{accepted}
+use Rattle.frames.specs.Fields.{byte}
+use Rattle.frames.specs.Kinds.{kindOf, iamKind}
+use Rattle.frames.specs.Lengths.{lengthFits}
+use Rattle.frames.specs.Messages.{iam1Of}
+use Rattle.tag.specs.States.{poweredUp, cleared, atRest, inTurn}
+use Rattle.tag.specs.Checks.{judged}
+use Rattle.tag.specs.Records.{offered, hasKey, keyOf, keysOf}
+use Rattle.tag.specs.Judged.{benchChecks, openingChecks}
+use Rattle.tag.specs.Answers.{Call, refused, replied, ifFine, iam1Answer, byKind, inOrder, ofMessage, answerOf}
+use Rattle.tag.specs.Reactions.{lent}
+use Rattle.tag.specs.Plays.{Called}
+use Rattle.reader.specs.declared.Keys.{Keys}
+use Rattle.reader.specs.declared.Verdict.the-variants.{Accepted}
+use Rattle.reader.specs.Findings.{saidOf, Judges}
+use Rattle.reader.specs.Findings as findings
+use Rattle.reader.specs.Judged.{iam1Finding, ofKind, judgementOf}
+use Rattle.reader.specs.Judged as judge
+use Rattle.reader.specs.Own.{fieldsFit, ownFits}
+use Rattle.claims.specs.Fixed.{trndIn, remade}
+use Rattle.claims.specs.Recovery.{keyidUsed, keyUsed, Shares, Fit, due}
+use Rattle.claims.proofs.Bench.{key, setup, sheet, setup-read, bench, user, drawn, brings, iam1}
+use Rattle.claims.proofs.Fixed.{fixed}
+use Rattle.claims.proofs.RecoveryCode.{recovery-code}
+use Rattle.claims.proofs.ShutOut.{answered}
+
+-- the setup is one that a sheet says
+abbrev below : List ℕ → Bool
+below [] = true
+below (x ∷ s) = both (ltb x 256) (below s)
+
+are-bytes : (s : List ℕ) → below s ≡ true → SheetBytes s
+are-bytes [] e = tt
+are-bytes (x ∷ s) e = (ltb-true x 256 (both-left (ltb x 256) (below s) e), are-bytes s (both-right (ltb x 256) (below s) e))
+
+within : Within setup
+within = accepted sheet setup (are-bytes sheet refl) setup-read .0
+
+-- bytes
+zeros : (n : ℕ) → Bytes (replicate n 0)
+zeros zero i = lit< tt
+zeros (suc n) zero = lit< tt
+zeros (suc n) (suc i) = zeros n i
+
+asked : Bytes iam1
+asked zero = lit< tt
+asked (suc zero) = lit< tt
+asked (suc (suc i)) = lit< tt
+
+-- the reader has the keys
+abbrev keys : Keys
+keys = record { enc = replicate 16 0; mac = false; mackey = replicate 16 0 }
+
+abbrev call : Call
+call = lent iam1 (drawn 0) (replicate 172 0) [] user
+
+fit : Fit call bench keys
+unfolding bench poweredUp
+fit = record { setup = within; message = asked; draws = zeros 10; identity = λ i. lit< tt; user = zeros 8; enc = zeros 16 }
+
+shares : Shares keys (keyUsed bench iam1)
+unfolding bench poweredUp setup keyidUsed kindOf iamKind iam1Of keyOf keysOf keyLimit
+shares = record { enc = refl; mac = refl; mackey = refl }
+
+called : Called bench [] user (brings iam1 0) (answered 0)
+unfolding setup bench poweredUp cleared atRest inTurn judged offered hasKey keysOf benchChecks openingChecks answerOf ofMessage inOrder byKind iam1Answer ifFine replied refused kindOf iamKind lengthFits iam1Of keyLimit profileLimit
+called = record { outcome = refl; number = refl; next = refl; reply = refl; identity = refl; user = refl }
+
+-- what the step left, as far as it says, goes to the judge, who finds what is due
+pub challenge-recovered : (room : List ℕ) → 144 ≡ length room
+    → (let found = judgementOf keys iam1 (take 10 (over (drawn 0) (replicate 172 0))) (length room) in
+    Judges (due call bench (answerOf call bench) (kindOf (byte iam1 0))) room (saidOf found) (over (found .bytes) room))
+challenge-recovered room e =
+    recovery-code bench [] user (brings iam1 0) (answered 0) keys room _ _ called fit shares (omega arith) tt (record { says = refl; number = refl; holds = refl })
+
+-- an accepted reply is made again
+taken : judgementOf keys iam1 (drawn 0) 144 .verdict ≡ Accepted
+unfolding judgementOf ofKind judge.byKind iam1Finding findings.judged ownFits fieldsFit lengthFits kindOf iamKind iam1Of
+taken = refl
+
+pub reply-fixed : drawn 0 ≡ remade key iam1 (trndIn keys (drawn 0)) (judgementOf keys iam1 (drawn 0) 144) (kindOf (byte iam1 0))
+reply-fixed = fixed keys key iam1 (drawn 0) 144 (record { enc = refl; mac = refl; mackey = refl }) (zeros 16) (zeros 10) taken
