@@ -20,7 +20,8 @@ pub enum Flaw {
     Rfu,
     Mode,
     NoMac,
-    /// One byte more or less, or none where there have to be some.
+    /// One byte more or less, or none where there have to be some; the first block alone; a MAC's twelve bytes more; as
+    /// many as the script has room for.
     Length,
     /// The first block: of another key, with another challenge, with another constant, a bit of it; and a reply to the
     /// same message in another ProtMode (Rev 1 tells by the constant).
@@ -50,6 +51,9 @@ pub enum Flaw {
 }
 
 use Flaw::*;
+
+/// The script's form has replies of no more bytes.
+const MOST_REPLY: usize = 200;
 
 /// The number for a reply that is right but for this.
 pub fn meant(flaw: Flaw) -> Option<u8> {
@@ -154,10 +158,12 @@ pub fn spoil(draws: &mut Draws, places: &mut Places<Flaw>, kind: Kind, case: &mu
                 let which = one_of(3);
                 another_length(draws, &mut case.message, which);
             }
-            Length => {
-                let which = one_of(3);
-                another_length(draws, &mut case.reply, which);
-            }
+            Length => match one_of(6) {
+                3 => first_block_alone(&mut case.reply),
+                4 => case.reply.extend([0; 12].map(|_: u8| draws.byte())),
+                5 => case.reply.resize(MOST_REPLY, 0),
+                which => another_length(draws, &mut case.reply, which),
+            },
             OtherAddress | OtherAddressRev0 => flip(draws, &mut case.message[12..14]),
             AnyBit => flip(draws, &mut case.reply),
             OwnBit => flip(draws, &mut case.message),
@@ -180,6 +186,12 @@ fn another_length(draws: &mut Draws, bytes: &mut Vec<u8>, which: usize) {
         1 => drop(bytes.pop()),
         _ => bytes.push(draws.byte()),
     }
+}
+
+/// As long as a reply to TAM1, which a MAM1's is not; where it is that long or shorter, a MAC's length more.
+fn first_block_alone(reply: &mut Vec<u8>) {
+    let bytes = if reply.len() > 16 { 16 } else { reply.len() + 12 };
+    reply.resize(bytes, 0);
 }
 
 /// None in so many of 16 replies; else one, or two with different numbers. Each number is drawn alike, and for a lone flaw
@@ -214,8 +226,8 @@ pub fn drawn(draws: &mut Draws, often: impl Fn(Flaw) -> usize, kind: Kind, f: Fi
 /// Flaws that can hit many places are drawn more often.
 fn weight(flaw: Flaw) -> usize {
     match flaw {
-        Mac | Header => 4,
-        Challenge | Filler => 2,
+        Mac | Header | Filler => 4,
+        Challenge => 2,
         _ => 1,
     }
 }
