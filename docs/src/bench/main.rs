@@ -30,6 +30,9 @@ mod memory;
 #[path = "../second/reader.rs"]
 #[allow(dead_code)]
 mod reader;
+#[path = "../second/session.rs"]
+#[allow(dead_code)]
+mod session;
 #[path = "../second/sheet.rs"]
 #[allow(dead_code)]
 mod sheet;

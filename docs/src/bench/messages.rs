@@ -7,7 +7,8 @@
 use crate::exchanges::{all, areas, tag_sheet, Exchange, DRAWS};
 use crate::memory::Memory;
 use crate::sheet;
-use crate::tag::{Answer, Session, Tag, ROOM};
+use crate::session::Session;
+use crate::tag::{Answer, Tag, ROOM};
 use std::hint::black_box;
 use std::time::Instant;
 
