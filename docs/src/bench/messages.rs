@@ -6,8 +6,8 @@
 
 use crate::exchanges::{all, areas, tag_sheet, Exchange, DRAWS};
 use crate::memory::Memory;
-use crate::sheet;
 use crate::session::Session;
+use crate::sheet;
 use crate::tag::{Answer, Tag, ROOM};
 use std::hint::black_box;
 use std::time::Instant;
