@@ -1,7 +1,6 @@
 -- What `find`, `slot` and `block_asked` gave is what the definitions name.
 use Prim.Native.Nat.{ℕ}
 use mathlib.Core.Path.{_≡_}
-use mathlib.Core.Bool.{Bool}
 use lib.ListN.{take, getD}
 use Rattle.memory.specs.declared.Block.{Block}
 use Rattle.frames.specs.Asked.{blockAsked as wordsAsked}
@@ -10,22 +9,14 @@ use Rattle.sheet.specs.declared.Slot.{Slot}
 use Rattle.sheet.specs.declared.Setup.{Setup}
 use Rattle.sheet.specs.Setups.{noSlot}
 use Rattle.frames.specs.declared.Custom.{Custom}
-use Rattle.tag.specs.Records.{hasKey, keyOf, keysOf, keyPresent, keyNamed, slotNamed, blockAsked}
+use Rattle.tag.specs.Records.{keyOf, keysOf, keyNamed, slotNamed, blockAsked}
 
 module _ (setup : Setup) where
-  pub present-named : {b : Bool} (keyid : ℕ) → b ≡ hasKey keyid (take (setup .keys .count) (setup .keys .table)) → b ≡ keyPresent setup keyid
-  unfolding keysOf
-  present-named keyid e = e
-
   pub key-named : {k : Key} (keyid : ℕ) → k ≡ keyOf keyid (take (setup .keys .count) (setup .keys .table)) → k ≡ keyNamed setup keyid
   unfolding keysOf
   key-named keyid e = e
 
   module _ (c : Custom) {s : Slot} (e : s ≡ getD (setup .profiles) (c .profile) noSlot) where
-    pub slot-named : s ≡ slotNamed setup (c .profile)
-    unfolding slotNamed
-    slot-named = e
-
     pub block-named : {b : Block} → b ≡ wordsAsked (s .profile) c → b ≡ blockAsked setup c
     unfolding slotNamed blockAsked
     block-named h = rw e at h

@@ -1,6 +1,5 @@
 -- The lines of Judged, from their parts.
-use mathlib.Core.Path.{_≡_, refl, sym, ap, _∙_}
-use mathlib.Core.Bool.{true, false}
+use mathlib.Core.Path.{_≡_, refl, ap, _∙_}
 use mathlib.Core.List.{List, [], _∷_, _++_}
 use Prim.Native.Nat.{ℕ}
 use Rattle.aes.specs.AesEnc.{aesEnc}
@@ -12,13 +11,13 @@ use Rattle.frames.specs.Lengths.{lengthFits}
 use Rattle.tag.specs.declared.Fault.the-variants.{OtherError, ProofWrong}
 use Rattle.tag.specs.declared.Fault.{Fault}
 use Rattle.tag.specs.declared.Session.{Session}
-use Rattle.tag.specs.declared.Verdict.the-variants.{Fine, Wrong}
+use Rattle.tag.specs.declared.Verdict.the-variants.{Wrong}
 use Rattle.tag.specs.Checks.{_else_, judged}
 use Rattle.tag.specs.Records.{keyNamed}
 use Rattle.tag.specs.Opened.{iamProof, mamProof, iam3Proof}
 use Rattle.tag.specs.Judged.{tam2Checks, iam2Checks, iam3Checks, mam2Checks}
 use Rattle.tag.specs.Parts.{closingChecks, tam2BlockChecks, tam2FieldChecks, iam3BlockChecks, iam3MiddleChecks, iam3FieldChecks}
-use Rattle.tag.proofs.Lines.{passes, fails, ends, then-fine, then-wrong}
+use Rattle.tag.proofs.Lines.{then-wrong}
 
 module _ (setup : Setup) (m : List ℕ) where
   pub tam2-line : tam2Checks setup m ≡ (lengthFits Tam2 m else OtherError) ∷ tam2FieldChecks setup (tam2Of m)
@@ -41,16 +40,7 @@ module _ (setup : Setup) (m : List ℕ) where
     unfolding iam3Checks iam3FieldChecks iam3MiddleChecks iam3BlockChecks
     iam3-line = refl
 
-    -- What the fields come to, and after them the proof, is what the message comes to.
+    -- A fault of the fields is the fault of the message.
     pub iam3-wrong : (f : Fault) → judged (iam3FieldChecks setup (keyNamed setup (held .keyid)) m) ≡ Wrong f
         → judged (iam3Checks setup held m) ≡ Wrong f
     iam3-wrong f h = ap judged iam3-line ∙ then-wrong _ f (iam3FieldChecks setup (keyNamed setup (held .keyid)) m) h
-
-    module _ (h : judged (iam3FieldChecks setup (keyNamed setup (held .keyid)) m) ≡ Fine) where
-      pub iam3-proved : iam3Proof (keyNamed setup (held .keyid)) held (iam3Of m) m ≡ true → judged (iam3Checks setup held m) ≡ Fine
-      iam3-proved p =
-          ap judged iam3-line ∙ then-fine _ (iam3FieldChecks setup (keyNamed setup (held .keyid)) m) h ∙ sym (passes _ _ p ends)
-
-      pub iam3-unproved : iam3Proof (keyNamed setup (held .keyid)) held (iam3Of m) m ≡ false → judged (iam3Checks setup held m) ≡ Wrong ProofWrong
-      iam3-unproved p =
-          ap judged iam3-line ∙ then-fine _ (iam3FieldChecks setup (keyNamed setup (held .keyid)) m) h ∙ sym (fails _ _ p)

@@ -16,10 +16,7 @@ use Rattle.frames.specs.declared.Tam2.{Tam2}
 use Rattle.frames.specs.declared.Mam1.{Mam1}
 use Rattle.frames.specs.Blocks.{dataLength, blocksLength}
 use Rattle.frames.specs.Constants.{C-MAM1, tam2Constant, twoBytes}
-use Rattle.frames.specs.Fields.{customFits}
-use Rattle.frames.specs.Lengths.{hasMac, macLength, tam1ReplyLength, mam1ReplyLength, tam2MacAt, tam2ReplyLength, replyRoom}
-use Rattle.frames.proofs.Bounds.{tam2-reply-fits}
-use Rattle.frames.proofs.Range.{custom-range}
+use Rattle.frames.specs.Lengths.{hasMac, macLength, tam1ReplyLength, mam1ReplyLength, tam2MacAt, tam2ReplyLength}
 use Rattle.payload.specs.Data.{carriedData}
 use Rattle.payload.specs.Protected.{encrypts, withMac}
 use Rattle.payload.proofs.Data.{carried-long}
@@ -61,6 +58,3 @@ module _ (key : Key) (m : Tam2) (words draws : List ℕ) (count : length words �
   tam2-long =
       made-long (m .protmode) (blocksLength (m .custom .blocksize) (m .rev) (m .custom .blockcount)) (key .mackey) (key .enc) (tamBlock (key .enc) (twoBytes (tam2Constant (m .rev) (m .protmode))) draws (m .ichallenge))
       (carriedData (m .rev) (m .custom) words) (tam-block-long (key .enc) _ draws (m .ichallenge)) (carried-long (m .rev) (m .custom) words count) (blocks-whole (m .custom .blocksize) (m .rev) (m .custom .blockcount))
-
-  pub tam2-most : customFits (m .custom) ≡ true → length (tam2Reply key m words draws) ≤ replyRoom
-  tam2-most fit = omega (arith, tam2-long, tam2-reply-fits (m .custom .blocksize) (m .rev) (m .custom .blockcount) (m .protmode) (custom-range (m .custom) fit .blockcount))
