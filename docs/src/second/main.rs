@@ -5,9 +5,9 @@
 //! what the program `vectors` must write, with `setup` what `vectors_setup`, with `frames` what `vectors_frames`, line for
 //! line; with `tag` what `vectors_tag`, and with `tag-input` what that program is fed with: a script of drawn tags and
 //! messages (`script.rs`); with `reader` what `vectors_reader`, and with `reader-input` its script of messages to build and
-//! replies to judge (`script_reader.rs`). Where a paper prints the answer, its own answer is held against the printed one
-//! first; where any differ, or where the drawn cases do not show enough of a thing, it says so on standard error and exits
-//! with status 1.
+//! replies to judge (`script_reader.rs`); with `bench` what `roualint` must answer to the commands on standard input, line by
+//! line. Where a paper prints the answer, its own answer is held against the printed one first; where any differ, or where the
+//! drawn cases do not show enough of a thing, it says so on standard error and exits with status 1.
 //!
 //! A further section is a module with a `fn lines(report: &mut Report)` and a call of it here, in the order
 //! in which the proved program prints it. It draws from `draws::Draws` and writes through `report::Report`.
@@ -17,6 +17,9 @@
 mod aes;
 mod annexf;
 mod annexf_reader;
+mod bench;
+mod bench_commands;
+mod bench_words;
 mod builder;
 mod chaining;
 mod choice;
@@ -83,8 +86,9 @@ fn main() -> ExitCode {
             let script = drawn_reader::script(&mut report);
             return bytes(&script, report);
         }
+        Some("bench") => return bench::run(),
         _ => {
-            eprintln!("one argument: cipher, setup, frames, tag, tag-input, reader or reader-input");
+            eprintln!("one argument: cipher, setup, frames, tag, tag-input, reader, reader-input or bench");
             return ExitCode::from(2);
         }
     }

@@ -110,7 +110,7 @@ impl ReaderScript {
 }
 
 /// What stands in the body of a build before the data, and in how many bytes.
-fn items(order: &mut Order) -> Vec<(&mut u128, usize)> {
+pub fn items(order: &mut Order) -> Vec<(&mut u128, usize)> {
     let f = &mut order.fields;
     let proof = [(&mut order.purpose, 1), (&mut order.irnd, 4), (&mut order.tchallenge, 10)];
     match order.kind {
@@ -187,7 +187,7 @@ pub fn run(script: &[u8], report: &mut Report) -> Counts {
     counts
 }
 
-fn keys(body: &[u8]) -> Key {
+pub fn keys(body: &[u8]) -> Key {
     Key {
         id: 0,
         mac: body[16] == 1,
@@ -197,7 +197,7 @@ fn keys(body: &[u8]) -> Key {
     }
 }
 
-fn empty(kind: Kind) -> Order {
+pub fn empty(kind: Kind) -> Order {
     Order {
         kind,
         fields: Fields::default(),

@@ -18,7 +18,7 @@ const OUT_OF_TURN: u8 = 5;
 const PROOF_WRONG: u8 = 6;
 const BENCH_FAULT: u8 = 7;
 
-const DRAWS: usize = 10;
+pub const DRAWS: usize = 10;
 pub const ROOM: usize = 172;
 
 #[derive(Clone, Copy, PartialEq, Debug)]
