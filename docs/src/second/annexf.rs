@@ -27,7 +27,7 @@ pub struct Example {
     pub draws: &'static [&'static str],
     pub replies: &'static [&'static str],
     state: &'static str,
-    memory: &'static str,
+    pub memory: &'static str,
 }
 
 const TAM1: &str = "000096564402375796C69664";

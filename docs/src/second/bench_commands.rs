@@ -17,14 +17,14 @@ use std::fs::File;
 use std::io::Read;
 
 /// A line for each number that an answer can have, and one that names all commands.
-const NUMBERS: &str = include_str!("../../numbers.txt");
-const HELP: &str = include_str!("../../help.txt");
+pub const NUMBERS: &str = include_str!("../../numbers.txt");
+pub const HELP: &str = include_str!("../../help.txt");
 
 /// The messages' names, in the order of KINDS.
-const MESSAGES: [&[u8]; 7] = [b"tam1", b"tam2", b"iam1", b"iam2", b"iam3", b"mam1", b"mam2"];
+pub const MESSAGES: [&[u8]; 7] = [b"tam1", b"tam2", b"iam1", b"iam2", b"iam3", b"mam1", b"mam2"];
 
 pub struct Console {
-    pub tag: Option<Tag>,
+    tag: Option<Tag>,
     memory: Memory,
     /// The reader's. Of a record it has the keys alone.
     keys: Option<Key>,

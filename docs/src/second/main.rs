@@ -6,7 +6,7 @@
 //! line; with `tag` what `vectors_tag`, and with `tag-input` what that program is fed with: a script of drawn tags and
 //! messages (`script.rs`); with `reader` what `vectors_reader`, and with `reader-input` its script of messages to build and
 //! replies to judge (`script_reader.rs`); with `bench` what `roualint` must answer to the commands on standard input, line by
-//! line. Where a paper prints the answer, its own answer is held against the printed one first; where any differ, or where the
+//! line, and with `bench-input` the commands that it is held to (`bench_input.rs`). Where a paper prints the answer, its own answer is held against the printed one first; where any differ, or where the
 //! drawn cases do not show enough of a thing, it says so on standard error and exits with status 1.
 //!
 //! A further section is a module with a `fn lines(report: &mut Report)` and a call of it here, in the order
@@ -18,7 +18,18 @@ mod aes;
 mod annexf;
 mod annexf_reader;
 mod bench;
+mod bench_annexf;
+mod bench_ciphers;
 mod bench_commands;
+mod bench_faults;
+mod bench_fitter;
+mod bench_input;
+mod bench_orders;
+mod bench_plays;
+mod bench_refusals;
+mod bench_script;
+mod bench_sheets;
+mod bench_tally;
 mod bench_words;
 mod builder;
 mod chaining;
@@ -87,8 +98,12 @@ fn main() -> ExitCode {
             return bytes(&script, report);
         }
         Some("bench") => return bench::run(),
+        Some("bench-input") => {
+            let script = bench_input::script(&mut report);
+            return bytes(&script, report);
+        }
         _ => {
-            eprintln!("one argument: cipher, setup, frames, tag, tag-input, reader, reader-input or bench");
+            eprintln!("one argument: cipher, setup, frames, tag, tag-input, reader, reader-input, bench or bench-input");
             return ExitCode::from(2);
         }
     }
