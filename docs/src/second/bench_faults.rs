@@ -5,7 +5,7 @@ use crate::bench_script::Aside;
 use crate::bench_words::{shown, Fault, MOST_BYTES};
 use crate::draws::Draws;
 
-/// The commands with their fields: bytes, ten draws or bytes, 16 bytes, those or none, a number, an area, a room.
+/// The commands with their fields, a letter each: h bytes, d draws, k 16 bytes, m those or none, n a number, a an area, r a room.
 pub const COMMANDS: [(&str, &str); 23] = [
     ("sheet", "h"),
     ("area", "ah"),
@@ -115,7 +115,7 @@ fn wrong(draws: &mut Draws, kind: u8) -> Vec<(String, Fault)> {
             let digits = shown(&draws.block());
             vec![
                 (format!("{}g", &digits[1..]), "not hex"),
-                (digits[1..].to_string(), hexes[1].1),
+                (digits[1..].to_string(), "odd number of hex digits"),
                 other_length,
             ]
         }
