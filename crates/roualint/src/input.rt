@@ -1,0 +1,127 @@
+// Standard input, line by line.
+use crate::answer;
+use crate::bench;
+use crate::bench::Bench;
+use crate::commands;
+use crate::words::before_comment;
+use crate::words::count;
+use libc::STDIN_FILENO;
+
+// How much of a line there is, and whether it has more than its room.
+struct Line {
+    n: usize,
+    cut: bool,
+}
+
+// A proved loop has to end, and nothing says that the input does. No input has as many parts.
+const PARTS: u64 = 1000000000000000000;
+
+pub fn lines() {
+    let mut line = io::large_buffer();
+    let mut identity = io::buffer();
+    let mut user = io::buffer();
+    let h = whole(&mut line, &mut identity, &mut user);
+    last(h, &line, &mut identity, &mut user);
+}
+
+// The whole input, and each line of it that has an end.
+fn whole(line: &mut [u8], identity: &mut [u8], user: &mut [u8]) -> Heard {
+    let mut h = Heard {
+        bench: bench::empty(),
+        line: fresh(),
+        over: false,
+    };
+    let mut left = PARTS;
+    while 0 < left {
+        h = next(h, line, identity, user);
+        if h.over {
+            break;
+        }
+        left -= 1;
+    }
+    h
+}
+
+// What was heard so far: the bench, the line that has begun, and whether the input is over.
+struct Heard {
+    bench: Bench,
+    line: Line,
+    over: bool,
+}
+
+// The next part of the input.
+fn next(h: Heard, line: &mut [u8], identity: &mut [u8], user: &mut [u8]) -> Heard {
+    let mut part = io::buffer();
+    let n = io::count(libc::read(STDIN_FILENO, &mut part), &part);
+    if n == 0 {
+        return at_end(h);
+    }
+    fed(h, &part[..n], line, identity, user)
+}
+
+fn at_end(h: Heard) -> Heard {
+    let b = h.bench;
+    let l = h.line;
+    Heard {
+        bench: b,
+        line: l,
+        over: true,
+    }
+}
+
+fn fresh() -> Line {
+    Line { n: 0, cut: false }
+}
+
+fn fed(h: Heard, part: &[u8], line: &mut [u8], identity: &mut [u8], user: &mut [u8]) -> Heard {
+    let mut b = h.bench;
+    let mut l = h.line;
+    let mut i: usize = 0;
+    while i < part.len() {
+        let c = part[i];
+        i += 1;
+        if c != b'\n' {
+            l = longer(l, c, line);
+            continue;
+        }
+        b = ended(b, l, line, identity, user);
+        l = fresh();
+    }
+    Heard {
+        bench: b,
+        line: l,
+        over: false,
+    }
+}
+
+fn longer(l: Line, c: u8, line: &mut [u8]) -> Line {
+    let n = l.n;
+    if n < line.len() {
+        line[n] = c;
+        return Line { n: n + 1, cut: l.cut };
+    }
+    Line { n, cut: true }
+}
+
+// The last line may have no end.
+fn last(h: Heard, line: &[u8], identity: &mut [u8], user: &mut [u8]) {
+    let b = h.bench;
+    let l = h.line;
+    ended(b, l, line, identity, user);
+}
+
+fn ended(b: Bench, l: Line, line: &[u8], identity: &mut [u8], user: &mut [u8]) -> Bench {
+    if l.cut {
+        answer::line(b"error: line over 65536 bytes\n");
+        return b;
+    }
+    let n = answer::within(l.n, line);
+    told(b, before_comment(&line[..n]), identity, user)
+}
+
+fn told(b: Bench, line: &[u8], identity: &mut [u8], user: &mut [u8]) -> Bench {
+    if count(line) == 0 {
+        return b;
+    }
+    commands::answered(b, line, identity, user)
+}

@@ -1,0 +1,120 @@
+// The reader's side's commands: keys, build, judge.
+use crate::answer;
+use crate::answer::within;
+use crate::bench::Bench;
+use crate::bench::with_keys;
+use crate::fields;
+use crate::orders;
+use crate::words::word;
+use frames::Kind;
+use reader::Judgement;
+use reader::Keys;
+use reader::Made;
+use reader::Verdict;
+use reader::Worth;
+use reader::judged::judge;
+
+pub fn keys(b: Bench, line: &[u8]) -> Bench {
+    if !fields::read(line, 1, b"km", 0) {
+        return b;
+    }
+    answer::ok();
+    with_keys(
+        b,
+        Keys {
+            enc: fields::sixteen(line, 1),
+            mac: !payload::same(word(line, 2), b"-"),
+            mackey: fields::sixteen(line, 2),
+        },
+    )
+}
+
+// Has the reader's side its keys? Where not, it is said.
+fn held(b: Bench) -> bool {
+    if b.held {
+        return true;
+    }
+    answer::line(b"error: no keys yet\n");
+    false
+}
+
+pub fn build(b: Bench, line: &[u8]) {
+    let name = word(line, 1);
+    if name.len() == 0 {
+        answer::line(b"error: word missing\n");
+        return;
+    }
+    let kind = orders::kind_of(name);
+    if let Kind::Unsupported = kind {
+        answer::line(b"error: unknown message\n");
+        return;
+    }
+    if !orders::read(kind, line) {
+        return;
+    }
+    if orders::keyed(kind) {
+        if !held(b) {
+            return;
+        }
+    }
+    let keys = b.keys;
+    let mut room = [0u8; 176];
+    let made = orders::made(keys, kind, line, &mut room);
+    built(made, &room);
+}
+
+fn built(made: Made, room: &[u8]) {
+    match made {
+        Made::Message(n) => {
+            let e = within(n, room);
+            answer::line(b"message ");
+            answer::hex(&room[..e]);
+            answer::line(b"\n");
+        }
+        Made::Refused(fault) => answer::refused(reader::number(fault)),
+    }
+}
+
+pub fn judged(b: Bench, line: &[u8]) {
+    if !fields::read(line, 1, b"hh", 0) {
+        return;
+    }
+    if !held(b) {
+        return;
+    }
+    let keys = b.keys;
+    let mut message = io::buffer();
+    let m = within(fields::bytes(line, 1, &mut message), &message);
+    let mut reply = io::buffer();
+    let r = within(fields::bytes(line, 2, &mut reply), &reply);
+    let mut room = [0u8; 144];
+    let j = judge(keys, &message[..m], &reply[..r], &mut room);
+    told(j, &room);
+}
+
+fn told(j: Judgement, room: &[u8]) {
+    let verdict = j.verdict;
+    match verdict {
+        Verdict::Refused(fault) => answer::refused(reader::number(fault)),
+        Verdict::Accepted => accepted(j, room),
+    }
+}
+
+fn accepted(j: Judgement, room: &[u8]) {
+    let worth = j.worth;
+    let challenge = j.challenge;
+    let n = within(j.data, room);
+    answer::line(b"accepted data ");
+    answer::hex(&room[..n]);
+    answer::line(b" challenge ");
+    if j.issued {
+        answer::hex(&challenge);
+    } else {
+        answer::hex(b"");
+    }
+    match worth {
+        Worth::NoData => answer::line(b" -\n"),
+        Worth::Unproved => answer::line(b" unproved\n"),
+        Worth::Proved => answer::line(b" proved\n"),
+    }
+}

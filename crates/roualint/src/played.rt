@@ -1,0 +1,211 @@
+// The soft tag's commands: sheet, area, areas, power, message.
+use crate::answer;
+use crate::answer::within;
+use crate::bench::Bench;
+use crate::bench::with_areas;
+use crate::bench::with_tag;
+use crate::fields;
+use crate::words::count;
+use crate::words::word;
+use lines::numbers::low_word;
+use lines::numbers::times;
+use sheet::Setup;
+use sheet::Verdict;
+use tag::Outcome;
+use tag::State;
+
+pub fn sheet(b: Bench, line: &[u8], identity: &mut [u8], user: &mut [u8]) -> Bench {
+    if !fields::read(line, 1, b"h", 0) {
+        return b;
+    }
+    let mut room = io::buffer();
+    let n = within(fields::bytes(line, 1, &mut room), &room);
+    let reading = sheet::read(&room[..n]);
+    let verdict = reading.verdict;
+    let setup = reading.setup;
+    match verdict {
+        Verdict::Refused(fault, at) => {
+            answer::line(b"refused ");
+            answer::decimal(sheet::number(fault) as u16);
+            answer::line(b" at ");
+            answer::decimal(low_word(at));
+            answer::line(b"\n");
+            return b;
+        }
+        Verdict::Whole => {
+            answer::ok();
+            clear(identity);
+            clear(user);
+            return set_up(b, setup);
+        }
+    }
+}
+
+// The tag at its power-up, with areas of the sheet's sizes.
+fn set_up(b: Bench, setup: Setup) -> Bench {
+    let sizes = setup.sizes;
+    let sized = with_areas(b, bytes_of(sizes.identity), bytes_of(sizes.user));
+    with_tag(sized, tag::power_up(setup))
+}
+
+// The bytes of so many words.
+fn bytes_of(words: u16) -> usize {
+    times(2, words as usize)
+}
+
+fn clear(area: &mut [u8]) {
+    let mut i: usize = 0;
+    while i < area.len() {
+        area[i] = 0;
+        i += 1;
+    }
+}
+
+pub fn area(b: Bench, line: &[u8], identity: &mut [u8], user: &mut [u8]) -> Bench {
+    if !fields::read(line, 1, b"ah", 0) {
+        return b;
+    }
+    answer::ok();
+    if fields::number(line, 1) == 0 {
+        let n = fields::bytes(line, 2, identity);
+        return with_areas(b, n, b.user);
+    }
+    let n = fields::bytes(line, 2, user);
+    with_areas(b, b.identity, n)
+}
+
+pub fn areas(b: Bench, line: &[u8], identity: &[u8], user: &[u8]) {
+    if !fields::read(line, 1, b"", 0) {
+        return;
+    }
+    let i = within(b.identity, identity);
+    let u = within(b.user, user);
+    answer::line(b"area 0 ");
+    answer::hex(&identity[..i]);
+    answer::line(b" area 1 ");
+    answer::hex(&user[..u]);
+    answer::line(b"\n");
+}
+
+// Is there a tag? Where not, it is said.
+fn set(b: Bench) -> bool {
+    if b.set {
+        return true;
+    }
+    answer::line(b"error: no tag yet\n");
+    false
+}
+
+pub fn power(b: Bench, line: &[u8]) -> Bench {
+    if !fields::read(line, 1, b"", 0) {
+        return b;
+    }
+    if !set(b) {
+        return b;
+    }
+    answer::ok();
+    let tag = b.tag;
+    let setup = tag.setup;
+    with_tag(b, tag::power_up(setup))
+}
+
+pub fn message(b: Bench, line: &[u8], identity: &mut [u8], user: &mut [u8]) -> Bench {
+    if !fields::read(line, 1, b"hdr", 2) {
+        return b;
+    }
+    if !set(b) {
+        return b;
+    }
+    if random(line) {
+        let mut draws = [0u8; 10];
+        if libc::getentropy(&mut draws) != 0 {
+            answer::line(b"error: no random bytes\n");
+            return b;
+        }
+        return sent(b, line, &draws, identity, user);
+    }
+    let mut room = io::buffer();
+    let n = within(fields::bytes(line, 2, &mut room), &room);
+    sent(b, line, &room[..n], identity, user)
+}
+
+// Are the draws those of the system's random source?
+fn random(line: &[u8]) -> bool {
+    if count(line) < 3 {
+        return true;
+    }
+    payload::same(word(line, 2), b"*")
+}
+
+fn sent(b: Bench, line: &[u8], draws: &[u8], identity: &mut [u8], user: &mut [u8]) -> Bench {
+    let mut message = io::buffer();
+    let m = within(fields::bytes(line, 1, &mut message), &message);
+    let mut room = io::buffer();
+    let r = within(room_of(line), &room);
+    stepped(b, &message[..m], draws, &mut room[..r], identity, user)
+}
+
+fn room_of(line: &[u8]) -> usize {
+    if count(line) < 4 {
+        return 172;
+    }
+    fields::number(line, 3) as usize
+}
+
+// One message, played by the tag where the bench keeps it.
+fn stepped(
+    b: Bench,
+    message: &[u8],
+    draws: &[u8],
+    room: &mut [u8],
+    identity: &mut [u8],
+    user: &mut [u8],
+) -> Bench {
+    let t = b.tag;
+    let i = within(b.identity, identity);
+    let u = within(b.user, user);
+    let s = tag::step(t, message, draws, room, &mut identity[..i], &mut user[..u]);
+    let outcome = s.outcome;
+    let next = s.tag;
+    let session = next.session;
+    let state = session.state;
+    told(outcome, state, room);
+    with_tag(b, next)
+}
+
+fn told(outcome: Outcome, state: State, room: &[u8]) {
+    match outcome {
+        Outcome::Replied(n) => {
+            let e = within(n, room);
+            replied(&room[..e], state);
+            answer::line(b" purpose -\n");
+        }
+        Outcome::Entered(purpose) => {
+            replied(b"", state);
+            answer::line(b" purpose ");
+            answer::decimal(purpose as u16);
+            answer::line(b"\n");
+        }
+        Outcome::Refused(_) => {
+            answer::line(b"refused ");
+            answer::decimal(tag::number(outcome) as u16);
+            state_told(state);
+            answer::line(b"\n");
+        }
+    }
+}
+
+fn replied(reply: &[u8], state: State) {
+    answer::line(b"reply ");
+    answer::hex(reply);
+    state_told(state);
+}
+
+fn state_told(state: State) {
+    match state {
+        State::Initial => answer::line(b" state Initial"),
+        State::IamInit => answer::line(b" state IAM-Init"),
+        State::MamInit => answer::line(b" state MAM-Init"),
+        State::IaOk => answer::line(b" state IA-OK"),
+    }
+}
