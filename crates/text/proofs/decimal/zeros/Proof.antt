@@ -1,50 +1,45 @@
+-- `decimal::zeros` meets its contract. The invariant: what is left has the same digits from the first that is not 0.
+use mathlib.Core.Path.{_≡_, refl, sym, _∙_}
+use Prim.Native.Nat.{_≤_, _-_}
+use lib.ListN.{length, drop}
+use Rattle.text.specs.Decimal.{stripped}
+use Rattle.text.proofs.Decimals.{zero-on, zeros-end, last-digit}
 use borrow.Author.Needs.{needs}
-use native.Mathlib.Omega.{arith}
-use Prim.Native.Nat.{_≤_, _<_, _-_, _+_, _*_, _/_}
-use mathlib.Core.Path.{_≡_}
-use lib.ListN.{length, length-set}
 use Rattle.text.proofs.decimal.zeros.Statement.{statement}
 use Rattle.text.proofs.decimal.zeros.Tie as tie
-use Rattle.text.proofs.decimal.zeros.Reads as reads
-use Rattle.text.proofs.decimal.zeros.Lts as lts
 
 abbrev Inv-loop : tie.InvT-loop
-Inv-loop digits last i₀ i = i ≤ last
+Inv-loop digits last i₀ i = (i ≤ last) × (stripped (drop i digits) ≡ stripped digits)
 
 abbrev μ-loop : tie.MeasureT-loop
 μ-loop digits last i₀ i = last - i
 
--- src/decimal.rt:32:16
 sub-last : tie.Need-sub-last Inv-loop μ-loop
 sub-last c = search needs
 
--- src/decimal.rt:34:5
 loop-holds : tie.Need-loop-holds Inv-loop μ-loop
-loop-holds c = search needs
+loop-holds c = (search needs, refl)
 
--- src/decimal.rt:35:12
 shared-slice-read-if1 : tie.Need-shared-slice-read-if1 Inv-loop μ-loop
 shared-slice-read-if1 c = search needs
 
--- src/decimal.rt:36:13
 returns : tie.Need-returns Inv-loop μ-loop
-returns c = search needs
+returns c = let l = c .before .before .before in
+    (search needs, zeros-end (l .before .args .digits .now) (l .loop .i) (search needs) (c .if1 .taken) (l .loop .inv .1))
 
--- src/decimal.rt:38:9
 add-i : tie.Need-add-i Inv-loop μ-loop
 add-i c = search needs
 
--- src/decimal.rt:34:5
 loop-less : tie.Need-loop-less Inv-loop μ-loop
 loop-less c = search needs
 
--- src/decimal.rt:34:5
 loop-again : tie.Need-loop-again Inv-loop μ-loop
-loop-again c = search needs
+loop-again c = let l = c .before .before .before in
+    (search needs, sym (zero-on (l .before .args .digits .now) (l .loop .i) (search needs) (c .if1 .left)) ∙ l .loop .inv .1)
 
--- src/decimal.rt:28:1
 returns-2 : tie.Need-returns-2 Inv-loop μ-loop
-returns-2 c = search needs
+returns-2 c = let l = c .before in
+    (search needs, last-digit (l .before .args .digits .now) (l .loop .i) (search needs) (search needs) (l .loop .inv .1))
 
 pub zeros-spec : {M : Type 1} → statement M
 zeros-spec =

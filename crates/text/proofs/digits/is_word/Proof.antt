@@ -1,51 +1,50 @@
+-- `digits::is_word` meets its contract. The invariant: what is left of the word decides.
+use mathlib.Core.Path.{_≡_, refl, sym, _∙_}
+use Prim.Native.Nat.{_≤_, _-_}
+use lib.ListN.{length, drop}
+use Rattle.text.specs.Digits.{digits}
+use Rattle.text.proofs.Words.{digit-on, no-word, word}
 use borrow.Author.Needs.{needs}
-use native.Mathlib.Omega.{arith}
-use Prim.Native.Nat.{_≤_, _<_, _-_, _+_, _*_, _/_}
-use mathlib.Core.Path.{_≡_}
-use lib.ListN.{length, length-set}
 use Rattle.text.proofs.digits.is_word.Statement.{statement}
 use Rattle.text.proofs.digits.is_word.Tie as tie
-use Rattle.text.proofs.digits.is_word.Reads as reads
-use Rattle.text.proofs.digits.is_word.Lts as lts
-use Rattle.text.proofs.digits.value.Reads as value-reads
 
 abbrev Inv-loop : tie.InvT-loop
-Inv-loop word base i₀ i = i ≤ length word
+Inv-loop word base i₀ i = (i ≤ length word) × (digits base (drop i word) ≡ digits base word)
 
 abbrev μ-loop : tie.MeasureT-loop
 μ-loop word base i₀ i = length word - i
 
--- src/digits.rt:43:5
 loop-holds : tie.Need-loop-holds Inv-loop μ-loop
-loop-holds c = search needs
+loop-holds c = (search needs, refl)
 
--- src/digits.rt:44:18
 shared-slice-read-value : tie.Need-shared-slice-read-value Inv-loop μ-loop
 shared-slice-read-value c = search needs
 
--- src/digits.rt:44:12
 value-requires : tie.Need-value-requires Inv-loop μ-loop
 value-requires c κs = search needs
 
--- src/digits.rt:45:13
 returns : tie.Need-returns Inv-loop μ-loop
-returns c = search needs
+returns c =
+    let l = c .before .before .before .before in
+    let a = l .before .before .args in
+    no-word (a .base) (a .word .now) (l .loop .i) (l .loop .inv .1) (search needs) (rw (c .before .value .ensures) at (c .if1 .taken))
 
--- src/digits.rt:47:9
 add-i : tie.Need-add-i Inv-loop μ-loop
 add-i c = search needs
 
--- src/digits.rt:43:5
 loop-less : tie.Need-loop-less Inv-loop μ-loop
 loop-less c = search needs
 
--- src/digits.rt:43:5
 loop-again : tie.Need-loop-again Inv-loop μ-loop
-loop-again c = search needs
+loop-again c =
+    let l = c .before .before .before .before in
+    let a = l .before .before .args in
+    (search needs, sym (digit-on (a .base) (a .word .now) (l .loop .i) (search needs) (rw (c .before .value .ensures) at (c .if1 .left))) ∙ l .loop .inv .1)
 
--- src/digits.rt:40:1
 returns-2 : tie.Need-returns-2 Inv-loop μ-loop
-returns-2 c = search needs
+returns-2 c =
+    let a = c .before .before .before .args in
+    word (a .base) (a .word .now) (c .before .loop .i) (c .before .loop .inv .1) (search needs)
 
 pub is-word-spec : {M : Type 1} → statement M
 is-word-spec =

@@ -1,0 +1,5 @@
+-- What the contracts of text cite.
+pub mod Digits
+pub mod Hex
+pub mod Decimal
+pub mod Room
