@@ -7,3 +7,5 @@ pub mod Pairs
 pub mod Readings
 pub mod Decimals
 pub mod Fits
+pub mod HexInverse
+pub mod DecimalInverse

@@ -1,13 +1,14 @@
 -- A word put over the first characters of a room.
 use mathlib.Core.Path.{_≡_, sym, ap, _∙_}
-use mathlib.Core.Bool.{Bool}
+use mathlib.Core.Bool.{Bool, true, false}
 use mathlib.Core.List.{List, _++_}
 use Prim.Native.Nat.{ℕ, _+_, _≤_, _<_}
 use native.Mathlib.Numerals.{add-one}
 use native.Mathlib.Nat.{zero-add}
 use native.Mathlib.Omega.{arith}
+use lib.Dec.{leb}
 use lib.ListN.{length, take, drop, getD, set}
-use lib.Seq.{paste-suc, take-length}
+use lib.Seq.{paste-suc, take-length, take-at}
 use borrow.Author.Tests.{le-leb, lt-leb}
 use Rattle.ground.specs.Choice.{pick}
 use Rattle.text.specs.Room.{Writes}
@@ -46,3 +47,12 @@ module _ (word room : List ℕ) where
 -- the same word, by another name
 pub as-word : (word other room : List ℕ) (n : ℕ) (after : List ℕ) → word ≡ other → Writes word room n after → Writes other room n after
 as-word word other room n after e h = rw e at h
+
+-- an answer that is not 0: the word stands in the room's first characters
+module _ (word room : List ℕ) (n : ℕ) (after : List ℕ) where
+  stands-if : (b : Bool) → n ≡ pick b (length word) 0 → after ≡ pick b (word ++ drop (length word) room) room → 0 < n → take n after ≡ word
+  stands-if true e f h = ap (take n) f ∙ take-at word (drop (length word) room) n (sym e)
+  stands-if false e f h = absurd (omega arith)
+
+  pub stands : Writes word room n after → 0 < n → take n after ≡ word
+  stands w = stands-if (leb (length word) (length room)) (w .says) (w .holds)

@@ -7,6 +7,7 @@ use lib.Dec.{leb, ltb}
 use borrow.Author.Tests.{le-leb, lt-leb, leb-true, lt-ltb, le-ltb, ltb-true, ltb-false}
 use Rattle.ground.specs.Choice.{pick, both}
 use Rattle.text.specs.Digits.{between, value, glyph}
+use Rattle.text.specs.Inverse.{lower}
 use Rattle.text.proofs.Choices.{picked, each, second-no}
 
 module _ (from to c : ℕ) where
@@ -68,3 +69,33 @@ module _ (d : ℕ) where
       picked (λ g. value g ≡ d) (ltb d 10)
       (λ t. let l = ltb-true d 10 t in sym (decimal-value (48 + d) (omega arith) (omega arith)) ∙ omega arith)
       (λ t. let l = ltb-false d 10 t in sym (lower-value (87 + d) (omega arith) (omega arith)) ∙ omega arith)
+
+-- a digit's value has that digit, in lower case
+module _ (c : ℕ) where
+  not-upper : c < 65 → lower c ≡ c
+  unfolding lower
+  not-upper h = simp (below 65 90 c h)
+
+  lower-already : 90 < c → lower c ≡ c
+  unfolding lower
+  lower-already h = simp (above 65 90 c h)
+
+  from-upper : 65 ≤ c → c ≤ 90 → lower c ≡ c + 32
+  unfolding lower
+  from-upper h l = simp (inside 65 90 c h l)
+
+  pub glyph-value : value c < 16 → glyph (value c) ≡ lower c
+  glyph-value =
+      value-cases (λ v. v < 16 → glyph v ≡ lower c) c
+      (λ h l _. sym (low-glyph (c - 48) (omega arith)) ∙ omega (arith, not-upper (omega arith)))
+      (λ h l _. sym (high-glyph (c - 87) (omega arith)) ∙ omega (arith, lower-already (omega arith)))
+      (λ h l _. sym (high-glyph (c - 55) (omega arith)) ∙ omega (arith, from-upper h (omega arith)))
+      (λ k. absurd (omega arith))
+
+  pub glyph-digit : value c < 10 → glyph (value c) ≡ c
+  glyph-digit =
+      value-cases (λ v. v < 10 → glyph v ≡ c) c
+      (λ h l _. sym (low-glyph (c - 48) (omega arith)) ∙ omega arith)
+      (λ h l k. absurd (omega arith))
+      (λ h l k. absurd (omega arith))
+      (λ k. absurd (omega arith))

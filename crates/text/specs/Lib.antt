@@ -3,3 +3,4 @@ pub mod Digits
 pub mod Hex
 pub mod Decimal
 pub mod Room
+pub mod Inverse
