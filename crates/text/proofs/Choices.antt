@@ -1,6 +1,8 @@
 -- Tests, and what they pick.
 use mathlib.Core.Path.{_≡_, refl}
 use mathlib.Core.Bool.{Bool, true, false, false≢true}
+use Prim.Native.Nat.{ℕ}
+use native.Mathlib.Omega.{arith}
 use Rattle.ground.specs.Choice.{pick, both}
 
 -- what holds of either holds of the one that is picked
@@ -21,3 +23,7 @@ first-only false = refl
 pub second-no : (p : Bool) → both p false ≡ false
 second-no true = refl
 second-no false = refl
+
+-- from two constructors that were equal, which `cc` turns into 0 and 1
+pub never : {A : Type 0} → _≡_ {A = ℕ} 0 1 → A
+never e = absurd (omega arith)

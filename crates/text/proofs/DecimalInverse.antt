@@ -1,21 +1,21 @@
 -- Reading and writing decimal undo each other.
 use mathlib.Core.Path.{_≡_, refl, sym, ap, ap₂, _∙_}
-use mathlib.Core.Bool.{Bool, true, false}
+use mathlib.Core.Bool.{true, not}
 use mathlib.Core.List.{List, [], _∷_, _++_, append-nil}
 use Prim.Native.Nat.{ℕ, _+_, _*_, _/_, _%_, _≤_, _<_}
 use native.Mathlib.Nat.{zero-add, div-div-eq-div-mul, div-add-mod'}
 use native.Mathlib.Omega.{arith}
-use lib.Dec.{eqb, leb, ltb}
-use lib.ListN.{length, take}
+use lib.Dec.{eqb, ltb}
+use lib.ListN.{length}
 use lib.Seq.{append-snoc}
-use borrow.Author.Tests.{lt-ltb, eqb-true, ltb-true, le-leb, leb-true}
-use Rattle.ground.specs.Choice.{pick, both}
+use borrow.Author.Tests.{lt-ltb, eqb-true, ltb-true, ltb-false, le-leb, not-false}
+use Rattle.ground.specs.Choice.{both}
 use Rattle.text.specs.Digits.{value, glyph, digits, isWord}
 use Rattle.text.specs.Decimal.{behind, numberOf, largest, decimalRead, zeroDigit, stripped, orZero, trimmed, fiveDigits, decimalWord}
 use Rattle.text.specs.Inverse.{DecimalBack, DecimalAgain}
 use Rattle.text.specs.declared.DecimalRead.{DecimalRead}
-use Rattle.text.specs.declared.DecimalRead.the-variants.{Number, NotNumber, Over}
-use Rattle.text.proofs.Choices.{picked, each}
+use Rattle.text.specs.declared.DecimalRead.the-variants.{Number}
+use Rattle.text.proofs.Choices.{picked, each, never}
 use Rattle.text.proofs.Values.{value-glyph, glyph-digit}
 use Rattle.text.proofs.Words.{all-digits}
 use Rattle.text.proofs.Rooms.{stands}
@@ -106,7 +106,8 @@ module _ (n d : ℕ) (h : d < 10) where
       let last : (n * 10 + d) % 10 ≡ d = omega arith in
       rw none (zero-first _ ∙ ap stripped (simp (further 1000, further 100, further 10, tenth, last)))
 
-number-again : (w p : List ℕ) (n : ℕ) → digits 10 w ≡ true → behind n w ≤ largest → stripped p ≡ stripped (fiveDigits n) → stripped (p ++ w) ≡ stripped (fiveDigits (behind n w))
+number-again : (w p : List ℕ) (n : ℕ) → digits 10 w ≡ true → behind n w ≤ largest → stripped p ≡ stripped (fiveDigits n)
+    → stripped (p ++ w) ≡ stripped (fiveDigits (behind n w))
 unfolding behind digits
 number-again [] p n h l e = ap stripped (append-nil p) ∙ e
 number-again (c ∷ w) p n h l e =
@@ -127,14 +128,12 @@ module _ (w : List ℕ) (n : ℕ) where
   written-read : Read (decimalRead w)
   unfolding decimalRead
   written-read =
-      picked Read (isWord 10 w)
-      (λ t. picked Read (leb (numberOf w) largest)
+      picked Read (not (isWord 10 w)) (λ t e. never (cc))
+      (λ t. picked Read (ltb largest (numberOf w)) (λ l e. never (cc))
       (λ l e.
       let q : numberOf w ≡ n = cc in
-      let same = number-again w [] 0 (all-digits 10 w t) (leb-true (numberOf w) largest l) no-digits in
-      ap orZero (ap (λ (x : ℕ). stripped (fiveDigits x)) (sym q) ∙ sym same))
-      (λ l e. absurd (let z : _≡_ {A = ℕ} 0 1 = cc in omega arith)))
-      (λ t e. absurd (let z : _≡_ {A = ℕ} 0 1 = cc in omega arith))
+      let same = number-again w [] 0 (all-digits 10 w (not-false _ t)) (ltb-false largest (numberOf w) l) no-digits in
+      ap orZero (ap (λ (x : ℕ). stripped (fiveDigits x)) (sym q) ∙ sym same)))
 
 -- ---- the theorems
 

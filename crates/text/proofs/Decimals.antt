@@ -9,7 +9,7 @@ use native.Mathlib.Omega.{arith}
 use lib.Dec.{eqb}
 use lib.ListN.{length, take, drop, getD, length-drop, drop-of-length-le}
 use lib.Seq.{drop-cons, take-all}
-use borrow.Author.Tests.{eq-eqb, ne-eqb, eqb-true, le-leb, lt-leb}
+use borrow.Author.Tests.{eq-eqb, ne-eqb, eqb-true, lt-ltb, le-ltb}
 use Rattle.text.specs.Digits.{value, isWord}
 use Rattle.text.specs.Decimal.{behind, numberOf, largest, decimalRead, zeroDigit, stripped, orZero, trimmed, fiveDigits, decimalWord}
 use Rattle.text.proofs.Choices.{picked}
@@ -23,12 +23,14 @@ behind-grows n (c ∷ w) = omega (arith, behind-grows (n * 10 + value c) w)
 
 -- the steps of `read_decimal`
 module _ (w : List ℕ) where
-  pub digit-behind : (n i m : ℕ) → i < length w → behind n (drop i w) ≡ numberOf w → m ≡ n * 10 + value (getD w i 0) → behind m (drop (i + 1) w) ≡ numberOf w
+  pub digit-behind : (n i m : ℕ) → i < length w → behind n (drop i w) ≡ numberOf w
+      → m ≡ n * 10 + value (getD w i 0) → behind m (drop (i + 1) w) ≡ numberOf w
   unfolding behind
   digit-behind n i m h e f = rw (f, add-one) (rw (drop-cons w i 0 h) at e)
 
   -- a number that has grown past the largest stays past it
-  pub past : (n i m : ℕ) → i < length w → behind n (drop i w) ≡ numberOf w → m ≡ n * 10 + value (getD w i 0) → largest < m → largest < numberOf w
+  pub past : (n i m : ℕ) → i < length w → behind n (drop i w) ≡ numberOf w
+      → m ≡ n * 10 + value (getD w i 0) → largest < m → largest < numberOf w
   past n i m h e f l = omega (arith, digit-behind n i m h e f, behind-grows m (drop (i + 1) w))
 
   pub none-behind : (n i : ℕ) → length w ≤ i → behind n (drop i w) ≡ n
@@ -41,11 +43,11 @@ module _ (w : List ℕ) where
 
   pub too-large : isWord 10 w ≡ true → largest < numberOf w → Over ≡ decimalRead w
   unfolding decimalRead
-  too-large t h = simp (t, lt-leb _ _ h)
+  too-large t h = simp (t, lt-ltb _ _ h)
 
   pub number : isWord 10 w ≡ true → (n : ℕ) → n ≤ largest → numberOf w ≡ n → Number n ≡ decimalRead w
   unfolding decimalRead
-  number t n h e = simp (t, e, le-leb _ _ h)
+  number t n h e = simp (t, e, le-ltb _ _ h)
 
 -- a last digit stays, whatever it is
 lone-digit : (c : ℕ) → trimmed (c ∷ []) ≡ c ∷ []

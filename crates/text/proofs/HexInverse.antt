@@ -1,21 +1,20 @@
 -- Reading and writing hex undo each other.
 use mathlib.Core.Path.{_≡_, refl, sym, ap, ap₂, _∙_}
-use mathlib.Core.Bool.{Bool, true, false, false≢true}
-use mathlib.Core.Logic.{_⊎_, inl, inr, ⊎-elim}
+use mathlib.Core.Bool.{true, false, not, false≢true}
 use mathlib.Core.List.{List, [], _∷_, _++_, map}
-use Prim.Native.Nat.{ℕ, zero, suc, _+_, _*_, _/_, _%_, _≤_, _<_}
+use Prim.Native.Nat.{ℕ, suc, _+_, _*_, _/_, _%_, _≤_, _<_}
 use native.Mathlib.Omega.{arith}
-use lib.Dec.{eqb, leb, ltb}
-use lib.ListN.{length, take, drop, getD}
+use lib.Dec.{eqb, ltb}
+use lib.ListN.{length, take, drop}
 use lib.Seq.{take-at}
-use borrow.Author.Tests.{lt-ltb, eqb-true, ltb-true, le-leb, leb-true}
-use Rattle.ground.specs.Choice.{pick, both}
+use borrow.Author.Tests.{lt-ltb, eqb-true, eqb-false, ltb-true, le-leb, leb-true, not-false}
+use Rattle.ground.specs.Choice.{both}
 use Rattle.text.specs.Digits.{value, glyph, digits, isWord}
 use Rattle.text.specs.Hex.{dash, isDash, bytesOf, hexRead, hexRoom, ReadsHex, pairs, hexWord}
 use Rattle.text.specs.Inverse.{EachByte, lower, HexBack, HexAgain}
 use Rattle.text.specs.declared.HexRead.{HexRead}
-use Rattle.text.specs.declared.HexRead.the-variants.{Bytes, NotHex, Odd, Over}
-use Rattle.text.proofs.Choices.{picked, each}
+use Rattle.text.specs.declared.HexRead.the-variants.{Bytes}
+use Rattle.text.proofs.Choices.{picked, each, never}
 use Rattle.text.proofs.Values.{value-glyph, glyph-value}
 use Rattle.text.proofs.Words.{all-digits}
 use Rattle.text.proofs.Pairs.{bytes-long, pairs-long, some-word}
@@ -49,7 +48,8 @@ no-dash : (b : ℕ) (bs : List ℕ) → isDash (pairs (b ∷ bs)) ≡ false
 unfolding isDash pairs
 no-dash b bs = refl
 
-read-written : (bs room : List ℕ) → EachByte bs → length bs ≤ length room → ReadsHex (hexWord bs) room (Bytes (length bs)) (bs ++ drop (length bs) room)
+read-written : (bs room : List ℕ) → EachByte bs → length bs ≤ length room
+    → ReadsHex (hexWord bs) room (Bytes (length bs)) (bs ++ drop (length bs) room)
 unfolding hexWord isDash
 read-written [] room h l = no-bytes (dash ∷ []) room refl
 read-written (b ∷ bs) room h l =
@@ -57,7 +57,7 @@ read-written (b ∷ bs) room h l =
     let half : length (pairs all) / 2 ≡ length all = omega (arith, pairs-long all) in
     let word : isWord 16 (pairs all) ≡ true = ap₂ both (le-leb 1 (length (pairs all)) (omega (arith, pairs-long all))) (digits-pairs all h) in
     rw half at
-    (bytes (pairs all) room (no-dash b bs) word (omega (arith, pairs-long all)) (omega (arith, pairs-long all)) (all ++ drop (length all) room)
+    (bytes (pairs all) room (no-dash b bs) word (λ o. omega (arith, pairs-long all)) (omega (arith, pairs-long all)) (all ++ drop (length all) room)
     (ap (λ (l : List ℕ). l ++ drop (length l) room) (sym (bytes-pairs all h))))
 
 -- ---- what is read, written
@@ -67,15 +67,14 @@ module _ (w : List ℕ) (size n : ℕ) (G : Type 0) where
   abbrev Read : HexRead → Type 0
   Read r = r ≡ Bytes n → G
 
-  accepted : (isDash w ≡ true → n ≡ 0 → G) → (isWord 16 w ≡ true → length w % 2 ≡ 0 → n ≡ length (bytesOf w) → G) → Read (hexRead w size)
+  accepted : (isDash w ≡ true → n ≡ 0 → G) → (isWord 16 w ≡ true → (length w % 2 ≡ 1 → ⊥) → n ≡ length (bytesOf w) → G) → Read (hexRead w size)
   unfolding hexRead
   accepted none some =
       picked Read (isDash w) (λ d e. none d (cc))
-      (λ d. picked Read (isWord 16 w)
-      (λ t. picked Read (eqb (length w % 2) 0)
-      (λ v. picked Read (leb (length (bytesOf w)) size) (λ l e. some t (eqb-true (length w % 2) 0 v) (cc)) (λ l e. absurd (let z : _≡_ {A = ℕ} 0 1 = cc in omega arith)))
-      (λ v e. absurd (let z : _≡_ {A = ℕ} 0 1 = cc in omega arith)))
-      (λ t e. absurd (let z : _≡_ {A = ℕ} 0 1 = cc in omega arith)))
+      (λ d. picked Read (not (isWord 16 w)) (λ t e. never (cc))
+      (λ t. picked Read (eqb (length w % 2) 1) (λ v e. never (cc))
+      (λ v. picked Read (ltb size (length (bytesOf w))) (λ l e. never (cc))
+      (λ l e. some (not-false _ t) (eqb-false (length w % 2) 1 v) (cc)))))
 
 dash-again : (w : List ℕ) → isDash w ≡ true → hexWord [] ≡ map lower w
 unfolding hexWord isDash lower
@@ -83,10 +82,10 @@ dash-again [] t = absurd (false≢true t)
 dash-again (c ∷ []) t = ap (λ (x : ℕ). lower x ∷ []) (sym (eqb-true c dash t))
 dash-again (c ∷ (d ∷ w)) t = absurd (false≢true t)
 
-pairs-again : (w : List ℕ) → digits 16 w ≡ true → length w % 2 ≡ 0 → pairs (bytesOf w) ≡ map lower w
+pairs-again : (w : List ℕ) → digits 16 w ≡ true → (length w % 2 ≡ 1 → ⊥) → pairs (bytesOf w) ≡ map lower w
 unfolding bytesOf pairs digits
 pairs-again [] h e = refl
-pairs-again (c ∷ []) h e = absurd (omega arith)
+pairs-again (c ∷ []) h e = absurd (e refl)
 pairs-again (c ∷ (d ∷ w)) h e =
     let first = each (ltb (value c) 16) _ h in
     let second = each (ltb (value d) 16) (digits 16 w) (first .1) in
@@ -94,7 +93,7 @@ pairs-again (c ∷ (d ∷ w)) h e =
     let y : value d < 16 = ltb-true (value d) 16 (second .0) in
     let high : (value c * 16 + value d) / 16 ≡ value c = omega arith in
     let low : (value c * 16 + value d) % 16 ≡ value d = omega arith in
-    ap₂ _∷_ (ap glyph high ∙ glyph-value c x) (ap₂ _∷_ (ap glyph low ∙ glyph-value d y) (pairs-again w (second .1) (omega arith)))
+    ap₂ _∷_ (ap glyph high ∙ glyph-value c x) (ap₂ _∷_ (ap glyph low ∙ glyph-value d y) (pairs-again w (second .1) (λ o. e (omega arith))))
 
 written-read : (w room : List ℕ) (n : ℕ) (after : List ℕ) → ReadsHex w room (Bytes n) after → hexWord (take n after) ≡ map lower w
 written-read w room n after h =

@@ -9,3 +9,5 @@ pub mod Decimals
 pub mod Fits
 pub mod HexInverse
 pub mod DecimalInverse
+pub mod Said
+pub mod Examples

@@ -6,7 +6,7 @@ use Prim.Native.Nat.{ℕ, _%_, _/_, _≤_, _<_}
 use native.Mathlib.Omega.{arith}
 use lib.Dec.{eqb}
 use lib.ListN.{length, drop, getD}
-use borrow.Author.Tests.{eq-eqb, ne-eqb, le-leb, lt-leb}
+use borrow.Author.Tests.{eq-eqb, ne-eqb, lt-ltb, le-ltb}
 use Rattle.text.specs.Digits.{isWord}
 use Rattle.text.specs.Hex.{dash, isDash, bytesOf, hexRead, hexRoom, ReadsHex}
 use Rattle.text.specs.declared.HexRead.{HexRead}
@@ -46,15 +46,15 @@ module _ (w room : List ℕ) where
   unfolding hexRead
   not-hex d t = answered NotHex room (simp (d, t)) refl
 
-  pub odd : isDash w ≡ false → isWord 16 w ≡ true → (length w % 2 ≡ 0 → ⊥) → ReadsHex w room Odd room
+  pub odd : isDash w ≡ false → isWord 16 w ≡ true → length w % 2 ≡ 1 → ReadsHex w room Odd room
   unfolding hexRead
-  odd d t h = answered Odd room (simp (d, t, ne-eqb _ _ h)) refl
+  odd d t h = answered Odd room (simp (d, t, eq-eqb _ _ h)) refl
 
-  pub over : isDash w ≡ false → isWord 16 w ≡ true → length w % 2 ≡ 0 → length room < length w / 2 → ReadsHex w room Over room
+  pub over : isDash w ≡ false → isWord 16 w ≡ true → (length w % 2 ≡ 1 → ⊥) → length room < length w / 2 → ReadsHex w room Over room
   unfolding hexRead
-  over d t h l = answered Over room (simp (d, t, eq-eqb _ _ h, bytes-long, lt-leb _ _ l)) refl
+  over d t h l = answered Over room (simp (d, t, ne-eqb _ _ h, bytes-long, lt-ltb _ _ l)) refl
 
-  pub bytes : isDash w ≡ false → isWord 16 w ≡ true → length w % 2 ≡ 0 → length w / 2 ≤ length room → (after : List ℕ)
+  pub bytes : isDash w ≡ false → isWord 16 w ≡ true → (length w % 2 ≡ 1 → ⊥) → length w / 2 ≤ length room → (after : List ℕ)
       → after ≡ bytesOf w ++ drop (length (bytesOf w)) room → ReadsHex w room (Bytes (length w / 2)) after
   unfolding hexRead
-  bytes d t h l after e = answered (Bytes (length w / 2)) after (simp (d, t, eq-eqb _ _ h, bytes-long, le-leb _ _ l)) (e ∙ simp bytes-long)
+  bytes d t h l after e = answered (Bytes (length w / 2)) after (simp (d, t, ne-eqb _ _ h, bytes-long, le-ltb _ _ l)) (e ∙ simp bytes-long)

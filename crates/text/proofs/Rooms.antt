@@ -22,7 +22,8 @@ module _ (word room : List ℕ) where
         holds = ap (λ (b : Bool). pick b (word ++ drop (length word) room) room) (sym t);
       }
 
-  pub wrote : (n : ℕ) (after : List ℕ) → length word ≤ length room → n ≡ length word → after ≡ word ++ drop (length word) room → Writes word room n after
+  pub wrote : (n : ℕ) (after : List ℕ) → length word ≤ length room → n ≡ length word
+      → after ≡ word ++ drop (length word) room → Writes word room n after
   wrote n after h e f =
       let t = le-leb (length word) (length room) h in
       record {
@@ -38,7 +39,8 @@ module _ (word room : List ℕ) where
   abbrev pub begun : ℕ → List ℕ
   begun n = take n word ++ drop n room
 
-  pub next : (n : ℕ) (now : List ℕ) (x : ℕ) → n < length word → length word ≤ length room → now ≡ begun n → x ≡ getD word n 0 → set now n x ≡ begun (n + 1)
+  pub next : (n : ℕ) (now : List ℕ) (x : ℕ) → n < length word → length word ≤ length room
+      → now ≡ begun n → x ≡ getD word n 0 → set now n x ≡ begun (n + 1)
   next n now x h l e f = rw (add-one, e, f) (simp zero-add at (paste-suc room 0 word n 0 (omega arith) h))
 
   pub ended : (n : ℕ) → n ≡ length word → begun n ≡ word ++ drop (length word) room

@@ -5,7 +5,7 @@ use Prim.Native.Nat.{ℕ, _+_, _-_, _≤_, _<_}
 use native.Mathlib.Omega.{arith}
 use lib.Dec.{leb, ltb}
 use borrow.Author.Tests.{le-leb, lt-leb, leb-true, lt-ltb, le-ltb, ltb-true, ltb-false}
-use Rattle.ground.specs.Choice.{pick, both}
+use Rattle.ground.specs.Choice.{both}
 use Rattle.text.specs.Digits.{between, value, glyph}
 use Rattle.text.specs.Inverse.{lower}
 use Rattle.text.proofs.Choices.{picked, each, second-no}
@@ -38,7 +38,8 @@ module _ (c : ℕ) where
   lower-value h l = simp (above 48 57 c (omega arith), inside 97 102 c h l) (omega arith)
 
 -- what holds in each region holds of the value
-pub value-cases : (P : ℕ → Type 0) (c : ℕ) → (48 ≤ c → c ≤ 57 → P (c - 48)) → (97 ≤ c → c ≤ 102 → P (c - 87)) → (65 ≤ c → c ≤ 70 → P (c - 55)) → P 16 → P (value c)
+pub value-cases : (P : ℕ → Type 0) (c : ℕ)
+    → (48 ≤ c → c ≤ 57 → P (c - 48)) → (97 ≤ c → c ≤ 102 → P (c - 87)) → (65 ≤ c → c ≤ 70 → P (c - 55)) → P 16 → P (value c)
 unfolding value
 value-cases P c d l u n =
     picked P (between 48 57 c) (λ t. let e = ends 48 57 c t in d (e .0) (e .1))
@@ -48,9 +49,6 @@ value-cases P c d l u n =
 -- a character that is no digit
 pub no-value : (c : ℕ) → (48 ≤ c → c ≤ 57 → ⊥) → (97 ≤ c → c ≤ 102 → ⊥) → (65 ≤ c → c ≤ 70 → ⊥) → 16 ≡ value c
 no-value c d l u = value-cases (λ v. 16 ≡ v) c (λ h k. absurd (d h k)) (λ h k. absurd (l h k)) (λ h k. absurd (u h k)) refl
-
-pub value-most : (c : ℕ) → value c ≤ 16
-value-most c = value-cases (λ v. v ≤ 16) c (λ h l. omega arith) (λ h l. omega arith) (λ h l. omega arith) (omega arith)
 
 -- the steps of `glyph`
 module _ (d : ℕ) where

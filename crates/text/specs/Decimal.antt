@@ -1,8 +1,8 @@
 -- Numbers up to 65,535 as decimal digits.
 use Prim.Native.Nat.{ℕ, _+_, _*_, _/_, _%_}
-use mathlib.Core.Bool.{Bool}
+use mathlib.Core.Bool.{not}
 use mathlib.Core.List.{List, [], _∷_}
-use lib.Dec.{eqb, leb}
+use lib.Dec.{eqb, ltb}
 use Rattle.ground.specs.Choice.{pick}
 use Rattle.text.specs.Digits.{value, glyph, isWord}
 use Rattle.text.specs.declared.DecimalRead.{DecimalRead}
@@ -22,7 +22,10 @@ largest = 65535
 
 -- What is read of a word.
 unfoldable pub decimalRead : List ℕ → DecimalRead
-decimalRead w = pick (isWord 10 w) (pick (leb (numberOf w) largest) (Number (numberOf w)) Over) NotNumber
+decimalRead w =
+    pick (not (isWord 10 w)) NotNumber
+    (pick (ltb largest (numberOf w)) Over
+    (Number (numberOf w)))
 
 abbrev pub zeroDigit : ℕ
 zeroDigit = 48

@@ -1,9 +1,9 @@
 -- Bytes as hex digits, two to a byte, the high one first; `-` for no bytes.
 use Prim.Native.Nat.{ℕ, _+_, _*_, _/_, _%_}
 use mathlib.Core.Path.{_≡_}
-use mathlib.Core.Bool.{Bool, true, false}
+use mathlib.Core.Bool.{Bool, false, not}
 use mathlib.Core.List.{List, [], _∷_, _++_}
-use lib.Dec.{eqb, leb}
+use lib.Dec.{eqb, ltb}
 use lib.ListN.{length, drop}
 use Rattle.ground.specs.Choice.{pick}
 use Rattle.text.specs.Digits.{value, glyph, isWord}
@@ -29,10 +29,10 @@ bytesOf (c ∷ (d ∷ w)) = (value c * 16 + value d) ∷ bytesOf w
 unfoldable pub hexRead : List ℕ → ℕ → HexRead
 hexRead w size =
     pick (isDash w) (Bytes 0)
-    (pick (isWord 16 w)
-    (pick (eqb (length w % 2) 0)
-    (pick (leb (length (bytesOf w)) size) (Bytes (length (bytesOf w)))
-    Over) Odd) NotHex)
+    (pick (not (isWord 16 w)) NotHex
+    (pick (eqb (length w % 2) 1) Odd
+    (pick (ltb size (length (bytesOf w))) Over
+    (Bytes (length (bytesOf w))))))
 
 -- What the room holds afterwards: the bytes over its first, where they were read; else what it held.
 abbrev pub hexRoom : HexRead → List ℕ → List ℕ → List ℕ

@@ -3,7 +3,7 @@ use crate::digits::glyph;
 use crate::digits::value;
 ghost use mathlib.Core.Bool.{true};
 ghost use mathlib.Core.Path.{_≡_};
-ghost use mathlib.Core.List.{_++_};
+ghost use mathlib.Core.List.{[], _∷_, _++_};
 ghost use Prim.Native.Nat.{_*_, _/_, _%_, _≤_};
 ghost use lib.ListN.{length, drop};
 ghost use Rattle.text.specs.Digits.{digits, glyph as Digits·glyph};
@@ -34,18 +34,11 @@ pub(crate) fn read_pairs(word: &[u8], room: &mut [u8])
     }
 }
 
-// The high digit of a byte.
-fn high(b: u8) -> u8
-    ensures { λ r. ⌜ r ≡ Digits·glyph (b / 16) ⌝ }
+// The two digits of a byte.
+fn pair(b: u8) -> [u8; 2]
+    ensures { λ r. ⌜ r ≡ Digits·glyph (b / 16) ∷ (Digits·glyph (b % 16) ∷ []) ⌝ }
 {
-    glyph(b / 16)
-}
-
-// Its low digit.
-fn low(b: u8) -> u8
-    ensures { λ r. ⌜ r ≡ Digits·glyph (b % 16) ⌝ }
-{
-    glyph(b % 16)
+    [glyph(b / 16), glyph(b % 16)]
 }
 
 // Two digits for each byte over the first characters of a room.
@@ -55,9 +48,9 @@ pub(crate) fn write_pairs(bytes: &[u8], room: &mut [u8])
 {
     let mut i = 0;
     while i < bytes.len() {
-        let b = bytes[i];
-        room[i * 2] = high(b);
-        room[i * 2 + 1] = low(b);
+        let two = pair(bytes[i]);
+        room[i * 2] = two[0];
+        room[i * 2 + 1] = two[1];
         i += 1;
     }
 }

@@ -36,7 +36,7 @@ pub fn read_hex(word: &[u8], room: &mut [u8]) -> HexRead
     if !digits::is_word(word, 16) {
         return HexRead::NotHex;
     }
-    if word.len() % 2 != 0 {
+    if word.len() % 2 == 1 {
         return HexRead::Odd;
     }
     let n = word.len() / 2;

@@ -1,7 +1,6 @@
 -- `text::read_decimal` meets its contract. The invariant: n, and what is left of the word behind it, is the word's number.
 use mathlib.Core.Path.{_≡_, refl, sym, _∙_}
 use Prim.Native.Nat.{_≤_, _-_}
-use native.Mathlib.Omega.{arith}
 use lib.ListN.{length, drop}
 use borrow.Author.Tests.{not-true, not-false}
 use Rattle.text.specs.Decimal.{behind, numberOf, largest}
@@ -57,7 +56,8 @@ returns-3 : tie.Need-returns-3 Inv-loop μ-loop
 returns-3 c =
     let l = c .before in
     let w = l .before .before .before .before .args .word .now in
-    number w (sym (l .before .before .is-word .ensures) ∙ not-false _ (l .before .if1 .left)) (l .loop .n) (search needs) (sym (l .loop .inv .2) ∙ none-behind w (l .loop .n) (l .loop .i) (search needs))
+    number w (sym (l .before .before .is-word .ensures) ∙ not-false _ (l .before .if1 .left)) (l .loop .n) (search needs)
+    (sym (l .loop .inv .2) ∙ none-behind w (l .loop .n) (l .loop .i) (search needs))
 
 pub read-decimal-spec : {M : Type 1} → statement M
 read-decimal-spec =

@@ -16,7 +16,8 @@ same-length c = search needs
 returns-2 : tie.Need-returns-2
 returns-2 c =
     let a = c .before .before .before .before .before .before .before .args in
-    wrote (a .word .now) (a .room .now) _ _ (search needs) (c .before .before .copy .ensures .0) (copied (a .word .now) (a .room .now) _ (c .before .before .copy .ensures .1))
+    wrote (a .word .now) (a .room .now) _ _ (search needs) (c .before .before .copy .ensures .0)
+    (copied (a .word .now) (a .room .now) _ (c .before .before .copy .ensures .1))
 
 pub write-spec : {M : Type 1} → statement M
 write-spec = tie.close (tie.spec returns copy-requires same-length returns-2)

@@ -1,7 +1,7 @@
 -- `decimal::zeros` meets its contract. The invariant: what is left has the same digits from the first that is not 0.
 use mathlib.Core.Path.{_≡_, refl, sym, _∙_}
 use Prim.Native.Nat.{_≤_, _-_}
-use lib.ListN.{length, drop}
+use lib.ListN.{drop}
 use Rattle.text.specs.Decimal.{stripped}
 use Rattle.text.proofs.Decimals.{zero-on, zeros-end, last-digit}
 use borrow.Author.Needs.{needs}

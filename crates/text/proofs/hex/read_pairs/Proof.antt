@@ -68,8 +68,12 @@ loop-less c = search needs
 loop-again : tie.Need-loop-again Inv-loop μ-loop
 loop-again c =
     let l = c .before .before .before .before .before in
-    let a = l .before .before .before .args in
-    (search needs, simp length-set (search needs), byte-next (a .word .now) (a .room .now) (l .loop .room) (l .loop .i) _ _ (search needs) (search needs) (l .loop .inv .2) (c .before .before .value .ensures) (c .value2 .ensures))
+    let a = l .before .before .before .args in (
+      search needs,
+      simp length-set (search needs),
+      byte-next (a .word .now) (a .room .now) (l .loop .room) (l .loop .i) _ _ (search needs) (search needs) (l .loop .inv .2)
+          (c .before .before .value .ensures) (c .value2 .ensures),
+    )
 
 same-length : tie.Need-same-length Inv-loop μ-loop
 same-length c = search needs

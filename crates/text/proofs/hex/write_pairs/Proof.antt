@@ -19,11 +19,14 @@ abbrev μ-loop : tie.MeasureT-loop
 loop-holds : tie.Need-loop-holds Inv-loop μ-loop
 loop-holds c = (search needs, search needs, refl)
 
-shared-slice-read-b : tie.Need-shared-slice-read-b Inv-loop μ-loop
-shared-slice-read-b c = search needs
+shared-slice-read-pair : tie.Need-shared-slice-read-pair Inv-loop μ-loop
+shared-slice-read-pair c = search needs
 
-high-requires : tie.Need-high-requires Inv-loop μ-loop
-high-requires c κs = search needs
+pair-requires : tie.Need-pair-requires Inv-loop μ-loop
+pair-requires c κs = search needs
+
+array-read-room : tie.Need-array-read-room Inv-loop μ-loop
+array-read-room c = search needs
 
 mul-room : tie.Need-mul-room Inv-loop μ-loop
 mul-room c = search needs
@@ -31,8 +34,8 @@ mul-room c = search needs
 slice-write-room : tie.Need-slice-write-room Inv-loop μ-loop
 slice-write-room c = search needs
 
-low-requires : tie.Need-low-requires Inv-loop μ-loop
-low-requires c κs = search needs
+array-read-room-2 : tie.Need-array-read-room-2 Inv-loop μ-loop
+array-read-room-2 c = search needs
 
 mul-room-2 : tie.Need-mul-room-2 Inv-loop μ-loop
 mul-room-2 c = search needs
@@ -51,9 +54,12 @@ loop-less c = search needs
 
 loop-again : tie.Need-loop-again Inv-loop μ-loop
 loop-again c =
-    let l = c .before .before .before .before in
-    let a = l .before .before .before .args in
-    (search needs, simp length-set (search needs), pair-next (a .bytes .now) (a .room .now) (l .loop .room) (l .loop .i) _ _ (search needs) (search needs) (l .loop .inv .2) (c .before .high .ensures) (c .low .ensures))
+    let l = c .before .before .before in
+    let a = l .before .before .before .args in (
+      search needs,
+      simp length-set (search needs),
+      pair-next (a .bytes .now) (a .room .now) (l .loop .room) (l .loop .i) (c .pair .result) (search needs) (search needs) (l .loop .inv .2) (c .pair .ensures),
+    )
 
 same-length : tie.Need-same-length Inv-loop μ-loop
 same-length c = search needs
@@ -71,11 +77,12 @@ write-pairs-spec =
     Inv-loop
     μ-loop
     loop-holds
-    shared-slice-read-b
-    high-requires
+    shared-slice-read-pair
+    pair-requires
+    array-read-room
     mul-room
     slice-write-room
-    low-requires
+    array-read-room-2
     mul-room-2
     add-room
     slice-write-room-2
