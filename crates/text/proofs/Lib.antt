@@ -11,3 +11,4 @@ pub mod HexInverse
 pub mod DecimalInverse
 pub mod Said
 pub mod Examples
+pub mod Inhabited
