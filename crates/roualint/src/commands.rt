@@ -1,12 +1,12 @@
 // Which command a line is.
-use crate::answer;
-use crate::bench::Bench;
-use crate::cipher;
 use crate::explain;
-use crate::fields;
-use crate::messages;
-use crate::played;
-use crate::words::word;
+use console::answer;
+use console::fields;
+use console::words::word;
+use desk::Desk;
+use desk::cipher;
+use desk::messages;
+use desk::played;
 use payload::same;
 
 enum Command {
@@ -73,59 +73,59 @@ fn named_else(name: &[u8]) -> Command {
     Command::Unknown
 }
 
-// The answer to a line that has a word, and the bench after it.
-pub fn answered(b: Bench, line: &[u8], identity: &mut [u8], user: &mut [u8]) -> Bench {
+// The answer to a line that has a word, and the desk after it.
+pub fn answered(d: Desk, line: &[u8], identity: &mut [u8], user: &mut [u8]) -> Desk {
     match named(word(line, 0)) {
         Command::Sheet => {
-            return played::sheet(b, line, identity, user);
+            return played::sheet(d, line, identity, user);
         }
         Command::Area => {
-            return played::area(b, line, identity, user);
+            return played::area(d, line, identity, user);
         }
         Command::Areas => {
-            played::areas(b, line, identity, user);
-            return b;
+            played::areas(d, line, identity, user);
+            return d;
         }
         Command::Power => {
-            return played::power(b, line);
+            return played::power(d, line);
         }
         Command::Message => {
-            return played::message(b, line, identity, user);
+            return played::message(d, line, identity, user);
         }
         Command::Keys => {
-            return messages::keys(b, line);
+            return messages::keys(d, line);
         }
         Command::Build => {
-            messages::build(b, line);
-            return b;
+            messages::build(d, line);
+            return d;
         }
         Command::Judge => {
-            messages::judged(b, line);
-            return b;
+            messages::judged(d, line);
+            return d;
         }
         Command::Aes => {
             cipher::aes(line);
-            return b;
+            return d;
         }
         Command::Cbc => {
             cipher::cbc(line);
-            return b;
+            return d;
         }
         Command::Cmac => {
             cipher::cmac(line);
-            return b;
+            return d;
         }
         Command::Explain => {
             explained(line);
-            return b;
+            return d;
         }
         Command::Help => {
             helped(line);
-            return b;
+            return d;
         }
         Command::Unknown => {
             answer::line(b"error: unknown command\n");
-            return b;
+            return d;
         }
     }
 }

@@ -1,10 +1,9 @@
 // Standard input, line by line.
-use crate::answer;
-use crate::bench;
-use crate::bench::Bench;
 use crate::commands;
-use crate::words::before_comment;
-use crate::words::count;
+use console::answer;
+use console::words::before_comment;
+use console::words::count;
+use desk::Desk;
 use libc::STDIN_FILENO;
 
 // How much of a line there is, and whether it has more than its room.
@@ -27,7 +26,7 @@ pub fn lines() {
 // The whole input, and each line of it that has an end.
 fn whole(line: &mut [u8], identity: &mut [u8], user: &mut [u8]) -> Heard {
     let mut h = Heard {
-        bench: bench::empty(),
+        desk: desk::empty(),
         line: fresh(),
         over: false,
     };
@@ -42,9 +41,9 @@ fn whole(line: &mut [u8], identity: &mut [u8], user: &mut [u8]) -> Heard {
     h
 }
 
-// What was heard so far: the bench, the line that has begun, and whether the input is over.
+// What was heard so far: the desk, the line that has begun, and whether the input is over.
 struct Heard {
-    bench: Bench,
+    desk: Desk,
     line: Line,
     over: bool,
 }
@@ -60,10 +59,10 @@ fn next(h: Heard, line: &mut [u8], identity: &mut [u8], user: &mut [u8]) -> Hear
 }
 
 fn at_end(h: Heard) -> Heard {
-    let b = h.bench;
+    let d = h.desk;
     let l = h.line;
     Heard {
-        bench: b,
+        desk: d,
         line: l,
         over: true,
     }
@@ -74,7 +73,7 @@ fn fresh() -> Line {
 }
 
 fn fed(h: Heard, part: &[u8], line: &mut [u8], identity: &mut [u8], user: &mut [u8]) -> Heard {
-    let mut b = h.bench;
+    let mut d = h.desk;
     let mut l = h.line;
     let mut i: usize = 0;
     while i < part.len() {
@@ -84,11 +83,11 @@ fn fed(h: Heard, part: &[u8], line: &mut [u8], identity: &mut [u8], user: &mut [
             l = longer(l, c, line);
             continue;
         }
-        b = ended(b, l, line, identity, user);
+        d = ended(d, l, line, identity, user);
         l = fresh();
     }
     Heard {
-        bench: b,
+        desk: d,
         line: l,
         over: false,
     }
@@ -98,30 +97,33 @@ fn longer(l: Line, c: u8, line: &mut [u8]) -> Line {
     let n = l.n;
     if n < line.len() {
         line[n] = c;
-        return Line { n: n + 1, cut: l.cut };
+        return Line {
+            n: n + 1,
+            cut: l.cut,
+        };
     }
     Line { n, cut: true }
 }
 
 // The last line may have no end.
 fn last(h: Heard, line: &[u8], identity: &mut [u8], user: &mut [u8]) {
-    let b = h.bench;
+    let d = h.desk;
     let l = h.line;
-    ended(b, l, line, identity, user);
+    ended(d, l, line, identity, user);
 }
 
-fn ended(b: Bench, l: Line, line: &[u8], identity: &mut [u8], user: &mut [u8]) -> Bench {
+fn ended(d: Desk, l: Line, line: &[u8], identity: &mut [u8], user: &mut [u8]) -> Desk {
     if l.cut {
         answer::line(b"error: line over 65536 bytes\n");
-        return b;
+        return d;
     }
     let n = answer::within(l.n, line);
-    told(b, before_comment(&line[..n]), identity, user)
+    told(d, before_comment(&line[..n]), identity, user)
 }
 
-fn told(b: Bench, line: &[u8], identity: &mut [u8], user: &mut [u8]) -> Bench {
+fn told(d: Desk, line: &[u8], identity: &mut [u8], user: &mut [u8]) -> Desk {
     if count(line) == 0 {
-        return b;
+        return d;
     }
-    commands::answered(b, line, identity, user)
+    commands::answered(d, line, identity, user)
 }

@@ -3,8 +3,8 @@ use Prim.Native.Nat.{_-_}
 use mathlib.Core.Path.{_≡_, refl}
 use lib.ListN.{length}
 use borrow.Author.Needs.{needs}
-use Rattle.roualint.proofs.words.next.Statement.{statement}
-use Rattle.roualint.proofs.words.next.Tie as tie
+use Rattle.console.proofs.words.next.Statement.{statement}
+use Rattle.console.proofs.words.next.Tie as tie
 
 -- Nothing has to be known of the place: it is looked at before it is read.
 abbrev Inv-loop : tie.InvT-loop

@@ -1,10 +1,10 @@
 // One exchange of each kind, the two halves against each other, told in words: the tag and the keys of Annex F with its draws and
 // challenges, so that a trainee finds many of the bytes in its tables.
-use crate::answer::line;
-use crate::answer::within;
-use crate::fields::read_into;
-use crate::told;
-use crate::told::Turn;
+mod told; // told.rt: what each half sends, and what the other finds
+
+use console::answer::line;
+use console::answer::within;
+use console::fields::read_into;
 use frames::Custom;
 use memory::BlockSize;
 use memory::Offset;
@@ -12,11 +12,14 @@ use reader::Keys;
 use reader::Made;
 use reader::build;
 use tag::Tag;
+use told::Turn;
 
 pub fn played() {
     let mut identity = [0u8; 18];
     read_into(b"a16a76656e69617a5265676e756d5475756d", &mut identity);
-    line(b"The sheet: all features, an identity area of 9 words, the keys 0 and 1 of Annex F, profile 1 over the whole area.\n");
+    line(
+        b"The sheet: all features, an identity area of 9 words, the keys 0 and 1 of Annex F, profile 1 over the whole area.\n",
+    );
     told::memory(&identity);
     exchanges(set_up(), &mut identity);
 }
@@ -98,13 +101,22 @@ fn tam1(t: Tag, identity: &mut [u8]) -> Tag {
     let mut room = [0u8; 176];
     let n = within(made(build::tam1(0, ichallenge(), &mut room)), &room);
     told::sent(b"TAM1, with ten bytes of challenge", &room[..n]);
-    let u = told::played(t, first_keys(), &room[..n], ten(b"6d696372000000000000"), identity);
+    let u = told::played(
+        t,
+        first_keys(),
+        &room[..n],
+        ten(b"6d696372000000000000"),
+        identity,
+        b"the tag has key 0",
+    );
     u.tag
 }
 
 // Table F.16.
 fn tam2(t: Tag, identity: &mut [u8]) -> Tag {
-    line(b"\nTAM2: the reader asks for two 64-bit blocks of profile 1, encrypted and with a MAC (ProtMode 3).\n");
+    line(
+        b"\nTAM2: the reader asks for two 64-bit blocks of profile 1, encrypted and with a MAC (ProtMode 3).\n",
+    );
     let mut room = [0u8; 176];
     let m = build::tam2(
         first_keys(),
@@ -116,8 +128,18 @@ fn tam2(t: Tag, identity: &mut [u8]) -> Tag {
         &mut room,
     );
     let n = within(made(m), &room);
-    told::sent(b"TAM2, with ten bytes of challenge and the address", &room[..n]);
-    let u = told::played(t, first_keys(), &room[..n], ten(b"72666964000000000000"), identity);
+    told::sent(
+        b"TAM2, with ten bytes of challenge and the address",
+        &room[..n],
+    );
+    let u = told::played(
+        t,
+        first_keys(),
+        &room[..n],
+        ten(b"72666964000000000000"),
+        identity,
+        b"the tag has key 0, and these are the words",
+    );
     u.tag
 }
 
@@ -133,7 +155,9 @@ fn custom(offset: u16, blockcount: u8) -> Custom {
 
 // Key 1; the challenge and IRnd of Table F.22 and F.23.
 fn iam3(t: Tag, identity: &mut [u8]) -> Tag {
-    line(b"\nIAM: the reader shows that it has key 1, and writes one 64-bit block at Offset 1. An Offset step is four words here: words 4 to 7.\n");
+    line(
+        b"\nIAM: the reader shows that it has key 1, and writes one 64-bit block at Offset 1. An Offset step is four words here: words 4 to 7.\n",
+    );
     let opened = iam1(t, identity);
     written(opened, identity)
 }
@@ -153,9 +177,19 @@ fn written(opened: Turn, identity: &mut [u8]) -> Tag {
         &mut room,
     );
     let n = within(made(m), &room);
-    told::sent(b"IAM3: by AES-DEC the tag's challenge and the block, with a MAC", &room[..n]);
+    told::sent(
+        b"IAM3: by AES-DEC the tag's challenge and the block, with a MAC",
+        &room[..n],
+    );
     let held = opened.tag;
-    let u = told::played(held, second_keys(), &room[..n], [0u8; 10], identity);
+    let u = told::played(
+        held,
+        second_keys(),
+        &room[..n],
+        [0u8; 10],
+        identity,
+        b"the tag says that it is done",
+    );
     told::memory(identity);
     u.tag
 }
@@ -164,7 +198,14 @@ fn iam1(t: Tag, identity: &mut [u8]) -> Turn {
     let mut room = [0u8; 176];
     let n = within(made(build::iam1(1, &mut room)), &room);
     told::sent(b"IAM1, asking for a challenge", &room[..n]);
-    told::played(t, second_keys(), &room[..n], ten(b"9786cafe01bb65dc2300"), identity)
+    told::played(
+        t,
+        second_keys(),
+        &room[..n],
+        ten(b"9786cafe01bb65dc2300"),
+        identity,
+        b"a challenge, which proves nothing yet",
+    )
 }
 
 // Tables F.32 and F.33.
@@ -182,12 +223,26 @@ fn answered(opened: Turn, identity: &mut [u8]) {
     let n = within(made(m), &room);
     told::sent(b"MAM2: by AES-DEC both challenges", &room[..n]);
     let held = opened.tag;
-    told::played(held, second_keys(), &room[..n], [0u8; 10], identity);
+    told::played(
+        held,
+        second_keys(),
+        &room[..n],
+        [0u8; 10],
+        identity,
+        b"the tag says that it is done",
+    );
 }
 
 fn mam1(t: Tag, identity: &mut [u8]) -> Turn {
     let mut room = [0u8; 176];
     let n = within(made(build::mam1(1, ichallenge(), &mut room)), &room);
     told::sent(b"MAM1, with ten bytes of challenge", &room[..n]);
-    told::played(t, second_keys(), &room[..n], ten(b"566f6e20427261756e20"), identity)
+    told::played(
+        t,
+        second_keys(),
+        &room[..n],
+        ten(b"566f6e20427261756e20"),
+        identity,
+        b"the tag has key 1; its challenge is in the block and behind it",
+    )
 }

@@ -4,8 +4,8 @@ use native.Mathlib.Omega.{arith}
 use mathlib.Core.Path.{_≡_}
 use Prim.Native.Nat.{_≤_, _-_}
 use borrow.Author.Needs.{needs}
-use Rattle.roualint.proofs.played.clear.Statement.{statement}
-use Rattle.roualint.proofs.played.clear.Tie as tie
+use Rattle.desk.proofs.played.clear.Statement.{statement}
+use Rattle.desk.proofs.played.clear.Tie as tie
 
 abbrev Inv-loop : tie.InvT-loop
 Inv-loop area₀ i₀ area i = (i ≤ length area) × (length area ≡ length area₀)

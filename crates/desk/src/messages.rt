@@ -1,11 +1,11 @@
 // The reader's side's commands: keys, build, judge.
-use crate::answer;
-use crate::answer::within;
-use crate::bench::Bench;
-use crate::bench::with_keys;
-use crate::fields;
+use crate::Desk;
 use crate::orders;
-use crate::words::word;
+use crate::with_keys;
+use console::answer;
+use console::answer::within;
+use console::fields;
+use console::words::word;
 use frames::Kind;
 use reader::Judgement;
 use reader::Keys;
@@ -14,13 +14,13 @@ use reader::Verdict;
 use reader::Worth;
 use reader::judged::judge;
 
-pub fn keys(b: Bench, line: &[u8]) -> Bench {
+pub fn keys(d: Desk, line: &[u8]) -> Desk {
     if !fields::read(line, 1, b"km", 0) {
-        return b;
+        return d;
     }
     answer::ok();
     with_keys(
-        b,
+        d,
         Keys {
             enc: fields::sixteen(line, 1),
             mac: !payload::same(word(line, 2), b"-"),
@@ -30,15 +30,15 @@ pub fn keys(b: Bench, line: &[u8]) -> Bench {
 }
 
 // Has the reader's side its keys? Where not, it is said.
-fn held(b: Bench) -> bool {
-    if b.held {
+fn held(d: Desk) -> bool {
+    if d.held {
         return true;
     }
     answer::line(b"error: no keys yet\n");
     false
 }
 
-pub fn build(b: Bench, line: &[u8]) {
+pub fn build(d: Desk, line: &[u8]) {
     let name = word(line, 1);
     if name.len() == 0 {
         answer::line(b"error: word missing\n");
@@ -53,11 +53,11 @@ pub fn build(b: Bench, line: &[u8]) {
         return;
     }
     if orders::keyed(kind) {
-        if !held(b) {
+        if !held(d) {
             return;
         }
     }
-    let keys = b.keys;
+    let keys = d.keys;
     let mut room = [0u8; 176];
     let made = orders::made(keys, kind, line, &mut room);
     built(made, &room);
@@ -75,14 +75,14 @@ fn built(made: Made, room: &[u8]) {
     }
 }
 
-pub fn judged(b: Bench, line: &[u8]) {
+pub fn judged(d: Desk, line: &[u8]) {
     if !fields::read(line, 1, b"hh", 0) {
         return;
     }
-    if !held(b) {
+    if !held(d) {
         return;
     }
-    let keys = b.keys;
+    let keys = d.keys;
     let mut message = io::buffer();
     let m = within(fields::bytes(line, 1, &mut message), &message);
     let mut reply = io::buffer();

@@ -1,12 +1,12 @@
 // The soft tag's commands: sheet, area, areas, power, message.
-use crate::answer;
-use crate::answer::within;
-use crate::bench::Bench;
-use crate::bench::with_areas;
-use crate::bench::with_tag;
-use crate::fields;
-use crate::words::count;
-use crate::words::word;
+use crate::Desk;
+use crate::with_areas;
+use crate::with_tag;
+use console::answer;
+use console::answer::within;
+use console::fields;
+use console::words::count;
+use console::words::word;
 use lines::numbers::low_word;
 use lines::numbers::times;
 use sheet::Setup;
@@ -14,9 +14,9 @@ use sheet::Verdict;
 use tag::Outcome;
 use tag::State;
 
-pub fn sheet(b: Bench, line: &[u8], identity: &mut [u8], user: &mut [u8]) -> Bench {
+pub fn sheet(d: Desk, line: &[u8], identity: &mut [u8], user: &mut [u8]) -> Desk {
     if !fields::read(line, 1, b"h", 0) {
-        return b;
+        return d;
     }
     let mut room = io::buffer();
     let n = within(fields::bytes(line, 1, &mut room), &room);
@@ -30,21 +30,21 @@ pub fn sheet(b: Bench, line: &[u8], identity: &mut [u8], user: &mut [u8]) -> Ben
             answer::line(b" at ");
             answer::decimal(low_word(at));
             answer::line(b"\n");
-            return b;
+            return d;
         }
         Verdict::Whole => {
             answer::ok();
             clear(identity);
             clear(user);
-            return set_up(b, setup);
+            return set_up(d, setup);
         }
     }
 }
 
 // The tag at its power-up, with areas of the sheet's sizes.
-fn set_up(b: Bench, setup: Setup) -> Bench {
+fn set_up(d: Desk, setup: Setup) -> Desk {
     let sizes = setup.sizes;
-    let sized = with_areas(b, bytes_of(sizes.identity), bytes_of(sizes.user));
+    let sized = with_areas(d, bytes_of(sizes.identity), bytes_of(sizes.user));
     with_tag(sized, tag::power_up(setup))
 }
 
@@ -61,25 +61,25 @@ fn clear(area: &mut [u8]) {
     }
 }
 
-pub fn area(b: Bench, line: &[u8], identity: &mut [u8], user: &mut [u8]) -> Bench {
+pub fn area(d: Desk, line: &[u8], identity: &mut [u8], user: &mut [u8]) -> Desk {
     if !fields::read(line, 1, b"ah", 0) {
-        return b;
+        return d;
     }
     answer::ok();
     if fields::number(line, 1) == 0 {
         let n = fields::bytes(line, 2, identity);
-        return with_areas(b, n, b.user);
+        return with_areas(d, n, d.user);
     }
     let n = fields::bytes(line, 2, user);
-    with_areas(b, b.identity, n)
+    with_areas(d, d.identity, n)
 }
 
-pub fn areas(b: Bench, line: &[u8], identity: &[u8], user: &[u8]) {
+pub fn areas(d: Desk, line: &[u8], identity: &[u8], user: &[u8]) {
     if !fields::read(line, 1, b"", 0) {
         return;
     }
-    let i = within(b.identity, identity);
-    let u = within(b.user, user);
+    let i = within(d.identity, identity);
+    let u = within(d.user, user);
     answer::line(b"area 0 ");
     answer::hex(&identity[..i]);
     answer::line(b" area 1 ");
@@ -88,45 +88,45 @@ pub fn areas(b: Bench, line: &[u8], identity: &[u8], user: &[u8]) {
 }
 
 // Is there a tag? Where not, it is said.
-fn set(b: Bench) -> bool {
-    if b.set {
+fn set(d: Desk) -> bool {
+    if d.set {
         return true;
     }
     answer::line(b"error: no tag yet\n");
     false
 }
 
-pub fn power(b: Bench, line: &[u8]) -> Bench {
+pub fn power(d: Desk, line: &[u8]) -> Desk {
     if !fields::read(line, 1, b"", 0) {
-        return b;
+        return d;
     }
-    if !set(b) {
-        return b;
+    if !set(d) {
+        return d;
     }
     answer::ok();
-    let tag = b.tag;
+    let tag = d.tag;
     let setup = tag.setup;
-    with_tag(b, tag::power_up(setup))
+    with_tag(d, tag::power_up(setup))
 }
 
-pub fn message(b: Bench, line: &[u8], identity: &mut [u8], user: &mut [u8]) -> Bench {
+pub fn message(d: Desk, line: &[u8], identity: &mut [u8], user: &mut [u8]) -> Desk {
     if !fields::read(line, 1, b"hdr", 2) {
-        return b;
+        return d;
     }
-    if !set(b) {
-        return b;
+    if !set(d) {
+        return d;
     }
     if random(line) {
         let mut draws = [0u8; 10];
         if libc::getentropy(&mut draws) != 0 {
             answer::line(b"error: no random bytes\n");
-            return b;
+            return d;
         }
-        return sent(b, line, &draws, identity, user);
+        return sent(d, line, &draws, identity, user);
     }
     let mut room = io::buffer();
     let n = within(fields::bytes(line, 2, &mut room), &room);
-    sent(b, line, &room[..n], identity, user)
+    sent(d, line, &room[..n], identity, user)
 }
 
 // Are the draws those of the system's random source?
@@ -137,12 +137,12 @@ fn random(line: &[u8]) -> bool {
     payload::same(word(line, 2), b"*")
 }
 
-fn sent(b: Bench, line: &[u8], draws: &[u8], identity: &mut [u8], user: &mut [u8]) -> Bench {
+fn sent(d: Desk, line: &[u8], draws: &[u8], identity: &mut [u8], user: &mut [u8]) -> Desk {
     let mut message = io::buffer();
     let m = within(fields::bytes(line, 1, &mut message), &message);
     let mut room = io::buffer();
     let r = within(room_of(line), &room);
-    stepped(b, &message[..m], draws, &mut room[..r], identity, user)
+    stepped(d, &message[..m], draws, &mut room[..r], identity, user)
 }
 
 fn room_of(line: &[u8]) -> usize {
@@ -154,23 +154,23 @@ fn room_of(line: &[u8]) -> usize {
 
 // One message, played by the tag where the bench keeps it.
 fn stepped(
-    b: Bench,
+    d: Desk,
     message: &[u8],
     draws: &[u8],
     room: &mut [u8],
     identity: &mut [u8],
     user: &mut [u8],
-) -> Bench {
-    let t = b.tag;
-    let i = within(b.identity, identity);
-    let u = within(b.user, user);
+) -> Desk {
+    let t = d.tag;
+    let i = within(d.identity, identity);
+    let u = within(d.user, user);
     let s = tag::step(t, message, draws, room, &mut identity[..i], &mut user[..u]);
     let outcome = s.outcome;
     let next = s.tag;
     let session = next.session;
     let state = session.state;
     told(outcome, state, room);
-    with_tag(b, next)
+    with_tag(d, next)
 }
 
 fn told(outcome: Outcome, state: State, room: &[u8]) {

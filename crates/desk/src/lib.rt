@@ -1,9 +1,15 @@
-// What the bench keeps from one command to the next. The bytes of both areas stand beside it.
+// The command line's desk: what is kept from one command to the next, and the commands of each half and of the cipher. The bytes
+// of both areas stand beside it.
+pub mod cipher; // cipher.rt: aes, cbc, cmac
+pub mod messages; // messages.rt: keys, build, judge
+mod orders; // orders.rt: the messages to build
+pub mod played; // played.rt: sheet, area, areas, power, message
+
 use reader::Keys;
 use tag::Tag;
 
 // A tag, where a sheet was accepted; the bytes lent of each area; the reader's keys, where there are some.
-pub struct Bench {
+pub struct Desk {
     pub set: bool,
     pub tag: Tag,
     pub identity: usize,
@@ -13,11 +19,11 @@ pub struct Bench {
 }
 
 // Before the first command. The setup of an empty sheet, which is refused, is empty.
-pub fn empty() -> Bench {
+pub fn empty() -> Desk {
     let reading = sheet::read(b"");
     let setup = reading.setup;
     let tag = tag::power_up(setup);
-    Bench {
+    Desk {
         set: false,
         tag,
         identity: 0,
@@ -32,38 +38,38 @@ pub fn empty() -> Bench {
 }
 
 // The same tag after a message or at its power-up.
-pub fn with_tag(b: Bench, tag: Tag) -> Bench {
-    let keys = b.keys;
-    Bench {
+fn with_tag(d: Desk, tag: Tag) -> Desk {
+    let keys = d.keys;
+    Desk {
         set: true,
         tag,
-        identity: b.identity,
-        user: b.user,
-        held: b.held,
+        identity: d.identity,
+        user: d.user,
+        held: d.held,
         keys,
     }
 }
 
-pub fn with_areas(b: Bench, identity: usize, user: usize) -> Bench {
-    let tag = b.tag;
-    let keys = b.keys;
-    Bench {
-        set: b.set,
+fn with_areas(d: Desk, identity: usize, user: usize) -> Desk {
+    let tag = d.tag;
+    let keys = d.keys;
+    Desk {
+        set: d.set,
         tag,
         identity,
         user,
-        held: b.held,
+        held: d.held,
         keys,
     }
 }
 
-pub fn with_keys(b: Bench, keys: Keys) -> Bench {
-    let tag = b.tag;
-    Bench {
-        set: b.set,
+fn with_keys(d: Desk, keys: Keys) -> Desk {
+    let tag = d.tag;
+    Desk {
+        set: d.set,
         tag,
-        identity: b.identity,
-        user: b.user,
+        identity: d.identity,
+        user: d.user,
         held: true,
         keys,
     }

@@ -1,9 +1,9 @@
 // The cipher's commands: aes, cbc, cmac.
-use crate::answer;
-use crate::answer::within;
-use crate::fields;
-use crate::fields::sixteen;
-use crate::words::word;
+use console::answer;
+use console::answer::within;
+use console::fields;
+use console::fields::sixteen;
+use console::words::word;
 use modes::Chaining;
 
 pub fn aes(line: &[u8]) {
@@ -84,10 +84,18 @@ fn chained(form: Form, line: &[u8], input: &[u8], room: &mut [u8]) {
             told(modes::cbc_dec_aes(iv, key, input, room), room, input.len());
         }
         Form::EncAesInv => {
-            told(modes_inverse::cbc_enc_aes_inv(iv, key, input, room), room, input.len());
+            told(
+                modes_inverse::cbc_enc_aes_inv(iv, key, input, room),
+                room,
+                input.len(),
+            );
         }
         Form::DecAesInv => {
-            told(modes_inverse::cbc_dec_aes_inv(iv, key, input, room), room, input.len());
+            told(
+                modes_inverse::cbc_dec_aes_inv(iv, key, input, room),
+                room,
+                input.len(),
+            );
         }
         Form::NoForm => {
             return;

@@ -1,8 +1,8 @@
 -- `words::count` is safe and ends: the words that may still be counted fall.
 use Prim.Native.Nat.{_≤_, _-_}
 use borrow.Author.Needs.{needs}
-use Rattle.roualint.proofs.words.count.Statement.{statement}
-use Rattle.roualint.proofs.words.count.Tie as tie
+use Rattle.console.proofs.words.count.Statement.{statement}
+use Rattle.console.proofs.words.count.Tie as tie
 
 abbrev Inv-loop : tie.InvT-loop
 Inv-loop line at₀ n₀ at n = n ≤ 16

@@ -2,8 +2,8 @@
 use Prim.Native.Nat.{_≤_, _-_}
 use lib.ListN.{length}
 use borrow.Author.Needs.{needs}
-use Rattle.roualint.proofs.fields.each.Statement.{statement}
-use Rattle.roualint.proofs.fields.each.Tie as tie
+use Rattle.console.proofs.fields.each.Statement.{statement}
+use Rattle.console.proofs.fields.each.Tie as tie
 
 abbrev Inv-loop : tie.InvT-loop
 Inv-loop line from words kinds i₀ i = i ≤ length kinds

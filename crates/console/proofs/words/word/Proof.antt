@@ -1,8 +1,8 @@
 -- `words::word` is safe and ends: the words to be passed over fall.
 use Prim.Native.Nat.{_≤_}
 use borrow.Author.Needs.{needs}
-use Rattle.roualint.proofs.words.word.Statement.{statement}
-use Rattle.roualint.proofs.words.word.Tie as tie
+use Rattle.console.proofs.words.word.Statement.{statement}
+use Rattle.console.proofs.words.word.Tie as tie
 
 abbrev Inv-loop : tie.InvT-loop
 Inv-loop line k at₀ left₀ at left = left ≤ k

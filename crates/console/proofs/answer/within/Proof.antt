@@ -1,8 +1,8 @@
 -- `answer::within` counts bytes of its room: either it was asked for less than the room has, or it is the room's length.
 use borrow.Author.Needs.{needs}
 use Rattle.io.proofs.Counting.{counts}
-use Rattle.roualint.proofs.answer.within.Statement.{statement}
-use Rattle.roualint.proofs.answer.within.Tie as tie
+use Rattle.console.proofs.answer.within.Statement.{statement}
+use Rattle.console.proofs.answer.within.Tie as tie
 
 returns : tie.Need-returns
 returns c = counts _ _ (search needs)

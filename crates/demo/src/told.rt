@@ -1,7 +1,7 @@
 // A turn of the demo: what each half sends, and what the other finds, a line each.
-use crate::answer;
-use crate::answer::line;
-use crate::answer::within;
+use console::answer;
+use console::answer::line;
+use console::answer::within;
 use reader::Judgement;
 use reader::Keys;
 use reader::Verdict;
@@ -31,8 +31,15 @@ pub fn sent(what: &[u8], message: &[u8]) {
     line(b")\n");
 }
 
-// The tag hears a message, and the reader's side judges the reply.
-pub fn played(t: Tag, keys: Keys, message: &[u8], draws: [u8; 10], identity: &mut [u8]) -> Turn {
+// The tag hears a message, and the reader's side judges the reply; what a right reply means is said by the caller.
+pub fn played(
+    t: Tag,
+    keys: Keys,
+    message: &[u8],
+    draws: [u8; 10],
+    identity: &mut [u8],
+    meaning: &[u8],
+) -> Turn {
     let mut room = [0u8; 172];
     let mut user = [0u8; 0];
     let s = tag::step(t, message, &draws, &mut room, identity, &mut user);
@@ -44,7 +51,7 @@ pub fn played(t: Tag, keys: Keys, message: &[u8], draws: [u8; 10], identity: &mu
     heard(outcome, state, &room[..n]);
     let mut data = [0u8; 144];
     let j = judge(keys, message, &room[..n], &mut data);
-    found(j, &data);
+    found(j, meaning, &data);
     Turn {
         tag: next,
         judgement: j,
@@ -54,11 +61,12 @@ pub fn played(t: Tag, keys: Keys, message: &[u8], draws: [u8; 10], identity: &mu
 fn heard(outcome: Outcome, state: State, reply: &[u8]) {
     line(b"tag finds     ");
     match outcome {
-        Outcome::Replied(_) => line(b"a message that it supports"),
-        Outcome::Entered(_) => line(b"its own challenge under its key: the reader is let in"),
-        Outcome::Refused(_) => line(b"a fault, and sends nothing"),
+        Outcome::Replied(_) => line(b"a message that it answers; it goes to "),
+        Outcome::Entered(_) => line(
+            b"its own challenge under the key: the reader is let in; it goes to ",
+        ),
+        Outcome::Refused(_) => line(b"a fault; it goes to "),
     }
-    line(b"; it is in ");
     match state {
         State::Initial => line(b"Initial\n"),
         State::IamInit => line(b"IAM-Init\n"),
@@ -70,7 +78,7 @@ fn heard(outcome: Outcome, state: State, reply: &[u8]) {
     line(b"\n");
 }
 
-fn found(j: Judgement, room: &[u8]) {
+fn found(j: Judgement, meaning: &[u8], room: &[u8]) {
     let verdict = j.verdict;
     line(b"reader finds  ");
     match verdict {
@@ -79,26 +87,24 @@ fn found(j: Judgement, room: &[u8]) {
             answer::decimal(reader::number(fault) as u16);
             line(b"\n");
         }
-        Verdict::Accepted => accepted(j, room),
+        Verdict::Accepted => accepted(j, meaning, room),
     }
 }
 
-fn accepted(j: Judgement, room: &[u8]) {
+fn accepted(j: Judgement, meaning: &[u8], room: &[u8]) {
     let worth = j.worth;
-    let challenge = j.challenge;
     let n = within(j.data, room);
-    line(b"a right reply");
+    line(b"a right reply: ");
+    line(meaning);
     match worth {
-        Worth::NoData => line(b""),
-        Worth::Unproved => line(b", with data that no MAC proves: "),
-        Worth::Proved => line(b", with data that the MAC proves: "),
+        Worth::NoData => line(b"\n"),
+        Worth::Unproved => words(b", no MAC proves them: ", &room[..n]),
+        Worth::Proved => words(b", the MAC proves them: ", &room[..n]),
     }
-    if 0 < n {
-        answer::hex(&room[..n]);
-    }
-    if j.issued {
-        line(b", with the tag's challenge ");
-        answer::hex(&challenge);
-    }
+}
+
+fn words(worth: &[u8], data: &[u8]) {
+    line(worth);
+    answer::hex(data);
     line(b"\n");
 }

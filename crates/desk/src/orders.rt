@@ -1,10 +1,10 @@
 // A message to build: its kind, its fields as they stand in the line, and the call that builds it. A field out of its range is the
 // reader's own refusal.
-use crate::answer::within;
-use crate::fields;
-use crate::fields::fill;
-use crate::fields::number;
-use crate::fields::small;
+use console::answer::within;
+use console::fields;
+use console::fields::fill;
+use console::fields::number;
+use console::fields::small;
 use frames::Custom;
 use frames::Kind;
 use lines::numbers::sum;
@@ -145,7 +145,15 @@ fn tam2(keys: Keys, line: &[u8], room: &mut [u8]) -> Made {
     let rev = number(line, 3) == 1;
     let keyid = small(line, 4);
     let protmode = small(line, 9);
-    build::tam2(keys, keyid, ichallenge, rev, custom(line, 2, 6), protmode, room)
+    build::tam2(
+        keys,
+        keyid,
+        ichallenge,
+        rev,
+        custom(line, 2, 6),
+        protmode,
+        room,
+    )
 }
 
 // BlockSize stands at one word; Profile, Offset and BlockCount at another and those behind it.
