@@ -1,0 +1,4 @@
+mod Values
+mod Frees
+mod Stores
+pub mod Fits
