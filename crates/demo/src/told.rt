@@ -42,7 +42,7 @@ pub fn played(
 ) -> Turn {
     let mut room = [0u8; 172];
     let mut user = [0u8; 0];
-    let s = tag::step(t, message, &draws, &mut room, identity, &mut user);
+    let s = bench::kept(t, message, &draws, &mut room, identity, &mut user);
     let outcome = s.outcome;
     let next = s.tag;
     let session = next.session;

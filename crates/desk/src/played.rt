@@ -164,7 +164,7 @@ fn stepped(
     let t = d.tag;
     let i = within(d.identity, identity);
     let u = within(d.user, user);
-    let s = tag::step(t, message, draws, room, &mut identity[..i], &mut user[..u]);
+    let s = bench::kept(t, message, draws, room, &mut identity[..i], &mut user[..u]);
     let outcome = s.outcome;
     let next = s.tag;
     let session = next.session;
