@@ -1,2 +1,5 @@
-pub mod Exchanges
+pub mod Images
+pub mod Keeps
+pub mod Answers
 pub mod Fits
+pub mod FitsReader

@@ -1,1 +1,4 @@
-pub mod Play
+pub mod Image
+pub mod Kept
+pub mod Reader
+pub mod Chain

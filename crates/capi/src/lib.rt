@@ -2,10 +2,23 @@
 ghost use mathlib.Core.Path.{_≡_};
 ghost use Rattle.aes.specs.AesEnc.{aesEnc};
 ghost use Rattle.aes_inverse.specs.AesDec.{aesDec};
-ghost use Rattle.sheet.specs.Sheet.{readOf};
-ghost use Rattle.capi.specs.Play.{played, Leaves};
+ghost use Rattle.capi.specs.Image.{imageLength};
 
-mod play; // play.rt: one exchange with a tag at its power-up
+mod image; // image.rt: a tag as the bytes that its caller keeps
+pub mod kept; // kept.rt: the functions over such a tag
+mod given; // given.rt: what the reader's side is given and answers, as numbers
+pub mod build; // build.rt: each message of the reader's side
+pub mod judge; // judge.rt: the judge of a reply
+pub mod chain; // chain.rt: chaining and the MAC
+
+/// How many bytes a kept tag has: 827.
+/// Ruled out: the length of one sheet; an image with no room for the longest sheet.
+#[no_mangle]
+pub extern "C" fn roualint_tag_bytes() -> usize
+    ensures { λ r. ⌜ r ≡ imageLength ⌝ }
+{
+    827
+}
 
 // AES-ENC of a block, in place.
 // Ruled out: AES-DEC; the block left as it was.
@@ -25,32 +38,4 @@ pub extern "C" fn roualint_aes_dec(key: &[u8; 16], block: &mut [u8; 16])
 {
     let output = aes_inverse::decrypt(*key, *block);
     *block = output;
-}
-
-// The tag of a sheet, powered up so many times and each time sent the first message, and the second where it is not empty.
-// Gives how many of these exchanges ended with an accepted message. This is only what docs/src/bench times: the functions
-// by which a host keeps a tag from one call to the next are not here yet.
-// Ruled out: exchanges that are counted and not played; room or areas set back between two exchanges.
-#[no_mangle]
-pub extern "C" fn roualint_play(
-    sheet: &[u8],
-    first: &[u8],
-    second: &[u8],
-    draws: &[u8],
-    room: &mut [u8],
-    identity: &mut [u8],
-    user: &mut [u8],
-    times: usize,
-) -> usize
-    ensures { λ r. ⌜ Leaves (played (now (draws .entry)) (readOf (now (sheet .entry)) .setup) (now (first .entry)) (now (second .entry)) times (now (room .entry)) (now (identity .entry)) (now (user .entry))) r (now (room .exit)) (now (identity .exit)) (now (user .exit)) ⌝ }
-{
-    let reading = sheet::read(sheet);
-    let setup = reading.setup;
-    let mut accepted: usize = 0;
-    let mut i: usize = 0;
-    while i < times {
-        accepted += play::exchange(setup, first, second, draws, room, identity, user);
-        i += 1;
-    }
-    accepted
 }

@@ -2,7 +2,8 @@
 //!
 //! Both sides are called through a pointer with an exchange and a number of times. Each reads the sheet once, and then so
 //! many times powers the tag up and sends it the messages of the exchange. The draws are given, so the same answer to a
-//! challenge is accepted each time.
+//! challenge is accepted each time. The proved tag is kept as the image of bytes that the library hands out: each of its
+//! calls, the power-up too, reads the sheet in it anew, and how long a power-up takes is told by itself.
 
 use crate::exchanges::{all, areas, tag_sheet, Exchange, DRAWS};
 use crate::memory::Memory;
@@ -12,15 +13,17 @@ use crate::tag::{Answer, Tag, ROOM};
 use std::hint::black_box;
 use std::time::Instant;
 
+/// The bytes of a kept tag.
+const IMAGE: usize = 827;
+
 #[link(name = "capi", kind = "static")]
 extern "C" {
-    fn roualint_play(
-        sheet: *const u8,
-        sheet_bytes: usize,
-        first: *const u8,
-        first_bytes: usize,
-        second: *const u8,
-        second_bytes: usize,
+    fn roualint_sheet(sheet: *const u8, sheet_bytes: usize, tag: &mut [u8; IMAGE], place: &mut usize) -> u8;
+    fn roualint_power_up(tag: &mut [u8; IMAGE]) -> u8;
+    fn roualint_message(
+        tag: &mut [u8; IMAGE],
+        message: *const u8,
+        message_bytes: usize,
         draws: *const u8,
         draws_bytes: usize,
         room: *mut u8,
@@ -29,8 +32,9 @@ extern "C" {
         identity_bytes: usize,
         user: *mut u8,
         user_bytes: usize,
-        times: usize,
-    ) -> usize;
+        told: &mut usize,
+        purpose: &mut u8,
+    ) -> u8;
 }
 
 /// What is lent to a tag.
@@ -68,17 +72,45 @@ fn rust(exchange: &Exchange, bench: &mut Bench, times: usize) -> usize {
 }
 
 fn rattle(exchange: &Exchange, bench: &mut Bench, times: usize) -> usize {
+    let mut tag = kept(&bench.sheet);
+    let mut accepted = 0;
+    for _ in 0..times {
+        power_up(&mut tag);
+        let mut number = send(&mut tag, black_box(&exchange.first), bench);
+        if !exchange.second.is_empty() {
+            number = send(&mut tag, black_box(&exchange.second), bench);
+        }
+        accepted += usize::from(number == 0);
+    }
+    accepted
+}
+
+/// The image of a tag.
+fn kept(sheet: &[u8]) -> [u8; IMAGE] {
+    let (mut tag, mut place) = ([0; IMAGE], 0);
+    // The Rattle function reads the sheet's bytes, writes tag and place, and keeps no pointer.
+    let number = unsafe { roualint_sheet(sheet.as_ptr(), sheet.len(), &mut tag, &mut place) };
+    assert_eq!(number, 0, "a good sheet");
+    tag
+}
+
+fn power_up(tag: &mut [u8; IMAGE]) {
+    // The Rattle function reads and writes the tag's bytes alone.
+    let number = unsafe { roualint_power_up(tag) };
+    assert_eq!(number, 0, "a tag");
+}
+
+/// The number of a message: 0 where it is accepted.
+fn send(tag: &mut [u8; IMAGE], message: &[u8], bench: &mut Bench) -> u8 {
     let (identity, user) = (&mut bench.memory.identity, &mut bench.memory.user);
+    let (mut told, mut purpose) = (0, 0);
     // The Rattle function reads and writes the bytes that each pointer and length name, no two of which overlap, and
     // keeps none of the pointers.
     unsafe {
-        roualint_play(
-            bench.sheet.as_ptr(),
-            bench.sheet.len(),
-            exchange.first.as_ptr(),
-            exchange.first.len(),
-            exchange.second.as_ptr(),
-            exchange.second.len(),
+        roualint_message(
+            tag,
+            message.as_ptr(),
+            message.len(),
             DRAWS.as_ptr(),
             DRAWS.len(),
             bench.room.as_mut_ptr(),
@@ -87,7 +119,8 @@ fn rattle(exchange: &Exchange, bench: &mut Bench, times: usize) -> usize {
             identity.len(),
             user.as_mut_ptr(),
             user.len(),
-            times,
+            &mut told,
+            &mut purpose,
         )
     }
 }
@@ -113,7 +146,21 @@ pub fn measure() -> Result<(), String> {
     for ([rust, rattle], exchange) in best.into_iter().zip(&all) {
         println!("{:35}{rust:>12.0}{rattle:>12.0}{:>15.2}", exchange.name, rattle / rust);
     }
+    let times = (0..ROUNDS).map(|_| nanoseconds_a_power_up());
+    println!(
+        "nanoseconds of the proved tag's power-up alone: {:.0}",
+        times.fold(f64::INFINITY, f64::min)
+    );
     Ok(())
+}
+
+fn nanoseconds_a_power_up() -> f64 {
+    let mut tag = kept(&tag_sheet());
+    let start = Instant::now();
+    for _ in 0..TIMES {
+        power_up(black_box(&mut tag));
+    }
+    start.elapsed().as_secs_f64() * 1e9 / TIMES as f64
 }
 
 /// Whether both accept the exchange, reply the same and leave the same in the areas. The second message has no reply, so

@@ -1,0 +1,39 @@
+-- `build::roualint_build_mam2` meets its contract.
+use Rattle.reader.proofs.Making.{yes, no}
+use Rattle.capi.proofs.Answers.{not-given, built-given}
+use borrow.Author.Needs.{needs}
+use Rattle.capi.proofs.build.roualint_build_mam2.Statement.{statement}
+use Rattle.capi.proofs.build.roualint_build_mam2.Tie as tie
+
+mac-given-requires : tie.Need-mac-given-requires
+mac-given-requires c κs = search needs
+
+returns : tie.Need-returns
+returns c = not-given _ _ _ _ (no (c .before .mac-given .ensures) (c .if1 .taken))
+
+keys-of-requires : tie.Need-keys-of-requires
+keys-of-requires c κs = search needs
+
+mam2-requires : tie.Need-mam2-requires
+mam2-requires c κs = search needs
+
+length-of-requires : tie.Need-length-of-requires
+length-of-requires c κs = search needs
+
+same-length : tie.Need-same-length
+same-length c = search needs
+
+returns-2 : tie.Need-returns-2
+returns-2 c = built-given _ _ _ _ _ _ _ (yes (c .before .before .before .before .before .before .before .before .before .before .mac-given .ensures) (c .before .before .before .before .before .before .before .before .before .if1 .left)) (rw (c .before .before .before .before .before .before .before .keys-of .ensures) at (c .before .before .before .mam2 .ensures)) (c .length-of .ensures)
+
+pub roualint-build-mam2-spec : {M : Type 1} → statement M
+roualint-build-mam2-spec =
+    tie.close
+    (tie.spec
+    mac-given-requires
+    returns
+    keys-of-requires
+    mam2-requires
+    length-of-requires
+    same-length
+    returns-2)

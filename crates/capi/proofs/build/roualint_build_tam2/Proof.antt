@@ -1,0 +1,43 @@
+-- `build::roualint_build_tam2` meets its contract.
+use Rattle.reader.proofs.Making.{yes, no}
+use Rattle.capi.proofs.Answers.{not-given, built-given}
+use borrow.Author.Needs.{needs}
+use Rattle.capi.proofs.build.roualint_build_tam2.Statement.{statement}
+use Rattle.capi.proofs.build.roualint_build_tam2.Tie as tie
+
+bits-given-requires : tie.Need-bits-given-requires
+bits-given-requires c κs = search needs
+
+returns : tie.Need-returns
+returns c = not-given _ _ _ _ (no (c .before .bits-given .ensures) (c .if1 .taken))
+
+keys-of-requires : tie.Need-keys-of-requires
+keys-of-requires c κs = search needs
+
+custom-of-requires : tie.Need-custom-of-requires
+custom-of-requires c κs = search needs
+
+tam2-requires : tie.Need-tam2-requires
+tam2-requires c κs = search needs
+
+length-of-requires : tie.Need-length-of-requires
+length-of-requires c κs = search needs
+
+same-length : tie.Need-same-length
+same-length c = search needs
+
+returns-2 : tie.Need-returns-2
+returns-2 c = built-given _ _ _ _ _ _ _ (yes (c .before .before .before .before .before .before .before .before .before .before .bits-given .ensures) (c .before .before .before .before .before .before .before .before .before .if1 .left)) (rw (c .before .before .before .before .before .before .before .keys-of .ensures, c .before .before .before .before .before .before .custom-of .ensures) at (c .before .before .before .tam2 .ensures)) (c .length-of .ensures)
+
+pub roualint-build-tam2-spec : {M : Type 1} → statement M
+roualint-build-tam2-spec =
+    tie.close
+    (tie.spec
+    bits-given-requires
+    returns
+    keys-of-requires
+    custom-of-requires
+    tam2-requires
+    length-of-requires
+    same-length
+    returns-2)

@@ -1,0 +1,137 @@
+// The seven messages of the reader's side, from plain numbers, over the first bytes of a lent room. Each answers the message's length;
+// or 0, which is number 24: a field out of its range, ProtMode 2 or 3 with no MAC key, or a room of under 176 bytes. Then no byte of the room changes.
+use super::given;
+use reader::build;
+ghost use mathlib.Core.Bool.{true};
+ghost use lib.ListN.{length};
+ghost use Rattle.ground.specs.Choice.{both};
+ghost use Rattle.frames.specs.Fields.{flag, customFits};
+ghost use Rattle.reader.specs.Own.{modeFits};
+ghost use Rattle.reader.specs.Builds.{purposeFits, tam1Made, tam2Made, iam1Made, mam1Made, iam2Made, mam2Made, iam3Made, iam3Fits};
+ghost use Rattle.capi.specs.Reader.{macGiven, sizeGiven, bitsGiven, keysOf, customOf, Builds};
+
+/// TAM1. Ruled out: a message in a room of 175 bytes; the challenge cut.
+#[no_mangle]
+pub extern "C" fn roualint_build_tam1(keyid: u8, ichallenge: &[u8; 10], room: &mut [u8]) -> usize
+    ensures { λ r. ⌜ Builds true (tam1Made keyid (now (ichallenge .entry))) (now (room .entry)) r (now (room .exit)) ⌝ }
+{
+    given::length_of(build::tam1(keyid, *ichallenge, room))
+}
+
+/// TAM2, by the reader's keys: BlockSize 0 (64-bit blocks) or 1 (16-bit blocks), Rev 0 or 1.
+/// Ruled out: BlockSize 2; ProtMode 2 with no MAC key.
+#[no_mangle]
+pub extern "C" fn roualint_build_tam2(
+    enc: &[u8; 16],
+    mac: &[u8],
+    blocksize: u8,
+    rev: u8,
+    keyid: u8,
+    ichallenge: &[u8; 10],
+    profile: u8,
+    offset: u16,
+    blockcount: u8,
+    protmode: u8,
+    room: &mut [u8],
+) -> usize
+    ensures { λ r. ⌜ Builds (both (bitsGiven (now (mac .entry)) blocksize rev) (both (modeFits (keysOf (now (enc .entry)) (now (mac .entry))) protmode) (customFits (customOf blocksize profile offset blockcount)))) (tam2Made keyid (now (ichallenge .entry)) (flag rev) (customOf blocksize profile offset blockcount) protmode) (now (room .entry)) r (now (room .exit)) ⌝ }
+{
+    if !given::bits_given(mac, blocksize, rev) {
+        return 0;
+    }
+    let keys = given::keys_of(*enc, mac);
+    let custom = given::custom_of(blocksize, profile, offset, blockcount);
+    given::length_of(build::tam2(keys, keyid, *ichallenge, rev == 1, custom, protmode, room))
+}
+
+/// IAM1. Ruled out: the first byte of MAM1; bytes behind the message cleared.
+#[no_mangle]
+pub extern "C" fn roualint_build_iam1(keyid: u8, room: &mut [u8]) -> usize
+    ensures { λ r. ⌜ Builds true (iam1Made keyid) (now (room .entry)) r (now (room .exit)) ⌝ }
+{
+    given::length_of(build::iam1(keyid, room))
+}
+
+/// IAM2, by the reader's keys: the answer to the challenge of an IAM1.
+/// Ruled out: IResponse by AES-ENC; Purpose 16.
+#[no_mangle]
+pub extern "C" fn roualint_build_iam2(
+    enc: &[u8; 16],
+    mac: &[u8],
+    purpose: u8,
+    irnd: &[u8; 4],
+    tchallenge: &[u8; 10],
+    room: &mut [u8],
+) -> usize
+    ensures { λ r. ⌜ Builds (both (macGiven (now (mac .entry))) (purposeFits purpose)) (iam2Made (keysOf (now (enc .entry)) (now (mac .entry))) purpose (now (irnd .entry)) (now (tchallenge .entry))) (now (room .entry)) r (now (room .exit)) ⌝ }
+{
+    if !given::mac_given(mac) {
+        return 0;
+    }
+    let keys = given::keys_of(*enc, mac);
+    given::length_of(build::iam2(keys, purpose, *irnd, *tchallenge, room))
+}
+
+/// IAM3, by the reader's keys: the same answer, and data to be written.
+/// Ruled out: fewer bytes of data than BlockCount says, filled up; BlockSize 2 taken for 1.
+#[no_mangle]
+pub extern "C" fn roualint_build_iam3(
+    enc: &[u8; 16],
+    mac: &[u8],
+    blocksize: u8,
+    profile: u8,
+    offset: u16,
+    blockcount: u8,
+    protmode: u8,
+    purpose: u8,
+    irnd: &[u8; 4],
+    tchallenge: &[u8; 10],
+    words: &[u8],
+    room: &mut [u8],
+) -> usize
+    ensures { λ r. ⌜ Builds (both (sizeGiven (now (mac .entry)) blocksize) (iam3Fits (keysOf (now (enc .entry)) (now (mac .entry))) (customOf blocksize profile offset blockcount) protmode purpose (length (now (words .entry))))) (iam3Made (keysOf (now (enc .entry)) (now (mac .entry))) (customOf blocksize profile offset blockcount) protmode purpose (now (irnd .entry)) (now (tchallenge .entry)) (now (words .entry))) (now (room .entry)) r (now (room .exit)) ⌝ }
+{
+    if !given::size_given(mac, blocksize) {
+        return 0;
+    }
+    let keys = given::keys_of(*enc, mac);
+    let custom = given::custom_of(blocksize, profile, offset, blockcount);
+    given::length_of(build::iam3(
+        keys,
+        custom,
+        protmode,
+        purpose,
+        *irnd,
+        *tchallenge,
+        words,
+        room,
+    ))
+}
+
+/// MAM1. Ruled out: the first byte of TAM1; a room of 175 bytes taken.
+#[no_mangle]
+pub extern "C" fn roualint_build_mam1(keyid: u8, ichallenge: &[u8; 10], room: &mut [u8]) -> usize
+    ensures { λ r. ⌜ Builds true (mam1Made keyid (now (ichallenge .entry))) (now (room .entry)) r (now (room .exit)) ⌝ }
+{
+    given::length_of(build::mam1(keyid, *ichallenge, room))
+}
+
+/// MAM2, by the reader's keys: the answer to the challenge of a MAM1.
+/// Ruled out: the two challenges exchanged; a MAC key of fifteen bytes.
+#[no_mangle]
+pub extern "C" fn roualint_build_mam2(
+    enc: &[u8; 16],
+    mac: &[u8],
+    purpose: u8,
+    ichallenge: &[u8; 10],
+    tchallenge: &[u8; 10],
+    room: &mut [u8],
+) -> usize
+    ensures { λ r. ⌜ Builds (both (macGiven (now (mac .entry))) (purposeFits purpose)) (mam2Made (keysOf (now (enc .entry)) (now (mac .entry))) purpose (now (ichallenge .entry)) (now (tchallenge .entry))) (now (room .entry)) r (now (room .exit)) ⌝ }
+{
+    if !given::mac_given(mac) {
+        return 0;
+    }
+    let keys = given::keys_of(*enc, mac);
+    given::length_of(build::mam2(keys, purpose, *ichallenge, *tchallenge, room))
+}
