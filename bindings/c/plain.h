@@ -1,0 +1,11 @@
+/* What is tested with no tag. */
+#ifndef PLAIN_H
+#define PLAIN_H
+
+/* Number 24, for each reason. */
+void builder_refusals(void);
+
+/* Published vectors, each form undone, and number 8. */
+void cipher_and_chaining(void);
+
+#endif

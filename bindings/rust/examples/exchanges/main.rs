@@ -1,0 +1,209 @@
+//! Both halves of the bench through the crate: exchanges of Annex F, refusals of each family, and that no byte outside of
+//! what is lent is written. Prints one line where all is well; else it panics, and the status is not 0.
+
+mod bench;
+mod chaining;
+
+use bench::{annex_f_sheet, array, hex, number, reader, Bench, IAM2, ICHALLENGE, IRND, OPENING, RFID, TCHALLENGE, VON_BRAUN};
+use roualint::{Areas, BlockSize, Custom, Judgement, Reader, Refusal, State, Tag, Worth, TAG_BYTES};
+use std::mem::{align_of, size_of};
+
+fn custom(size: BlockSize, profile: u8, offset: u16, count: u8, protmode: u8) -> Custom {
+    Custom {
+        size,
+        profile,
+        offset,
+        count,
+        protmode,
+    }
+}
+
+/// An accepted reply with these data, or with this challenge.
+fn judged(judgement: Result<Judgement, Refusal>, data: &str, worth: Worth, challenge: Option<&str>) {
+    let judgement = judgement.expect("accepted");
+    assert_eq!((judgement.data.to_vec(), judgement.worth), (hex(data), worth), "the data");
+    assert_eq!(judgement.challenge, challenge.map(array), "the challenge");
+}
+
+fn layout() {
+    assert_eq!(
+        (size_of::<Tag>(), align_of::<Tag>()),
+        (TAG_BYTES, 1),
+        "a tag has its bytes and nothing else"
+    );
+    assert_eq!(Tag::library_bytes(), size_of::<Tag>(), "the library's tag has as many bytes");
+}
+
+fn sheets() {
+    let sheet = annex_f_sheet();
+    let mut tag = Tag::new(&sheet).expect("Annex F's sheet");
+    let bytes = tag.as_bytes();
+    assert_eq!(
+        (sheet.len(), &bytes[16..18]),
+        (90, &[0, 90][..]),
+        "the sheet's length, most significant byte first"
+    );
+    assert!(
+        bytes[..16] == [0; 16] && bytes[18..108] == sheet && bytes[108..].iter().all(|&b| b == 0),
+        "session, sheet and zeros"
+    );
+    assert_eq!(
+        (tag.state(), tag.areas()),
+        (State::Initial, Areas { identity: 18, user: 0 }),
+        "a new tag"
+    );
+
+    let before = tag.clone();
+    for (cut, refused, place) in [(&sheet[..0], 30, 0), (&sheet[..20], 30, 8), (&sheet[3..], 32, 0)] {
+        let refusal = tag.set_up(cut).expect_err("refused");
+        assert_eq!((refusal.refusal.number(), refusal.place), (refused, place), "a refused sheet");
+    }
+    assert_eq!(tag, before, "a refused sheet leaves the tag as it was");
+    tag.set_up(&hex(&[OPENING, "06"].concat())).expect("three records");
+    assert!(tag.as_bytes()[27..].iter().all(|&b| b == 0), "no byte of the older sheet is left");
+
+    let mut bytes = *before.as_bytes();
+    assert_eq!(Tag::from_bytes(bytes).as_ref(), Ok(&before), "bytes of a tag");
+    bytes[0] = 4;
+    assert_eq!(number(Tag::from_bytes(bytes)), Some(7), "a state that is none");
+    assert_eq!(number(Tag::from_bytes([0; TAG_BYTES])), Some(7), "zeros");
+}
+
+fn tag_authentication() {
+    let (mut bench, reader, other) = (Bench::annex_f(), reader(0), reader(1));
+    let message = reader.build_tam1(0, &array(ICHALLENGE)).expect("TAM1");
+    let tag = bench.answers(&message, "6D696372000000000000", "E920530CC781B20CFE1AB4A0144E7335", State::Initial);
+    judged(reader.judge(&message, &tag.reply), "", Worth::NoData, None);
+    assert_eq!(number(reader.judge(&message, &tag.reply[1..])), Some(20));
+    assert_eq!(number(other.judge(&message, &tag.reply)), Some(21));
+    assert_eq!(number(reader.judge(&message[1..], &tag.reply)), Some(24));
+
+    // F.16: Rev 1, ProtMode 3.
+    let message = reader
+        .build_tam2(true, 0, &array(ICHALLENGE), custom(BlockSize::Bits64, 1, 0, 1, 3))
+        .expect("TAM2");
+    assert_eq!(*message, hex("2800 96564402375796C69664 100013"), "the message is Annex F's");
+    let reply = "67039773F2C3C8E8B1D29254BADEF7C9 B86966552DEE705111D4C077009D777C 6D725BCD8DC8FA5C83960148241958C2
+        E3546DEA93F24EE9B9799A43";
+    let tag = bench.answers(&message, RFID, reply, State::Initial);
+    judged(
+        reader.judge(&message, &tag.reply),
+        "A16A76656E69617A5265676E756D5475",
+        Worth::Proved,
+        None,
+    );
+    let mut forged = tag.reply.to_vec();
+    forged[20] ^= 1;
+    assert_eq!(number(reader.judge(&message, &forged)), Some(22));
+
+    // F.20: ProtMode 0, by a reader that has no MAC key.
+    let plain = Reader::new(array("000102030405060708090A0B0C0D0E0F"), None);
+    let message = plain
+        .build_tam2(true, 0, &array(ICHALLENGE), custom(BlockSize::Bits16, 1, 0, 7, 0))
+        .expect("TAM2");
+    let reply = "D43EF22E787383D87DAFD67617A7D6EE 88003800A16A76656E69617A5265676E 756D5475000000000000000000000000";
+    let tag = bench.answers(&message, RFID, reply, State::Initial);
+    judged(
+        plain.judge(&message, &tag.reply),
+        "A16A76656E69617A5265676E756D5475",
+        Worth::Unproved,
+        None,
+    );
+    let mut forged = tag.reply.to_vec();
+    forged[16] ^= 1;
+    assert_eq!(number(plain.judge(&message, &forged)), Some(23));
+}
+
+fn interrogator_authentication() {
+    let (mut bench, reader) = (Bench::annex_f(), reader(1));
+    let iam1 = reader.build_iam1(1).expect("IAM1");
+    let tag = bench.answers(&iam1, TCHALLENGE, TCHALLENGE, State::IamInit);
+    assert_eq!(
+        bench.tag.as_bytes()[..16],
+        hex("0101 9786CAFE01BB65DC2300 00000000"),
+        "state, KeyID and TChallenge"
+    );
+    judged(reader.judge(&iam1, &tag.reply), "", Worth::NoData, Some(TCHALLENGE));
+
+    let waiting = bench.tag.clone();
+    assert_eq!(number(bench.send(&hex(IAM2), "00")), Some(7), "one draw");
+    assert_eq!(bench.tag, waiting, "number 7 changes nothing");
+
+    let iam2 = reader.build_iam2(0, &array(IRND), &array(TCHALLENGE)).expect("IAM2");
+    assert_eq!(*iam2, hex(IAM2), "the message is Annex F's");
+    let tag = bench.answers(&iam2, RFID, "", State::IaOk);
+    judged(reader.judge(&iam2, &tag.reply), "", Worth::NoData, None);
+    bench.tag.power_up();
+    assert_eq!(bench.tag, Bench::annex_f().tag, "power-up");
+
+    // F.29: ProtMode 3, two blocks of 16 bits from the third word on.
+    bench.answers(&iam1, TCHALLENGE, TCHALLENGE, State::IamInit);
+    let words = custom(BlockSize::Bits16, 1, 2, 1, 3);
+    let iam3 = reader
+        .build_iam3(words, 0, &array(IRND), &array(TCHALLENGE), &hex("AABBCCDD"))
+        .expect("IAM3");
+    assert_eq!(
+        *iam3,
+        hex("5C100213 5D3F017B042E02228D26C90DBDB513DA 49E163B8C7A3316BA0A1E3EB62088358 624C8B0CDBE35E089F1C355F")
+    );
+    bench.answers(&iam3, RFID, "", State::IaOk);
+    bench.holds("A16A7665AABBCCDD5265676E756D5475756D");
+}
+
+fn mutual_authentication() {
+    let (mut bench, reader) = (Bench::annex_f(), reader(1));
+    let mam1 = reader.build_mam1(1, &array(ICHALLENGE)).expect("MAM1");
+    let tag = bench.answers(&mam1, VON_BRAUN, "47D77088E9143699215C9D162D8A310A 566F6E204272", State::MamInit);
+    assert_eq!(
+        bench.tag.as_bytes()[..16],
+        hex("0201 566F6E20427261756E20 96C69664"),
+        "what is held"
+    );
+    judged(reader.judge(&mam1, &tag.reply), "", Worth::NoData, Some(VON_BRAUN));
+    let mam2 = reader.build_mam2(0, &array(ICHALLENGE), &array(VON_BRAUN)).expect("MAM2");
+    assert_eq!(*mam2, hex("90 F537798C9E30CF1999E3C52A7994BD93"), "the message is Annex F's");
+    bench.answers(&mam2, RFID, "", State::IaOk);
+}
+
+fn refusals() {
+    let mut bench = Bench::annex_f();
+    bench.refuses("", 1);
+    bench.refuses("00", 1);
+    bench.refuses("0002 96564402375796C69664", 2);
+    bench.refuses("2800 96564402375796C69664 100020", 3);
+    bench.refuses(IAM2, 5);
+    bench.send(&hex("4001"), TCHALLENGE).expect("IAM1");
+    bench.refuses("50 2C79B76E2EF8B47F6DC4E861EA2F3D5F", 6);
+    let refusal = bench
+        .tag
+        .message(&hex("4001"), &hex(TCHALLENGE), &mut [0; 17], &mut [])
+        .expect_err("an area of 17 bytes");
+    assert_eq!(refusal.number(), 7);
+    assert!(
+        refusal.text().starts_with("Bench fault") && refusal.to_string().starts_with("7 Bench fault"),
+        "the text"
+    );
+
+    let (plain, keyed) = (Reader::new([0; 16], None), reader(0));
+    let tam2 = |reader: &Reader, custom| number(reader.build_tam2(true, 0, &[0; 10], custom));
+    assert_eq!(
+        tam2(&plain, custom(BlockSize::Bits64, 0, 0, 0, 2)),
+        Some(24),
+        "ProtMode 2 and no MAC key"
+    );
+    for (profile, offset, count, protmode) in [(16, 0, 0, 0), (0, 4096, 0, 0), (0, 0, 16, 0), (0, 0, 0, 4)] {
+        assert_eq!(tam2(&keyed, custom(BlockSize::Bits64, profile, offset, count, protmode)), Some(24));
+    }
+    assert_eq!(number(keyed.build_iam2(16, &[0; 4], &[0; 10])), Some(24), "Purpose 16");
+}
+
+fn main() {
+    layout();
+    sheets();
+    tag_authentication();
+    interrogator_authentication();
+    mutual_authentication();
+    refusals();
+    chaining::cipher_and_chaining();
+    println!("bindings/rust: Annex F's TAM1, TAM2, IAM2, IAM3 and MAM through both halves; numbers 1 to 3, 5 to 8, 20 to 24, 30, 32; layout; guards");
+}
