@@ -77,7 +77,7 @@ module _ (image : List ℕ) (e : isTag image ≡ true) where
       second = simp e (h ∙ ap (λ (x : Tag). x .setup .sizes .user * 2) f);
     }
 
-    answer-of : (c : Call) → answerIn image c ≡ answerOf c t
+    pub answer-of : (c : Call) → answerIn image c ≡ answerOf c t
     answer-of c = simp e (ap (answerOf c) (sym f))
 
     pub answer-some : (c : Call) (room : List ℕ) (s : Stepped) (r told purpose : ℕ) (after reply i u : List ℕ) → Steps (answerOf c t) t room s reply i u

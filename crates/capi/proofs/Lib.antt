@@ -1,5 +1,10 @@
 pub mod Images
 pub mod Keeps
 pub mod Answers
+pub mod Sessions
+pub mod ReadBack
+pub mod Runs
+pub mod Stays
+pub mod Examples
 pub mod Fits
 pub mod FitsReader

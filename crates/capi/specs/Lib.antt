@@ -1,4 +1,5 @@
 pub mod Image
 pub mod Kept
+pub mod Run
 pub mod Reader
 pub mod Chain

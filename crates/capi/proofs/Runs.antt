@@ -1,0 +1,99 @@
+-- A run of calls over an image is the tag's own run.
+use mathlib.Core.Path.{_≡_, refl, sym, ap, ap₂, _∙_, subst}
+use mathlib.Core.Bool.{Bool, true}
+use mathlib.Core.List.{List, [], _∷_}
+use Prim.Native.Nat.{ℕ, _≤_}
+use contract.Lifetimes.{Lfts}
+use borrow.Fn.Kinds.{Dens, resT, endedOf}
+use denote.Triple.Clauses.{AtExit}
+use denote.Ref.{now}
+use lib.ListN.{length}
+use Rattle.ground.specs.Choice.{pick}
+use Rattle.modes.specs.Room.{over}
+use Rattle.sheet.specs.declared.Setup.{Setup}
+use Rattle.sheet.specs.Sheet.{readOf, whole}
+use Rattle.sheet.specs.Within.{Bytes}
+use Rattle.sheet.proofs.Lengths.{longest, longest-is}
+use Rattle.tag.specs.declared.Session.{Session}
+use Rattle.tag.specs.declared.Tag.{Tag}
+use Rattle.tag.specs.Answers.{Answer, Call, answerOf}
+use Rattle.tag.specs.Plays.{Brought, sentAll}
+use Rattle.tag.specs.Reactions.{lent}
+use Rattle.tag.specs.Runs.{run}
+use Rattle.tag.specs.States.{cleared, poweredUp, numberGiven, replyLength}
+use Rattle.capi.specs.Image.{kept, imageOf, isTag}
+use Rattle.capi.specs.Kept.{purposeGiven, answerIn}
+use Rattle.capi.specs.Run.{Left, Sends, SendsAll, leftOf, leftAll, Sized}
+use Rattle.capi.proofs.Keeps.{answer-of}
+use Rattle.capi.proofs.ReadBack.{kept-again, tag-back, is-tag-back}
+use Rattle.capi.proofs.Sessions.{cleared-sized, answer-sized}
+use Rattle.capi.proofs.kept.roualint_message.Reads as message
+use Rattle.capi.proofs.kept.roualint_message.Kinds as message-kinds
+
+-- A call, as the run has it, is the contract that the checker reads from the source of `roualint_message`.
+pub send-is-message : (κs : Lfts 8) (a : Dens κs message-kinds.ps) (r : resT message-kinds.r κs .Denot) (e : AtExit (endedOf 8 message-kinds.ps message-kinds.r) κs)
+    → message.Post κs a r e
+    ≡ Sends (now (a .0)) (now (a .1 .1 .1 .1 .0)) (now (a .1 .1 .1 .1 .1 .0))
+    (record { message = now (a .1 .0); draws = now (a .1 .1 .0); room = now (a .1 .1 .1 .0) })
+    (record {
+      number = r;
+      told = now (e .1 .1 .1 .1 .1 .1 .0);
+      purpose = now (e .1 .1 .1 .1 .1 .1 .1 .0);
+      image = now (e .0);
+      room = now (e .1 .1 .1 .0);
+      identity = now (e .1 .1 .1 .1 .0);
+      user = now (e .1 .1 .1 .1 .1 .0);
+    })
+send-is-message κs a r e = refl
+
+module _ (sheet : List ℕ) (x : Setup) (y : Bytes sheet) (e : readOf sheet ≡ whole x) where
+  short : length sheet ≤ 809
+  short = rw longest-is at (longest sheet x y e)
+
+  abbrev tagOf : Session → Tag
+  tagOf s = record { setup = x; session = s }
+
+  module _ (s : Session) (w : Sized s) where
+    tag-there : isTag (imageOf s sheet) ≡ true
+    tag-there = is-tag-back sheet s w short x e
+
+    answered : (c : Call) → answerIn (imageOf s sheet) c ≡ answerOf c (tagOf s)
+    answered c = answer-of (imageOf s sheet) tag-there (tagOf s) (sym (tag-back sheet s w short x e)) c
+
+    -- what one call leaves
+    sent : (identity user : List ℕ) (b : Brought) (z : Left) → Sends (imageOf s sheet) identity user b z
+        → z ≡ leftOf sheet b (answerOf (lent (b .message) (b .draws) (b .room) identity user) (tagOf s))
+    sent identity user b z h =
+        let c = lent (b .message) (b .draws) (b .room) identity user in
+        let a = answerOf c (tagOf s) in
+        let g = answered c in
+        let n : z .image ≡ imageOf (a .session) sheet
+        = h .holds ∙ ap₂ (λ (t : Bool) (d : Answer). pick t (kept (d .session) (imageOf s sheet)) (imageOf s sheet)) tag-there g ∙ kept-again sheet (a .session) s (answer-sized c (tagOf s) w) w in
+        λ j. record {
+          number = (h .number ∙ ap (λ (d : Answer). numberGiven (d .outcome)) g) j;
+          told = (h .long ∙ ap (λ (d : Answer). replyLength (d .outcome)) g) j;
+          purpose = (h .given ∙ ap (λ (d : Answer). purposeGiven (d .outcome)) g) j;
+          image = n j;
+          room = (h .sent ∙ ap (λ (d : Answer). over (d .reply) (b .room)) g) j;
+          identity = (h .identity ∙ ap (λ (d : Answer). d .identity) g) j;
+          user = (h .user ∙ ap (λ (d : Answer). d .user) g) j;
+        }
+
+  -- what a run leaves
+  pub all-sent : (bs : List Brought) (zs : List Left) (s : Session) (w : Sized s) (identity user : List ℕ) → SendsAll (imageOf s sheet) identity user bs zs
+      → zs ≡ leftAll sheet bs (run (tagOf s) identity user (sentAll bs))
+  unfolding SendsAll leftAll run sentAll
+  all-sent [] [] s w identity user h = refl
+  all-sent [] (z ∷ zs) s w identity user h = absurd h
+  all-sent (b ∷ bs) [] s w identity user h = absurd h
+  all-sent (b ∷ bs) (z ∷ zs) s w identity user (h, hs) =
+      let q = sent s w identity user b z h in
+      let k = subst (λ (l : Left). SendsAll (l .image) (l .identity) (l .user) bs zs) q hs in
+      let v = answer-sized (lent (b .message) (b .draws) (b .room) identity user) (tagOf s) w in
+      λ j. q j ∷ all-sent bs zs _ v _ _ k j
+
+  -- from what `roualint_sheet` makes of the sheet
+  pub sheet-run : (bs : List Brought) (zs : List Left) (identity user : List ℕ) → SendsAll (imageOf cleared sheet) identity user bs zs
+      → zs ≡ leftAll sheet bs (run (poweredUp x) identity user (sentAll bs))
+  unfolding poweredUp
+  sheet-run bs zs identity user = all-sent bs zs cleared cleared-sized identity user
