@@ -17,7 +17,7 @@ use Rattle.reader.specs.declared.Judgement.{Judgement}
 use Rattle.reader.specs.declared.Keys.{Keys}
 use Rattle.reader.specs.declared.Made.{Made}
 use Rattle.reader.specs.declared.Made.the-variants.{Message, Refused}
-use Rattle.reader.specs.Findings.{Finding, verdictNumber, Judges}
+use Rattle.reader.specs.Findings.{verdictNumber, Judges}
 use Rattle.reader.specs.Judged.{judgementOf}
 use Rattle.reader.specs.Makes.{taken, Makes}
 use Rattle.capi.specs.Reader.{macGiven, keysOf, madeLength, worthNumber, findingOf, Builds, Finds}

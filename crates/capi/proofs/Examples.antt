@@ -1,5 +1,5 @@
 -- Zeros are no tag's; the image of the smallest sheet is one, and a run over it is a tag's run.
-use mathlib.Core.Path.{_≡_, refl, ap, _∙_}
+use mathlib.Core.Path.{_≡_, ap}
 use mathlib.Core.Bool.{true, false}
 use mathlib.Core.List.{List, [], _∷_}
 use Prim.Native.Nat.{ℕ}

@@ -1,13 +1,13 @@
 -- Images, as the code writes and reads them.
-use mathlib.Core.Path.{_≡_, refl, sym, ap, ap₂, _∙_}
-use mathlib.Core.Bool.{Bool, true, false}
-use mathlib.Core.List.{List, [], _∷_, _++_, append-assoc}
+use mathlib.Core.Path.{_≡_, ap, ap₂, _∙_}
+use mathlib.Core.Bool.{Bool}
+use mathlib.Core.List.{List, [], _++_, append-assoc}
 use Prim.Native.Nat.{ℕ, _+_, _-_, _*_, _/_, _%_, _<_, _≤_}
 use native.Mathlib.Omega.{arith}
 use borrow.Author.Tests.{le-leb, lt-leb}
 use lib.Dec.{ltb}
 use lib.ListN.{length, take, drop, set, replicate, length-append}
-use Rattle.ground.specs.Choice.{pick, both}
+use Rattle.ground.specs.Choice.{both}
 use Rattle.modes.specs.Room.{over}
 use Rattle.frames.specs.Fields.{byte}
 use Rattle.payload.proofs.Overs.{copied-back, put-next}

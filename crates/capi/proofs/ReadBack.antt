@@ -1,13 +1,13 @@
 -- What was written into an image is read from it again.
 use mathlib.Core.Path.{_≡_, refl, sym, ap, ap₂, _∙_}
 use mathlib.Core.Bool.{Bool, true}
-use mathlib.Core.List.{List, [], _∷_, _++_, append-assoc}
+use mathlib.Core.List.{List, [], _++_, append-assoc}
 use Prim.Native.Nat.{ℕ, suc, _+_, _-_, _*_, _≤_}
 use native.Mathlib.Nat.{div-add-mod'}
 use native.Mathlib.Omega.{arith}
 use borrow.Author.Tests.{le-leb}
 use lib.Dec.{ltb}
-use lib.ListN.{length, take, drop, getD, replicate, length-append, length-drop, length-replicate}
+use lib.ListN.{length, take, drop, replicate, length-append, length-drop, length-replicate}
 use lib.Seq.{take-append-seam, drop-at, drop-drop}
 use Rattle.ground.specs.Choice.{pick, both}
 use Rattle.modes.specs.Room.{over}

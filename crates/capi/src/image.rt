@@ -4,7 +4,7 @@ use tag::Session;
 use tag::State;
 use tag::Tag;
 ghost use mathlib.Core.Path.{_≡_};
-ghost use mathlib.Core.List.{_∷_, _++_};
+ghost use mathlib.Core.List.{_++_};
 ghost use Prim.Native.Nat.{_<_, _≤_};
 ghost use lib.Dec.{ltb};
 ghost use lib.ListN.{length};
@@ -12,6 +12,9 @@ ghost use Rattle.ground.specs.Choice.{both};
 ghost use Rattle.modes.specs.Room.{over};
 ghost use Rattle.tag.specs.States.{cleared};
 ghost use Rattle.capi.specs.Image.{stateNumber, kept, imageOf, stateOf, sessionIn, sheetIn, tagIn, accepts, isTag};
+
+/// The bytes of an image.
+pub const IMAGE: usize = 827;
 
 /// What an image says, and whether it is a tag's.
 pub struct Found {
@@ -151,12 +154,12 @@ pub fn keep(image: &mut [u8], session: Session)
 }
 
 /// The image of a sheet at power-up. Ruled out: a challenge in it; the length's two bytes exchanged.
-pub fn of_sheet(sheet: &[u8]) -> [u8; 827]
+pub fn of_sheet(sheet: &[u8]) -> [u8; IMAGE]
     requires { ⌜ length (now sheet) ≤ 809 ⌝ }
     ensures { λ r. ⌜ r ≡ imageOf cleared (now (sheet .entry)) ⌝ }
 {
     let n = sheet.len();
-    let mut image = [0u8; 827];
+    let mut image = [0u8; IMAGE];
     image[16] = (n / 256) as u8;
     image[17] = (n % 256) as u8;
     bytes::copy(sheet, &mut image[18..]);

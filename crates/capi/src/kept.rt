@@ -1,9 +1,10 @@
 // A tag that its caller keeps, as an image of 827 bytes, from one call to the next.
 use super::image;
+use super::image::IMAGE;
 use sheet::Verdict;
 use tag::Outcome;
 ghost use mathlib.Core.Path.{_≡_};
-ghost use Prim.Native.Nat.{_*_, _≤_};
+ghost use Prim.Native.Nat.{_*_};
 ghost use lib.ListN.{length};
 ghost use Rattle.frames.specs.Fields.{byte};
 ghost use Rattle.memory.specs.Areas.{wordBytes};
@@ -13,7 +14,7 @@ ghost use Rattle.capi.specs.Kept.{SetUp, PoweredUp, stateIn, AreasOf, pu
 /// A sheet becomes a tag, powered up: 0, and the place is 0. A refused sheet: 30 to 35 with the place of its record, and the tag as it was.
 /// Ruled out: a tag changed by a refused sheet; a place of 0 for every refusal; bytes of an older sheet left in the image.
 #[no_mangle]
-pub extern "C" fn roualint_sheet(sheet: &[u8], tag: &mut [u8; 827], place: &mut usize) -> u8
+pub extern "C" fn roualint_sheet(sheet: &[u8], tag: &mut [u8; IMAGE], place: &mut usize) -> u8
     ensures { λ r. ⌜ SetUp (now (sheet .entry)) (now (tag .entry)) r (now (place .exit)) (now (tag .exit)) ⌝ }
 {
     let reading = sheet::read(sheet);
@@ -28,6 +29,7 @@ pub extern "C" fn roualint_sheet(sheet: &[u8], tag: &mut [u8; 827], place: &mut 
     0
 }
 
+// Power-up, on a slice.
 fn power_up(image: &mut [u8]) -> u8
     requires { ⌜ length (now image) ≡ 827 ⌝ }
     ensures { λ r. ⌜ PoweredUp (now (image .entry)) r (now (image .exit)) ⌝ }
@@ -47,12 +49,13 @@ fn power_up(image: &mut [u8]) -> u8
 /// Power-up and reset: 0, and the tag holds nothing but its sheet. Bytes that are no tag's: 7, and they stay as they are.
 /// Ruled out: a challenge that outlives the power; a tag made of bytes that are none.
 #[no_mangle]
-pub extern "C" fn roualint_power_up(tag: &mut [u8; 827]) -> u8
+pub extern "C" fn roualint_power_up(tag: &mut [u8; IMAGE]) -> u8
     ensures { λ r. ⌜ PoweredUp (now (tag .entry)) r (now (tag .exit)) ⌝ }
 {
     power_up(tag)
 }
 
+// The state, on a slice.
 fn state(image: &[u8]) -> u8
     requires { ⌜ length (now image) ≡ 827 ⌝ }
     ensures { λ r. ⌜ r ≡ stateIn (now (image .entry)) ⌝ }
@@ -67,7 +70,7 @@ fn state(image: &[u8]) -> u8
 /// The tag's state: 0 Initial, 1 IAM-Init, 2 MAM-Init, 3 IA-OK; 255 for bytes that are no tag's.
 /// Ruled out: a byte over 3 taken for a state; the state of a tag whose sheet is refused.
 #[no_mangle]
-pub extern "C" fn roualint_state(tag: &[u8; 827]) -> u8
+pub extern "C" fn roualint_state(tag: &[u8; IMAGE]) -> u8
     ensures { λ r. ⌜ r ≡ stateIn (now (tag .entry)) ⌝ }
 {
     state(tag)
@@ -80,6 +83,7 @@ fn bytes_of(words: u16) -> usize
     (words as usize) * 2
 }
 
+// The sizes, on a slice.
 fn areas(image: &[u8], identity: &mut usize, user: &mut usize) -> u8
     requires { ⌜ length (now image) ≡ 827 ⌝ }
     ensures { λ r. ⌜ AreasOf (now (image .entry)) r (now (identity .exit)) (now (user .exit)) ⌝ }
@@ -101,7 +105,7 @@ fn areas(image: &[u8], identity: &mut usize, user: &mut usize) -> u8
 /// The sizes of the areas that the tag wants lent, in bytes: 0. Bytes that are no tag's: 7, and both sizes are 0.
 /// Ruled out: sizes in words; the two areas exchanged.
 #[no_mangle]
-pub extern "C" fn roualint_areas(tag: &[u8; 827], identity: &mut usize, user: &mut usize) -> u8
+pub extern "C" fn roualint_areas(tag: &[u8; IMAGE], identity: &mut usize, user: &mut usize) -> u8
     ensures { λ r. ⌜ AreasOf (now (tag .entry)) r (now (identity .exit)) (now (user .exit)) ⌝ }
 {
     areas(tag, identity, user)
@@ -118,6 +122,7 @@ fn purpose_of(outcome: Outcome) -> u8
     }
 }
 
+// One message, on a slice.
 fn answer(
     image: &mut [u8],
     message: &[u8],
@@ -153,7 +158,7 @@ fn answer(
 /// Ruled out: a session that is not kept; a Purpose told of a reader that is not let in; a length told with a refusal.
 #[no_mangle]
 pub extern "C" fn roualint_message(
-    tag: &mut [u8; 827],
+    tag: &mut [u8; IMAGE],
     message: &[u8],
     draws: &[u8],
     room: &mut [u8],

@@ -17,11 +17,11 @@ pub mod chain; // chain.rt: chaining and the MAC
 pub extern "C" fn roualint_tag_bytes() -> usize
     ensures { λ r. ⌜ r ≡ imageLength ⌝ }
 {
-    827
+    image::IMAGE
 }
 
-// AES-ENC of a block, in place.
-// Ruled out: AES-DEC; the block left as it was.
+/// AES-ENC of a block, in place.
+/// Ruled out: AES-DEC; the block left as it was.
 #[no_mangle]
 pub extern "C" fn roualint_aes_enc(key: &[u8; 16], block: &mut [u8; 16])
     ensures { λ _. ⌜ now (block .exit) ≡ aesEnc (now (key .entry)) (now (block .entry)) ⌝ }
@@ -30,8 +30,8 @@ pub extern "C" fn roualint_aes_enc(key: &[u8; 16], block: &mut [u8; 16])
     *block = output;
 }
 
-// AES-DEC of a block, in place.
-// Ruled out: AES-ENC; the block left as it was.
+/// AES-DEC of a block, in place.
+/// Ruled out: AES-ENC; the block left as it was.
 #[no_mangle]
 pub extern "C" fn roualint_aes_dec(key: &[u8; 16], block: &mut [u8; 16])
     ensures { λ _. ⌜ now (block .exit) ≡ aesDec (now (key .entry)) (now (block .entry)) ⌝ }

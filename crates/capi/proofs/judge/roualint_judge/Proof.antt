@@ -31,8 +31,12 @@ same-length : tie.Need-same-length
 same-length c = search needs
 
 returns-2 : tie.Need-returns-2
-returns-2 c = let a = c .before .before .before .before .before .before .before .before .before .before .before .before .before .before .before .before .args in
-    judged (a .enc .now) (a .mac .now) (a .message .now) (a .reply .now) (a .room .now) _ (c .before .before .before .before .before .before .judge .result) _ _ _ _ (yes (c .before .before .before .before .before .before .before .before .before .before .before .mac-given .ensures) (c .before .before .before .before .before .before .before .before .before .before .if1 .left)) (c .before .before .before .before .before .before .before .before .keys-of .ensures) (c .before .before .before .before .before .before .judge .ensures) (c .number-of .ensures) (c .before .before .worth-number .ensures) (c .before .bit-of .ensures)
+returns-2 c =
+    let j = c .before .before .before .before .before .before in
+    let t = j .before .before .before .before in
+    let a = t .before .before .before .before .before .before .args in
+    judged (a .enc .now) (a .mac .now) (a .message .now) (a .reply .now) (a .room .now) _ (j .judge .result) _ _ _ _ (yes (t .before .mac-given .ensures) (t .if1 .left)) (j .before .before .keys-of .ensures) (j .judge .ensures)
+    (c .number-of .ensures) (c .before .before .worth-number .ensures) (c .before .bit-of .ensures)
 
 pub roualint-judge-spec : {M : Type 1} → statement M
 roualint-judge-spec =

@@ -45,9 +45,13 @@ same-length-5 : tie.Need-same-length-5
 same-length-5 c = search needs
 
 returns-2 : tie.Need-returns-2
-returns-2 c = let a = c .before .before .before .before .before .before .before .before .before .before .before .before .before .before .before .before .before .before .before .before .before .before .before .before .before .before .before .before .before .before .args in
-    let s = c .before .before .before .before .before .before .before .before .before .before .before .before .before .before .before .step in
-    answer-some _ (yes (c .before .before .before .before .before .before .before .before .before .before .before .before .before .before .before .before .before .before .before .before .before .before .read .ensures .0) (c .before .before .before .before .before .before .before .before .before .before .before .before .before .before .before .before .before .before .before .before .if1 .left)) _ (c .before .before .before .before .before .before .before .before .before .before .before .before .before .before .before .before .before .before .before .before .before .before .read .ensures .1) (lent (a .message .now) (a .draws .now) (a .room .now) (a .identity .now) (a .user .now)) (a .room .now) (s .result) _ _ _ _ _ _ _ (s .ensures) (c .number .ensures) (c .before .before .reply-length .ensures) (c .before .purpose-of .ensures) (c .before .before .before .before .before .keep .ensures)
+returns-2 c =
+    let s = c .before .before .before .before .before .before .before .before .before .before .before .before .before .before .before in
+    let t = s .before .before .before .before .before in
+    let f = t .before .before .read .ensures in
+    let a = t .before .before .before .before .before .before .before .before .before .before .args in
+    answer-some _ (yes (f .0) (t .if1 .left)) _ (f .1) (lent (a .message .now) (a .draws .now) (a .room .now) (a .identity .now) (a .user .now)) (a .room .now) (s .step .result) _ _ _ _ _ _ _
+    (s .step .ensures) (c .number .ensures) (c .before .before .reply-length .ensures) (c .before .purpose-of .ensures) (c .before .before .before .before .before .keep .ensures)
 
 pub answer-spec : {M : Type 1} → statement M
 answer-spec =

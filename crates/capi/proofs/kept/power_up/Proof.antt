@@ -24,7 +24,9 @@ same-length-2 : tie.Need-same-length-2
 same-length-2 c = search needs
 
 returns-2 : tie.Need-returns-2
-returns-2 c = power-some _ (yes (c .before .before .before .before .before .before .before .before .before .before .read .ensures .0) (c .before .before .before .before .before .before .before .before .if1 .left)) _ _ _ (c .before .before .before .before .before .power-up .ensures) (c .before .before .keep .ensures)
+returns-2 c =
+    let t = c .before .before .before .before .before .before .before .before in
+    power-some _ (yes (t .before .before .read .ensures .0) (t .if1 .left)) _ _ _ (c .before .before .before .before .before .power-up .ensures) (c .before .before .keep .ensures)
 
 pub power-up-spec : {M : Type 1} → statement M
 power-up-spec =
