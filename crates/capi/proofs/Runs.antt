@@ -10,6 +10,7 @@ use denote.Ref.{now}
 use lib.ListN.{length}
 use Rattle.ground.specs.Choice.{pick}
 use Rattle.modes.specs.Room.{over}
+use Rattle.sheet.specs.declared.Reading.{Reading}
 use Rattle.sheet.specs.declared.Setup.{Setup}
 use Rattle.sheet.specs.Sheet.{readOf, whole}
 use Rattle.sheet.specs.Within.{Bytes}
@@ -21,8 +22,8 @@ use Rattle.tag.specs.Plays.{Brought, sentAll}
 use Rattle.tag.specs.Reactions.{lent}
 use Rattle.tag.specs.Runs.{run}
 use Rattle.tag.specs.States.{cleared, poweredUp, numberGiven, replyLength}
-use Rattle.capi.specs.Image.{kept, imageOf, isTag}
-use Rattle.capi.specs.Kept.{purposeGiven, answerIn}
+use Rattle.capi.specs.Image.{kept, imageOf, accepts, isTag}
+use Rattle.capi.specs.Kept.{SetUp, PoweredUp, purposeGiven, answerIn}
 use Rattle.capi.specs.Run.{Left, Sends, SendsAll, leftOf, leftAll, Sized}
 use Rattle.capi.proofs.Keeps.{answer-of}
 use Rattle.capi.proofs.ReadBack.{kept-again, tag-back, is-tag-back}
@@ -78,6 +79,15 @@ module _ (sheet : List ℕ) (x : Setup) (y : Bytes sheet) (e : readOf sheet ≡ 
           identity = (h .identity ∙ ap (λ (d : Answer). d .identity) g) j;
           user = (h .user ∙ ap (λ (d : Answer). d .user) g) j;
         }
+
+    -- what a power-up leaves: what `roualint_sheet` makes
+    pub power-back : (r : ℕ) (after : List ℕ) → PoweredUp (imageOf s sheet) r after → after ≡ imageOf cleared sheet
+    power-back r after h =
+        h .holds ∙ ap (λ (b : Bool). pick b (kept cleared (imageOf s sheet)) (imageOf s sheet)) tag-there ∙ kept-again sheet cleared s cleared-sized w
+
+  -- what `roualint_sheet` makes of an accepted sheet, whatever the image was
+  pub sheet-made : (image : List ℕ) (r at : ℕ) (after : List ℕ) → SetUp sheet image r at after → after ≡ imageOf cleared sheet
+  sheet-made image r at after h = h .holds ∙ ap (λ (q : Reading). pick (accepts (q .verdict)) (imageOf cleared sheet) image) e
 
   -- what a run leaves
   pub all-sent : (bs : List Brought) (zs : List Left) (s : Session) (w : Sized s) (identity user : List ℕ) → SendsAll (imageOf s sheet) identity user bs zs
