@@ -22,7 +22,8 @@ use Rattle.payload.specs.Alike.{same}
 use Rattle.payload.proofs.Alike.{same-self}
 use Rattle.payload.proofs.Lengths.{enc-sixteen}
 use Rattle.tag.specs.Replies.{tamBlock, tam1Reply, mam1Reply}
-use Rattle.tag.proofs.ReplyBytes.{Ten, append-bytes, drop-bytes}
+use Rattle.payload.proofs.Bytes.{joined-bytes}
+use Rattle.tag.proofs.ReplyBytes.{Ten, drop-bytes}
 use Rattle.tag.proofs.ReplyLengths.{tam1-long, mam1-long}
 use Rattle.reader.specs.declared.Keys.{Keys}
 use Rattle.reader.specs.Findings.{nothingMore, issues}
@@ -44,7 +45,7 @@ module _ (k : ℕ) (middle challenge : List ℕ) (four : length middle ≡ 4) wh
   plain-block l h t =
       let s = middle ++ challenge in
       let n : length s ≡ 14 = omega (arith, length-append middle challenge, t .ten) in
-      record { sixteen = omega arith; bytes = append-bytes (twoBytes k) s (two-bytes k l) (append-bytes middle challenge h (t .bytes)) }
+      record { sixteen = omega arith; bytes = joined-bytes (twoBytes k) s (two-bytes k l) (joined-bytes middle challenge h (t .bytes)) }
 
   -- the reader sees in it what the tag put into it
   pub opens : (keys : Keys) (enc reply : List ℕ) → keys .enc ≡ enc → Bytes (keys .enc) → k ≤ 0xFFFF → Bytes middle → Ten challenge

@@ -69,7 +69,7 @@ pub fn keyed(kind: Kind) -> bool {
 pub fn made(keys: Keys, kind: Kind, line: &[u8], room: &mut [u8]) -> Made {
     match kind {
         Kind::Tam1 => {
-            return tam1(line, room);
+            return challenge(false, line, room);
         }
         Kind::Tam2 => {
             return tam2(keys, line, room);
@@ -84,7 +84,7 @@ pub fn made(keys: Keys, kind: Kind, line: &[u8], room: &mut [u8]) -> Made {
             return iam3(keys, line, room);
         }
         Kind::Mam1 => {
-            return mam1(line, room);
+            return challenge(true, line, room);
         }
         Kind::Mam2 => {
             return mam2(keys, line, room);
@@ -99,26 +99,19 @@ fn out_of_range() -> Made {
     Made::Refused(Fault::OwnMessage)
 }
 
-fn tam1(line: &[u8], room: &mut [u8]) -> Made {
+// TAM1, or MAM1, which has the same fields.
+fn challenge(mutual: bool, line: &[u8], room: &mut [u8]) -> Made {
     let mut ichallenge = [0u8; 10];
     if !fill(line, 3, &mut ichallenge) {
         return out_of_range();
     }
     if 255 < number(line, 2) {
         return out_of_range();
+    }
+    if mutual {
+        return build::mam1(small(line, 2), ichallenge, room);
     }
     build::tam1(small(line, 2), ichallenge, room)
-}
-
-fn mam1(line: &[u8], room: &mut [u8]) -> Made {
-    let mut ichallenge = [0u8; 10];
-    if !fill(line, 3, &mut ichallenge) {
-        return out_of_range();
-    }
-    if 255 < number(line, 2) {
-        return out_of_range();
-    }
-    build::mam1(small(line, 2), ichallenge, room)
 }
 
 fn iam1(line: &[u8], room: &mut [u8]) -> Made {

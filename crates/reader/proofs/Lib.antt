@@ -7,6 +7,5 @@ pub mod FitsJudged
 pub mod Making
 pub mod FitsBuild
 pub mod Responses
-pub mod Listed
 pub mod Sending
 pub mod Iam3Made

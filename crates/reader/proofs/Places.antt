@@ -3,19 +3,13 @@ use mathlib.Core.Path.{_≡_, refl, sym, ap, ap₂, _∙_}
 use mathlib.Core.Bool.{Bool, true, false}
 use mathlib.Core.List.{List, [], _∷_, _++_}
 use Prim.Native.Nat.{ℕ, _-_}
-use native.Mathlib.Nat.{le-refl}
 use native.Mathlib.Omega.{arith}
 use lib.ListN.{length, getD, take, drop, length-drop}
 use lib.Seq.{take-all}
 use Rattle.ground.specs.Choice.{both}
-use Rattle.field.specs.Block.{tabulated}
-use Rattle.field.proofs.Fill.{filled}
 use Rattle.payload.specs.Alike.{same}
+use Rattle.payload.proofs.Bytes.{listed}
 use Rattle.reader.specs.Opened.{blockFits, challengeIn}
-
--- a list is what stands at its places
-pub listed : (s : List ℕ) (n : ℕ) → length s ≡ n → tabulated (λ k. getD s k 0) n ≡ s
-listed s n e = sym (filled (λ k. getD s k 0) n s n (le-refl n) (le-refl n, e, λ k h. refl))
 
 -- the tag's challenge out of its two parts
 pub challenge-made : (b reply : List ℕ) → length b ≡ 16 → length reply ≡ 22

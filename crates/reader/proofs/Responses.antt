@@ -9,14 +9,9 @@ use Rattle.aes.specs.AesEnc.{aesEnc}
 use Rattle.aes_inverse.proofs.Inverse.{dec-block, enc-dec}
 use Rattle.frames.specs.Constants.{C-IAM2, C-MAM2, withPurpose}
 use Rattle.frames.specs.Messages.{iam2Message, mam2Message}
+use Rattle.payload.proofs.Bytes.{joined-bytes}
 use Rattle.reader.specs.declared.Keys.{Keys}
 use Rattle.reader.specs.Builds.{response, iam2Made, mam2Made}
-
--- what is joined of bytes is bytes
-pub joined-bytes : (a b : List ℕ) → Bytes a → Bytes b → Bytes (a ++ b)
-joined-bytes [] b ha hb i = hb i
-joined-bytes (x ∷ xs) b ha hb zero = ha 0
-joined-bytes (x ∷ xs) b ha hb (suc i) = joined-bytes xs b (λ j. ha (suc j)) hb i
 
 -- a constant of 12 bits, and a Purpose, are two bytes
 pub constant-bytes : (k purpose : ℕ) → k < 4096 → Bytes (withPurpose k purpose)

@@ -1,26 +1,14 @@
 -- The authentication blocks from their parts: the draws' first four, and their last four.
-use mathlib.Core.Path.{_≡_, refl, sym, ap, ap₂, _∙_}
+use mathlib.Core.Path.{_≡_, ap, ap₂, _∙_}
 use mathlib.Core.List.{List, [], _∷_, _++_}
 use Prim.Native.Nat.{ℕ}
-use native.Mathlib.Nat.{le-refl}
 use lib.ListN.{length, getD, take, drop}
-use Rattle.field.specs.Block.{tabulated}
-use Rattle.field.proofs.Fill.{filled}
 use Rattle.aes.specs.AesEnc.{aesEnc}
 use Rattle.sheet.specs.declared.Key.{Key}
 use Rattle.frames.specs.declared.Mam1.{Mam1}
 use Rattle.frames.specs.Constants.{C-MAM1, twoBytes}
+use Rattle.payload.proofs.Bytes.{first-four, last-four}
 use Rattle.tag.specs.Replies.{tamBlock, mam1Reply}
-
-listed : (s : List ℕ) (n : ℕ) → length s ≡ n → tabulated (λ k. getD s k 0) n ≡ s
-listed s n e = sym (filled (λ k. getD s k 0) n s n (le-refl n) (le-refl n, e, λ k h. refl))
-
--- the first four and the last four of ten
-first-four : (s : List ℕ) → length s ≡ 10 → getD s 0 0 ∷ getD s 1 0 ∷ getD s 2 0 ∷ getD s 3 0 ∷ [] ≡ take 4 s
-first-four s e = λ i. take 4 (listed s 10 e i)
-
-pub last-four : (s : List ℕ) → length s ≡ 10 → getD s 6 0 ∷ getD s 7 0 ∷ getD s 8 0 ∷ getD s 9 0 ∷ [] ≡ drop 6 s
-last-four s e = λ i. drop 6 (listed s 10 e i)
 
 -- the reply to MAM1 from its parts
 pub mam1-made : (key : Key) (m : Mam1) (draws k b e r : List ℕ) → length draws ≡ 10 → k ≡ twoBytes C-MAM1

@@ -30,7 +30,7 @@ use Rattle.tag.specs.Records.{keyNamed, blockAsked}
 use Rattle.tag.specs.Replies.{tam1Reply, tam2Reply, mam1Reply}
 use Rattle.tag.specs.Answers.{Call, tam1Answer, tam2Answer, iam1Answer, mam1Answer}
 use Rattle.tag.specs.Reactions.{lent, Reacts}
-use Rattle.tag.proofs.Listed.{last-four}
+use Rattle.payload.proofs.Bytes.{last-four}
 use Rattle.tag.proofs.Reacting.{Turned, reacts-wrong, reacts-fine, reacts-replied}
 use Rattle.tag.proofs.ReplyLengths.{tam1-long, mam1-long}
 

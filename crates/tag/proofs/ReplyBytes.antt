@@ -28,16 +28,12 @@ use Rattle.frames.specs.Header.{headerStart, headerOf}
 use Rattle.frames.specs.Lengths.{hasMac}
 use Rattle.frames.proofs.Bounds.{by-mode-le}
 use Rattle.frames.proofs.Range.{custom-range, size-bit-lt}
+use Rattle.payload.proofs.Bytes.{joined-bytes}
 use Rattle.payload.specs.Data.{filled, carriedData}
 use Rattle.payload.specs.Protected.{encrypts, withMac}
 use Rattle.tag.specs.Replies.{tamBlock, tam1Reply, tam2Body, tam2Reply, mam1Reply}
 
 -- ---- lists of bytes
-
-pub append-bytes : (s t : List ℕ) → Bytes s → Bytes t → Bytes (s ++ t)
-append-bytes [] t h k i = k i
-append-bytes (x ∷ s) t h k zero = h 0
-append-bytes (x ∷ s) t h k (suc i) = append-bytes s t (λ j. h (suc j)) k i
 
 pub drop-bytes : (n : ℕ) (s : List ℕ) → Bytes s → Bytes (drop n s)
 drop-bytes n s h i = subst (λ (x : ℕ). x < 256) (sym (getD-drop n s i 0)) (h (n + i))
@@ -81,8 +77,8 @@ pub carried-bytes : (rev : Bool) (c : Custom) (words : List ℕ) → customFits 
 unfolding carriedData filled
 carried-bytes rev c words fit h =
     let s = pick rev (headerOf c) [] ++ words in
-    append-bytes s (replicate (blocksLength (c .blocksize) rev (c .blockcount) - length s) 0)
-    (append-bytes (pick rev (headerOf c) []) words (pick-bytes rev (headerOf c) [] (header-bytes c fit) none-bytes) h)
+    joined-bytes s (replicate (blocksLength (c .blocksize) rev (c .blockcount) - length s) 0)
+    (joined-bytes (pick rev (headerOf c) []) words (pick-bytes rev (headerOf c) [] (header-bytes c fit) none-bytes) h)
     (zeros-bytes (blocksLength (c .blocksize) rev (c .blockcount) - length s))
 
 -- ---- the replies
@@ -101,7 +97,7 @@ module _ (draws : List ℕ) (d : Ten draws) where
       let s = middle ++ ichallenge in
       let n : length s ≡ 14 = omega (arith, length-append middle ichallenge, t .ten) in
       enc-block enc (twoBytes c ++ s) k
-      (record { sixteen = omega arith; bytes = append-bytes (twoBytes c) s (two-bytes c l) (append-bytes middle ichallenge h (t .bytes)) })
+      (record { sixteen = omega arith; bytes = joined-bytes (twoBytes c) s (two-bytes c l) (joined-bytes middle ichallenge h (t .bytes)) })
 
   pub tam-block-block : (enc ichallenge : List ℕ) (c : ℕ) → Bytes enc → c ≤ 0xFFFF → Ten ichallenge → Block (tamBlock enc (twoBytes c) draws ichallenge)
   unfolding tamBlock
@@ -116,7 +112,7 @@ module _ (draws : List ℕ) (d : Ten draws) where
     pub mam1-bytes : (m : Mam1) → Ten (m .ichallenge) → Bytes (mam1Reply key m draws)
     unfolding mam1Reply
     mam1-bytes m t =
-        append-bytes (aesEnc (key .enc) (twoBytes C-MAM1 ++ (drop 6 draws ++ m .ichallenge))) (take 6 draws)
+        joined-bytes (aesEnc (key .enc) (twoBytes C-MAM1 ++ (drop 6 draws ++ m .ichallenge))) (take 6 draws)
         (block-block (key .enc) (drop 6 draws) (m .ichallenge) C-MAM1 enc (omega arith) (omega (arith, length-drop 6 draws, d .ten)) (drop-bytes 6 draws (d .bytes)) t .bytes)
         (bytes-take 6 draws (d .bytes))
 
@@ -129,6 +125,6 @@ module _ (draws : List ℕ) (d : Ten draws) where
         let ha : Bytes a = tam-block-block (key .enc) (m .ichallenge) (tam2Constant (m .rev) (m .protmode)) enc (tam2-constant-le (m .rev) (m .protmode)) t .bytes in
         let hp : Bytes p = carried-bytes (m .rev) (m .custom) words fit h in
         let hs : Bytes (a ++ x) =
-        append-bytes a x ha (pick-bytes (encrypts (m .protmode)) (cbcEncAes a (key .enc) p) p (cbc-enc-aes-bytes a (key .enc) p ha enc hp) hp) in
-        append-bytes (a ++ x) (pick (hasMac (m .protmode)) (cmac96 (key .mackey) (a ++ x)) []) hs
+        joined-bytes a x ha (pick-bytes (encrypts (m .protmode)) (cbcEncAes a (key .enc) p) p (cbc-enc-aes-bytes a (key .enc) p ha enc hp) hp) in
+        joined-bytes (a ++ x) (pick (hasMac (m .protmode)) (cmac96 (key .mackey) (a ++ x)) []) hs
         (pick-bytes (hasMac (m .protmode)) (cmac96 (key .mackey) (a ++ x)) [] (mac-bytes (key .mackey) mac (a ++ x) hs) none-bytes)

@@ -2,7 +2,7 @@
 use native.Mathlib.Omega.{arith}
 use Rattle.field.proofs.Arrays.{array-length}
 use Rattle.frames.proofs.Shape.{mam2-shape}
-use Rattle.reader.proofs.Listed.{last-four}
+use Rattle.payload.proofs.Bytes.{last-four}
 use Rattle.reader.proofs.Responses.{mam2-sent}
 use Rattle.reader.proofs.Making.{short, unfit, built, in-words, purpose-over, purpose-in}
 use borrow.Author.Needs.{needs}

@@ -6,7 +6,7 @@ use borrow.Author.Tests.{eq-eqb, ne-eqb}
 use Rattle.reader.proofs.Lines.{passes, fails, ends, told}
 use Rattle.reader.specs.Findings.{saidOf, issues}
 use Rattle.reader.specs.Judged.{iam1Finding}
-use Rattle.reader.proofs.Places.{listed}
+use Rattle.payload.proofs.Bytes.{listed}
 use borrow.Author.Needs.{needs}
 use Rattle.reader.proofs.kinds.iam1.Statement.{statement}
 use Rattle.reader.proofs.kinds.iam1.Tie as tie
