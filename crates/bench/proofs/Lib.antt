@@ -1,4 +1,7 @@
 mod Values
+mod Held
 mod Frees
 mod Stores
+mod Takes
 pub mod Fits
+pub mod FitsCursor

@@ -10,6 +10,12 @@ use Rattle.sheet.proofs.start.Reads as start
 use Rattle.sheet.proofs.start.Kinds as start-kinds
 use Rattle.sheet.proofs.judge.Reads as judge
 use Rattle.sheet.proofs.judge.Kinds as judge-kinds
+use Rattle.sheet.proofs.places.judge_at.Reads as judge-at
+use Rattle.sheet.proofs.places.judge_at.Kinds as judge-at-kinds
+use Rattle.sheet.proofs.places.further.Reads as further
+use Rattle.sheet.proofs.places.further.Kinds as further-kinds
+use Rattle.sheet.proofs.places.read_from.Reads as read-from
+use Rattle.sheet.proofs.places.read_from.Kinds as read-from-kinds
 use Rattle.sheet.proofs.read.Reads as read
 use Rattle.sheet.proofs.read.Kinds as read-kinds
 
@@ -24,3 +30,12 @@ judge-one κs a x y s t p q = one (p .0) (q .0)
 
 pub read-one : OneAnswer 1 read-kinds.ps read-kinds.r read.Post Reading (λ κs r s. r)
 read-one κs a x y s t p q = one (p .0) (q .0)
+
+pub judge-at-one : OneAnswer 1 judge-at-kinds.ps judge-at-kinds.r judge-at.Post Judged (λ κs r s. r)
+judge-at-one κs a x y s t p q = one (p .0) (q .0)
+
+pub further-one : OneAnswer 1 further-kinds.ps further-kinds.r further.Post ℕ (λ κs r s. r)
+further-one κs a x y s t p q = one p q
+
+pub read-from-one : OneAnswer 1 read-from-kinds.ps read-from-kinds.r read-from.Post Reading (λ κs r s. r)
+read-from-one κs a x y s t p q = one (p .0) (q .0)

@@ -6,6 +6,7 @@ pub mod Rules
 pub mod Judgements
 pub mod Verdicts
 pub mod Walks
+pub mod Further
 pub mod Fits
 pub mod Examples
 pub mod Bits

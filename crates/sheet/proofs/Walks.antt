@@ -103,14 +103,12 @@ module _ (at : ℕ) (k : Kept) where
       let q : at + 1 + bodyLength (kindOf b) ≡ at + suc (bodyLength (kindOf b)) = omega arith in
       (omega arith, omega arith, rw (e, z, pass (bodyLength (kindOf b)) t (at + 1) (judgedOf (b ∷ t) k .kept) w, p, q))
 
+-- A part of a sheet that reaches to its end is all that follows the place.
+pub rest : (s : List ℕ) (at : ℕ) → take (length s - at) (drop at s) ≡ drop at s
+rest s at = take-all (length s - at) (drop at s) (rw (length-drop at s) (omega arith))
+
 -- The same at a place of the sheet s, where j is the judgement on the bytes from there on.
-module _ (s : List ℕ) (at : ℕ) (k : Kept) (j : Judged) (h : at < length s) (e : j ≡ judgedOf (take (length s - at) (drop at s)) k) where
-  rest : take (length s - at) (drop at s) ≡ drop at s
-  rest = take-all (length s - at) (drop at s) (rw (length-drop at s) (omega arith))
-
-  judged : j ≡ judgedOf (drop at s) k
-  judged = rw rest at e
-
+module _ (s : List ℕ) (at : ℕ) (k : Kept) (j : Judged) (h : at < length s) (judged : j ≡ judgedOf (drop at s) k) where
   long : length (drop at s) ≡ length s - at
   long = length-drop at s
 

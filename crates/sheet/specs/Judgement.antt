@@ -1,4 +1,5 @@
 -- The scope paper, "The tag sheet": one record judged against those before it.
+use mathlib.Core.Path.{_≡_}
 use Prim.Native.Nat.{ℕ, _+_}
 use mathlib.Core.Bool.{Bool, true, false, not}
 use mathlib.Core.List.{List, [], _∷_}
@@ -125,6 +126,10 @@ abbrev pub findingNumber : Finding → ℕ
 findingNumber (Taken n) = 0
 findingNumber Ended = 0
 findingNumber (Faulty f) = numberOf f
+
+-- A judgement that is this one, by name and by number.
+abbrev pub JudgedAs : Judged → Judged → Type 0
+JudgedAs r x = (r ≡ x) × (findingNumber (r .finding) ≡ findingNumber (x .finding))
 
 -- the number by which the record with which these bytes start is refused, and 0 where it is not
 unfoldable pub judgedNumber : List ℕ → Kept → ℕ

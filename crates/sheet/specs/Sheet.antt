@@ -1,6 +1,10 @@
 -- The scope paper, "The tag sheet": a whole sheet.
+use mathlib.Core.Path.{_≡_}
 use Prim.Native.Nat.{ℕ, zero, suc, _+_}
 use mathlib.Core.List.{List, [], _∷_}
+use lib.ListN.{length, drop}
+use lib.Dec.{leb}
+use Rattle.ground.specs.Choice.{pick}
 use Rattle.sheet.specs.Kinds.{kindOf, bodyLength, numberOf}
 use Rattle.sheet.specs.Setups.{emptySetup, nothingKept}
 use Rattle.sheet.specs.Judgement.{judgedOf}
@@ -38,6 +42,14 @@ walk (b ∷ t) zero at k =
     let j = judgedOf (b ∷ t) k in
     after (j .finding) (j .kept .setup) at t (walk t (bodyLength (kindOf b)) (at + 1) (j .kept))
 
+-- The same of the sheet s from a place on. Behind its end no kind byte stands: 30 at that place.
+abbrev pub readFrom : List ℕ → ℕ → Kept → Reading
+readFrom s at k = walk (drop at s) 0 at k
+
+-- The place n bytes further on, and no further than the sheet's end.
+abbrev pub furtherOn : List ℕ → ℕ → ℕ → ℕ
+furtherOn s at n = pick (leb (at + n) (length s)) (at + n) (length s)
+
 -- What a sheet says, or the first refusal with its place.
 unfoldable pub readOf : List ℕ → Reading
 readOf s = walk s 0 0 nothingKept
@@ -50,6 +62,10 @@ verdictNumber (Refused f at) = numberOf f
 abbrev pub verdictPlace : Verdict → ℕ
 verdictPlace Whole = 0
 verdictPlace (Refused f at) = at
+
+-- A reading that is this one, by name, by number and by place.
+abbrev pub ReadAs : Reading → Reading → Type 0
+ReadAs r x = (r ≡ x) × (verdictNumber (r .verdict) ≡ verdictNumber (x .verdict)) × (verdictPlace (r .verdict) ≡ verdictPlace (x .verdict))
 
 -- the number of a sheet's first refusal, and its place
 unfoldable pub readNumber : List ℕ → ℕ

@@ -1,6 +1,7 @@
 // The tag sheet of the scope paper: what a soft tag is set up from. What each function means stands in specs/.
 mod bodies;
 mod kinds;
+pub mod places; // places.rt: a sheet from a place on
 mod records;
 
 use memory::Area;
@@ -281,31 +282,5 @@ pub fn read(s: &[u8]) -> Reading
     ensures { λ r. ⌜ r ≡ readOf (now (s .entry)) ⌝ }
     ensures { λ r. ⌜ (verdictNumber (r .verdict) ≡ readNumber (now (s .entry))) × (verdictPlace (r .verdict) ≡ readPlace (now (s .entry))) ⌝ }
 {
-    let mut at = 0;
-    let mut kept = start();
-    while at < s.len() {
-        let j = judge(&s[at..], kept);
-        let f = j.finding;
-        let k = j.kept;
-        match f {
-            Finding::Faulty(fault) => {
-                return refuse(fault, at);
-            }
-            Finding::Ended => {
-                if at + 1 < s.len() {
-                    return refuse(Fault::Tail, at + 1);
-                }
-                let setup = k.setup;
-                return Reading {
-                    verdict: Verdict::Whole,
-                    setup,
-                };
-            }
-            Finding::Taken(n) => {
-                at += n;
-                kept = k;
-            }
-        }
-    }
-    refuse(Fault::Cut, at)
+    places::read_from(s, 0, start())
 }

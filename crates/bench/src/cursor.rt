@@ -1,0 +1,64 @@
+// A cursor that keeps the sheet and its place. What stands at a place is said once, of slice and number, in sheet::places.
+use sheet::Judged;
+use sheet::Kept;
+use sheet::Reading;
+use sheet::places;
+ghost use mathlib.Core.Path.{_≡_};
+ghost use lib.ListN.{drop};
+ghost use Rattle.sheet.specs.Judgement.{judgedOf, JudgedAs};
+ghost use Rattle.sheet.specs.Sheet.{readFrom, readOf, furtherOn, ReadAs};
+
+/// A lent sheet, and a place in it.
+pub struct Cursor<'a> {
+    pub sheet: &'a [u8],
+    pub at: usize,
+}
+
+/// A sheet opened at its first byte.
+///
+/// Ruled out: a cursor that starts behind the first record; a cursor over a part of the sheet.
+pub fn open<'a>(sheet: &'a [u8]) -> Cursor<'a>
+    ensures { λ r. ⌜ (r .sheet ≡ sheet .entry) × (r .at ≡ 0) ⌝ }
+{
+    Cursor { sheet, at: 0 }
+}
+
+/// The record at the cursor's place, judged against what was kept of those before it.
+///
+/// Ruled out: a judge that always looks at the sheet's first record; one that judges against nothing kept.
+pub fn judge<'a>(cursor: Cursor<'a>, kept: Kept) -> Judged
+    ensures { λ r. ⌜ JudgedAs r (judgedOf (drop (cursor .entry .at) (now (cursor .entry .sheet))) kept) ⌝ }
+{
+    places::judge_at(cursor.sheet, cursor.at, kept)
+}
+
+/// The cursor so many bytes further on, and no further than the sheet's end.
+///
+/// Ruled out: a cursor that stays; a cursor that leaves its sheet.
+pub fn moved<'a>(cursor: Cursor<'a>, n: usize) -> Cursor<'a>
+    ensures { λ r. ⌜ (r .sheet ≡ cursor .entry .sheet) × (r .at ≡ furtherOn (now (cursor .entry .sheet)) (cursor .entry .at) n) ⌝ }
+{
+    let at = places::further(cursor.sheet, cursor.at, n);
+    Cursor {
+        sheet: cursor.sheet,
+        at,
+    }
+}
+
+/// What the sheet says from the cursor's place on, or the first refusal with its place.
+///
+/// Ruled out: a reader that starts again at the sheet's first byte; places that are counted from the cursor.
+pub fn rest<'a>(cursor: Cursor<'a>, kept: Kept) -> Reading
+    ensures { λ r. ⌜ ReadAs r (readFrom (now (cursor .entry .sheet)) (cursor .entry .at) kept) ⌝ }
+{
+    places::read_from(cursor.sheet, cursor.at, kept)
+}
+
+/// A whole sheet through a cursor: what it says, or the first refusal with its place.
+///
+/// Ruled out: a reader that takes every sheet; one that keeps part of a sheet it refuses.
+pub fn read(sheet: &[u8]) -> Reading
+    ensures { λ r. ⌜ ReadAs r (readOf (now (sheet .entry))) ⌝ }
+{
+    rest(open(sheet), sheet::start())
+}

@@ -1,0 +1,25 @@
+-- The place further on, and the record at a place.
+use mathlib.Core.Path.{_≡_, ap, sym, _∙_}
+use mathlib.Core.List.{List, []}
+use Prim.Native.Nat.{ℕ, _+_, _-_, _≤_, _<_}
+use native.Mathlib.Omega.{arith}
+use borrow.Author.Tests.{le-leb, lt-leb}
+use lib.ListN.{length, take, drop, drop-of-length-le}
+use Rattle.sheet.specs.Judgement.{judgedOf}
+use Rattle.sheet.specs.Sheet.{furtherOn}
+use Rattle.sheet.specs.declared.Kept.{Kept}
+use Rattle.sheet.specs.declared.Judged.{Judged}
+use Rattle.sheet.proofs.Walks.{rest}
+
+pub further-on : (s : List ℕ) (at n : ℕ) → at + n ≤ length s → at + n ≡ furtherOn s at n
+further-on s at n h = rw (le-leb (at + n) (length s) h)
+
+pub further-end : (s : List ℕ) (at n : ℕ) → length s < at + n → length s ≡ furtherOn s at n
+further-end s at n h = rw (lt-leb (at + n) (length s) h)
+
+-- the two ways to the record at a place: it lies in the sheet, or behind its end
+pub judged-at : (s : List ℕ) (at : ℕ) (k : Kept) (j : Judged) → j ≡ judgedOf (take (length s - at) (drop at s)) k → j ≡ judgedOf (drop at s) k
+judged-at s at k j e = e ∙ ap (λ (t : List ℕ). judgedOf t k) (rest s at)
+
+pub judged-behind : (s : List ℕ) (at : ℕ) (k : Kept) (j : Judged) → length s < at → j ≡ judgedOf [] k → j ≡ judgedOf (drop at s) k
+judged-behind s at k j h e = e ∙ ap (λ (t : List ℕ). judgedOf t k) (sym (drop-of-length-le s {i = at} (omega arith)))
