@@ -1,22 +1,17 @@
 // What is written to standard output.
-use libc::STDOUT_FILENO;
+use lines::print;
 ghost use mathlib.Core.Path.{_≡_};
 ghost use lib.ListN.{length};
 ghost use Rattle.io.specs.Counts.{Counts};
 
-// A whole line, or a part of one.
-pub fn line(words: &[u8]) {
-    io::write_all(STDOUT_FILENO, words);
-}
-
 pub fn ok() {
-    line(b"ok\n");
+    print::text(b"ok\n");
 }
 
 pub fn decimal(n: u16) {
     let mut room = [0u8; 5];
     let k = within(text::write_decimal(n, &mut room), &room);
-    line(&room[..k]);
+    print::text(&room[..k]);
 }
 
 // Lower-case digits, `-` for no bytes. No byte string here is longer than the bench's areas.
@@ -24,7 +19,7 @@ pub fn hex(bytes: &[u8]) {
     let mut room = digits();
     let n = text::write_hex(bytes, &mut room);
     let e = within(n, &room);
-    line(&room[..e]);
+    print::text(&room[..e]);
 }
 
 // Room for the digits of 4,096 bytes.
@@ -35,16 +30,16 @@ fn digits() -> [u8; 8192]
 }
 
 pub fn refused(number: u8) {
-    line(b"refused ");
+    print::text(b"refused ");
     decimal(number as u16);
-    line(b"\n");
+    print::text(b"\n");
 }
 
 // `out` with its bytes.
 pub fn out(bytes: &[u8]) {
-    line(b"out ");
+    print::text(b"out ");
     hex(bytes);
-    line(b"\n");
+    print::text(b"\n");
 }
 
 // So many bytes of a room, or all of it where it has less.

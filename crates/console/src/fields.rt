@@ -1,16 +1,11 @@
 // The fields of a line. First they are all looked at, from left to right, and the first that can't be read is answered with
 // its reason; then a command takes those it needs.
-use crate::answer;
 use crate::words::count;
 use crate::words::word;
 use lines::numbers::sum;
+use lines::print;
 use text::DecimalRead;
 use text::HexRead;
-
-// The longest byte string, and the digits that it has.
-pub const LONGEST: usize = 4096;
-
-const DIGITS: usize = 8192;
 
 // Are there words for all fields but the last `optional` ones, no word too many, and can each be read? Fields begin at word
 // `from`, and `kinds` has a letter for each: n a number, h bytes, k sixteen bytes, m sixteen bytes or none, a an area, r a room,
@@ -18,11 +13,11 @@ const DIGITS: usize = 8192;
 pub fn read(line: &[u8], from: usize, kinds: &[u8], optional: usize) -> bool {
     let words = count(line);
     if sum(words, optional) < sum(from, kinds.len()) {
-        answer::line(b"error: word missing\n");
+        print::text(b"error: word missing\n");
         return false;
     }
     if sum(from, kinds.len()) < words {
-        answer::line(b"error: word too many\n");
+        print::text(b"error: word too many\n");
         return false;
     }
     each(line, from, words, kinds)
@@ -118,7 +113,7 @@ fn draws_read(field: &[u8]) -> bool {
 }
 
 fn wrong(reason: &[u8]) -> bool {
-    answer::line(reason);
+    print::text(reason);
     false
 }
 

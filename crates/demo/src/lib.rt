@@ -2,10 +2,10 @@
 // challenges, so that a trainee finds many of the bytes in its tables.
 mod told; // told.rt: what each half sends, and what the other finds
 
-use console::answer::line;
 use console::answer::within;
 use console::fields::read_into;
 use frames::Custom;
+use lines::print;
 use memory::BlockSize;
 use memory::Offset;
 use reader::Keys;
@@ -17,7 +17,7 @@ use told::Turn;
 pub fn played() {
     let mut identity = [0u8; 18];
     read_into(b"a16a76656e69617a5265676e756d5475756d", &mut identity);
-    line(
+    print::text(
         b"The sheet: all features, an identity area of 9 words, the keys 0 and 1 of Annex F, profile 1 over the whole area.\n",
     );
     told::memory(&identity);
@@ -35,7 +35,7 @@ fn set_up() -> Tag {
         ),
         &room,
     );
-    let reading = sheet::read(&room[..n]);
+    let reading = bench::cursor::read(&room[..n]);
     let setup = reading.setup;
     tag::power_up(setup)
 }
@@ -97,7 +97,7 @@ fn made(m: Made) -> usize {
 
 // Table F.4.
 fn tam1(t: Tag, identity: &mut [u8]) -> Tag {
-    line(b"\nTAM1: the reader asks whether the tag has key 0.\n");
+    print::text(b"\nTAM1: the reader asks whether the tag has key 0.\n");
     let mut room = [0u8; 176];
     let n = within(made(build::tam1(0, ichallenge(), &mut room)), &room);
     told::sent(b"TAM1, with ten bytes of challenge", &room[..n]);
@@ -114,7 +114,7 @@ fn tam1(t: Tag, identity: &mut [u8]) -> Tag {
 
 // Table F.16.
 fn tam2(t: Tag, identity: &mut [u8]) -> Tag {
-    line(
+    print::text(
         b"\nTAM2: the reader asks for two 64-bit blocks of profile 1, encrypted and with a MAC (ProtMode 3).\n",
     );
     let mut room = [0u8; 176];
@@ -155,7 +155,7 @@ fn custom(offset: u16, blockcount: u8) -> Custom {
 
 // Key 1; the challenge and IRnd of Table F.22 and F.23.
 fn iam3(t: Tag, identity: &mut [u8]) -> Tag {
-    line(
+    print::text(
         b"\nIAM: the reader shows that it has key 1, and writes one 64-bit block at Offset 1. An Offset step is four words here: words 4 to 7.\n",
     );
     let opened = iam1(t, identity);
@@ -163,8 +163,7 @@ fn iam3(t: Tag, identity: &mut [u8]) -> Tag {
 }
 
 fn written(opened: Turn, identity: &mut [u8]) -> Tag {
-    let j = opened.judgement;
-    let challenge = j.challenge;
+    let challenge = opened.challenge;
     let mut room = [0u8; 176];
     let m = build::iam3(
         second_keys(),
@@ -188,7 +187,7 @@ fn written(opened: Turn, identity: &mut [u8]) -> Tag {
         &room[..n],
         [0u8; 10],
         identity,
-        b"the tag says that it is done",
+        b"the tag says that it is done, which no key proves",
     );
     told::memory(identity);
     u.tag
@@ -210,14 +209,13 @@ fn iam1(t: Tag, identity: &mut [u8]) -> Turn {
 
 // Tables F.32 and F.33.
 fn mam(t: Tag, identity: &mut [u8]) {
-    line(b"\nMAM: each half shows the other that it has key 1.\n");
+    print::text(b"\nMAM: each half shows the other that it has key 1.\n");
     let opened = mam1(t, identity);
     answered(opened, identity);
 }
 
 fn answered(opened: Turn, identity: &mut [u8]) {
-    let j = opened.judgement;
-    let challenge = j.challenge;
+    let challenge = opened.challenge;
     let mut room = [0u8; 176];
     let m = build::mam2(second_keys(), 0, ichallenge(), challenge, &mut room);
     let n = within(made(m), &room);
@@ -229,7 +227,7 @@ fn answered(opened: Turn, identity: &mut [u8]) {
         &room[..n],
         [0u8; 10],
         identity,
-        b"the tag says that it is done",
+        b"the tag says that it is done, which no key proves",
     );
 }
 

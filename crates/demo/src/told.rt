@@ -1,7 +1,7 @@
 // A turn of the demo: what each half sends, and what the other finds, a line each.
 use console::answer;
-use console::answer::line;
 use console::answer::within;
+use lines::print;
 use reader::Judgement;
 use reader::Keys;
 use reader::Verdict;
@@ -11,24 +11,24 @@ use tag::Outcome;
 use tag::State;
 use tag::Tag;
 
-// The tag after a turn, and what the reader's side found.
+// The tag after a turn, and its challenge where it issued one.
 pub struct Turn {
     pub tag: Tag,
-    pub judgement: Judgement,
+    pub challenge: [u8; 10],
 }
 
 pub fn memory(identity: &[u8]) {
-    line(b"memory        ");
+    print::text(b"memory        ");
     answer::hex(identity);
-    line(b"\n");
+    print::text(b"\n");
 }
 
 pub fn sent(what: &[u8], message: &[u8]) {
-    line(b"reader sends  ");
+    print::text(b"reader sends  ");
     answer::hex(message);
-    line(b"  (");
-    line(what);
-    line(b")\n");
+    print::text(b"  (");
+    print::text(what);
+    print::text(b")\n");
 }
 
 // The tag hears a message, and the reader's side judges the reply; what a right reply means is said by the caller.
@@ -49,43 +49,58 @@ pub fn played(
     let state = session.state;
     let n = within(tag::reply_length(outcome), &room);
     heard(outcome, state, &room[..n]);
-    let mut data = [0u8; 144];
-    let j = judge(keys, message, &room[..n], &mut data);
-    found(j, meaning, &data);
+    if let Outcome::Refused(_) = outcome {
+        return Turn {
+            tag: next,
+            challenge: [0u8; 10],
+        };
+    }
     Turn {
         tag: next,
-        judgement: j,
+        challenge: judged(keys, message, &room[..n], meaning),
     }
 }
 
+// A reply that came, and the challenge in it.
+fn judged(keys: Keys, message: &[u8], reply: &[u8], meaning: &[u8]) -> [u8; 10] {
+    let mut data = [0u8; 144];
+    let j = judge(keys, message, reply, &mut data);
+    found(j, meaning, &data);
+    j.challenge
+}
+
 fn heard(outcome: Outcome, state: State, reply: &[u8]) {
-    line(b"tag finds     ");
+    print::text(b"tag finds     ");
     match outcome {
-        Outcome::Replied(_) => line(b"a message that it answers; it goes to "),
-        Outcome::Entered(_) => line(
+        Outcome::Replied(_) => print::text(b"a message that it answers; it goes to "),
+        Outcome::Entered(_) => print::text(
             b"its own challenge under the key: the reader is let in; it goes to ",
         ),
-        Outcome::Refused(_) => line(b"a fault; it goes to "),
+        Outcome::Refused(_) => print::text(b"a fault; it goes to "),
     }
     match state {
-        State::Initial => line(b"Initial\n"),
-        State::IamInit => line(b"IAM-Init\n"),
-        State::MamInit => line(b"MAM-Init\n"),
-        State::IaOk => line(b"IA-OK\n"),
+        State::Initial => print::text(b"Initial\n"),
+        State::IamInit => print::text(b"IAM-Init\n"),
+        State::MamInit => print::text(b"MAM-Init\n"),
+        State::IaOk => print::text(b"IA-OK\n"),
     }
-    line(b"tag sends     ");
-    answer::hex(reply);
-    line(b"\n");
+    print::text(b"tag sends     ");
+    match outcome {
+        Outcome::Replied(_) => answer::hex(reply),
+        Outcome::Entered(_) => print::text(b"an empty reply"),
+        Outcome::Refused(_) => print::text(b"nothing"),
+    }
+    print::text(b"\n");
 }
 
 fn found(j: Judgement, meaning: &[u8], room: &[u8]) {
     let verdict = j.verdict;
-    line(b"reader finds  ");
+    print::text(b"reader finds  ");
     match verdict {
         Verdict::Refused(fault) => {
-            line(b"refusal ");
+            print::text(b"refusal ");
             answer::decimal(reader::number(fault) as u16);
-            line(b"\n");
+            print::text(b"\n");
         }
         Verdict::Accepted => accepted(j, meaning, room),
     }
@@ -94,17 +109,17 @@ fn found(j: Judgement, meaning: &[u8], room: &[u8]) {
 fn accepted(j: Judgement, meaning: &[u8], room: &[u8]) {
     let worth = j.worth;
     let n = within(j.data, room);
-    line(b"a right reply: ");
-    line(meaning);
+    print::text(b"a right reply: ");
+    print::text(meaning);
     match worth {
-        Worth::NoData => line(b"\n"),
+        Worth::NoData => print::text(b"\n"),
         Worth::Unproved => words(b", no MAC proves them: ", &room[..n]),
         Worth::Proved => words(b", the MAC proves them: ", &room[..n]),
     }
 }
 
 fn words(worth: &[u8], data: &[u8]) {
-    line(worth);
+    print::text(worth);
     answer::hex(data);
-    line(b"\n");
+    print::text(b"\n");
 }

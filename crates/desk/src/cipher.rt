@@ -4,12 +4,13 @@ use console::answer::within;
 use console::fields;
 use console::fields::sixteen;
 use console::words::word;
+use lines::print;
 use modes::Chaining;
 
 pub fn aes(line: &[u8]) {
     let form = word(line, 1);
     if form.len() == 0 {
-        answer::line(b"error: word missing\n");
+        print::text(b"error: word missing\n");
         return;
     }
     if payload::same(form, b"enc") {
@@ -24,7 +25,7 @@ pub fn aes(line: &[u8]) {
         }
         return;
     }
-    answer::line(b"error: unknown form\n");
+    print::text(b"error: unknown form\n");
 }
 
 // The forms of 3.1.8 to 3.1.11.
@@ -55,12 +56,12 @@ fn form_of(name: &[u8]) -> Form {
 pub fn cbc(line: &[u8]) {
     let name = word(line, 1);
     if name.len() == 0 {
-        answer::line(b"error: word missing\n");
+        print::text(b"error: word missing\n");
         return;
     }
     let form = form_of(name);
     if let Form::NoForm = form {
-        answer::line(b"error: unknown form\n");
+        print::text(b"error: unknown form\n");
         return;
     }
     if !fields::read(line, 2, b"kkhr", 0) {

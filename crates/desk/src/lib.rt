@@ -37,7 +37,7 @@ pub fn empty() -> Desk {
     }
 }
 
-// The same tag after a message or at its power-up.
+// With a tag: a new one, or the same after a message or at its power-up.
 fn with_tag(d: Desk, tag: Tag) -> Desk {
     let keys = d.keys;
     Desk {

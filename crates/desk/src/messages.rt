@@ -7,6 +7,7 @@ use console::answer::within;
 use console::fields;
 use console::words::word;
 use frames::Kind;
+use lines::print;
 use reader::Judgement;
 use reader::Keys;
 use reader::Made;
@@ -34,19 +35,19 @@ fn held(d: Desk) -> bool {
     if d.held {
         return true;
     }
-    answer::line(b"error: no keys yet\n");
+    print::text(b"error: no keys yet\n");
     false
 }
 
 pub fn build(d: Desk, line: &[u8]) {
     let name = word(line, 1);
     if name.len() == 0 {
-        answer::line(b"error: word missing\n");
+        print::text(b"error: word missing\n");
         return;
     }
     let kind = orders::kind_of(name);
     if let Kind::Unsupported = kind {
-        answer::line(b"error: unknown message\n");
+        print::text(b"error: unknown message\n");
         return;
     }
     if !orders::read(kind, line) {
@@ -67,9 +68,9 @@ fn built(made: Made, room: &[u8]) {
     match made {
         Made::Message(n) => {
             let e = within(n, room);
-            answer::line(b"message ");
+            print::text(b"message ");
             answer::hex(&room[..e]);
-            answer::line(b"\n");
+            print::text(b"\n");
         }
         Made::Refused(fault) => answer::refused(reader::number(fault)),
     }
@@ -104,17 +105,17 @@ fn accepted(j: Judgement, room: &[u8]) {
     let worth = j.worth;
     let challenge = j.challenge;
     let n = within(j.data, room);
-    answer::line(b"accepted data ");
+    print::text(b"accepted data ");
     answer::hex(&room[..n]);
-    answer::line(b" challenge ");
+    print::text(b" challenge ");
     if j.issued {
         answer::hex(&challenge);
     } else {
         answer::hex(b"");
     }
     match worth {
-        Worth::NoData => answer::line(b" -\n"),
-        Worth::Unproved => answer::line(b" unproved\n"),
-        Worth::Proved => answer::line(b" proved\n"),
+        Worth::NoData => print::text(b" -\n"),
+        Worth::Unproved => print::text(b" unproved\n"),
+        Worth::Proved => print::text(b" proved\n"),
     }
 }

@@ -90,7 +90,7 @@ pub fn made(keys: Keys, kind: Kind, line: &[u8], room: &mut [u8]) -> Made {
             return mam2(keys, line, room);
         }
         Kind::Unsupported => {
-            return Made::Refused(Fault::OwnMessage);
+            return out_of_range();
         }
     }
 }

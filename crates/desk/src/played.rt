@@ -9,6 +9,7 @@ use console::words::count;
 use console::words::word;
 use lines::numbers::low_word;
 use lines::numbers::times;
+use lines::print;
 use sheet::Setup;
 use sheet::Verdict;
 use tag::Outcome;
@@ -20,16 +21,16 @@ pub fn sheet(d: Desk, line: &[u8], identity: &mut [u8], user: &mut [u8]) -> Desk
     }
     let mut room = io::buffer();
     let n = within(fields::bytes(line, 1, &mut room), &room);
-    let reading = sheet::read(&room[..n]);
+    let reading = bench::cursor::read(&room[..n]);
     let verdict = reading.verdict;
     let setup = reading.setup;
     match verdict {
         Verdict::Refused(fault, at) => {
-            answer::line(b"refused ");
+            print::text(b"refused ");
             answer::decimal(sheet::number(fault) as u16);
-            answer::line(b" at ");
+            print::text(b" at ");
             answer::decimal(low_word(at));
-            answer::line(b"\n");
+            print::text(b"\n");
             return d;
         }
         Verdict::Whole => {
@@ -80,11 +81,11 @@ pub fn areas(d: Desk, line: &[u8], identity: &[u8], user: &[u8]) {
     }
     let i = within(d.identity, identity);
     let u = within(d.user, user);
-    answer::line(b"area 0 ");
+    print::text(b"area 0 ");
     answer::hex(&identity[..i]);
-    answer::line(b" area 1 ");
+    print::text(b" area 1 ");
     answer::hex(&user[..u]);
-    answer::line(b"\n");
+    print::text(b"\n");
 }
 
 // Is there a tag? Where not, it is said.
@@ -92,7 +93,7 @@ fn set(d: Desk) -> bool {
     if d.set {
         return true;
     }
-    answer::line(b"error: no tag yet\n");
+    print::text(b"error: no tag yet\n");
     false
 }
 
@@ -119,7 +120,7 @@ pub fn message(d: Desk, line: &[u8], identity: &mut [u8], user: &mut [u8]) -> De
     if random(line) {
         let mut draws = [0u8; 10];
         if libc::getentropy(&mut draws) != 0 {
-            answer::line(b"error: no random bytes\n");
+            print::text(b"error: no random bytes\n");
             return d;
         }
         return sent(d, line, &draws, identity, user);
@@ -178,34 +179,34 @@ fn told(outcome: Outcome, state: State, room: &[u8]) {
         Outcome::Replied(n) => {
             let e = within(n, room);
             replied(&room[..e], state);
-            answer::line(b" purpose -\n");
+            print::text(b" purpose -\n");
         }
         Outcome::Entered(purpose) => {
             replied(b"", state);
-            answer::line(b" purpose ");
+            print::text(b" purpose ");
             answer::decimal(purpose as u16);
-            answer::line(b"\n");
+            print::text(b"\n");
         }
         Outcome::Refused(_) => {
-            answer::line(b"refused ");
+            print::text(b"refused ");
             answer::decimal(tag::number(outcome) as u16);
             state_told(state);
-            answer::line(b"\n");
+            print::text(b"\n");
         }
     }
 }
 
 fn replied(reply: &[u8], state: State) {
-    answer::line(b"reply ");
+    print::text(b"reply ");
     answer::hex(reply);
     state_told(state);
 }
 
 fn state_told(state: State) {
     match state {
-        State::Initial => answer::line(b" state Initial"),
-        State::IamInit => answer::line(b" state IAM-Init"),
-        State::MamInit => answer::line(b" state MAM-Init"),
-        State::IaOk => answer::line(b" state IA-OK"),
+        State::Initial => print::text(b" state Initial"),
+        State::IamInit => print::text(b" state IAM-Init"),
+        State::MamInit => print::text(b" state MAM-Init"),
+        State::IaOk => print::text(b" state IA-OK"),
     }
 }

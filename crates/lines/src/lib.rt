@@ -1,4 +1,4 @@
-// What the programs of vectors share.
+// What the programs share.
 pub mod draws; // draws.rt: the generator, and the digest of what it made
 pub mod numbers; // numbers.rt: numbers and bytes with an answer for all arguments
 pub mod pen; // pen.rt: drawn numbers, and a place to write

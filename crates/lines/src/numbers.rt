@@ -1,4 +1,4 @@
-// Numbers and bytes for the drawing: each function has an answer for all arguments, so that nothing wraps or lies outside.
+// Numbers and bytes: each function has an answer for all arguments, so that nothing wraps or lies outside.
 
 pub fn sum(a: usize, b: usize) -> usize {
     std::num::wrapping_add_usize(a, b)

@@ -1,12 +1,12 @@
 // Which command a line is.
 use crate::explain;
-use console::answer;
 use console::fields;
 use console::words::word;
 use desk::Desk;
 use desk::cipher;
 use desk::messages;
 use desk::played;
+use lines::print;
 use payload::same;
 
 enum Command {
@@ -124,7 +124,7 @@ pub fn answered(d: Desk, line: &[u8], identity: &mut [u8], user: &mut [u8]) -> D
             return d;
         }
         Command::Unknown => {
-            answer::line(b"error: unknown command\n");
+            print::text(b"error: unknown command\n");
             return d;
         }
     }

@@ -5,6 +5,7 @@ use console::words::before_comment;
 use console::words::count;
 use desk::Desk;
 use libc::STDIN_FILENO;
+use lines::print;
 
 // How much of a line there is, and whether it has more than its room.
 struct Line {
@@ -51,7 +52,12 @@ struct Heard {
 // The next part of the input.
 fn next(h: Heard, line: &mut [u8], identity: &mut [u8], user: &mut [u8]) -> Heard {
     let mut part = io::buffer();
-    let n = io::count(libc::read(STDIN_FILENO, &mut part), &part);
+    let got = libc::read(STDIN_FILENO, &mut part);
+    if got < 0 {
+        print::text(b"error: standard input can't be read\n");
+        return at_end(h);
+    }
+    let n = io::count(got, &part);
     if n == 0 {
         return at_end(h);
     }
@@ -114,7 +120,7 @@ fn last(h: Heard, line: &[u8], identity: &mut [u8], user: &mut [u8]) {
 
 fn ended(d: Desk, l: Line, line: &[u8], identity: &mut [u8], user: &mut [u8]) -> Desk {
     if l.cut {
-        answer::line(b"error: line over 65536 bytes\n");
+        print::text(b"error: line over 65536 bytes\n");
         return d;
     }
     let n = answer::within(l.n, line);

@@ -22,7 +22,7 @@ fn begun(arguments: usize, first: &[u8]) {
             return;
         }
     }
-    console::answer::line(
+    lines::print::text(
         b"error: unknown argument; give commands on standard input, or the argument demo\n",
     );
 }
