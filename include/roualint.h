@@ -78,9 +78,16 @@ extern "C" {
  *     2 to 11    TChallenge that is held
  *     12 to 15   IChallenge[31:0] that is held
  *     16, 17     the length of the sheet, most significant byte first
- *     18 to 826  the sheet, and zeros behind it
- * It can be copied, stored and compared like any bytes: two tags are equal where their bytes are. Bytes are no tag's where
- * the state is over 3 or the sheet is refused; all zeros are none. Each function reads the sheet anew. */
+ *     18 to 826  the sheet; roualint_sheet sets the bytes behind it to zero, and no other function writes there
+ * It can be copied, stored and compared like any bytes: of tags that roualint_sheet made, two have the same sheet and the
+ * same session just where their bytes are equal. Bytes are no tag's where the state is over 3 or the sheet is refused; all
+ * zeros are none. Each function reads the sheet anew.
+ *
+ * State and sheet are all that is asked: the library can't tell a stored tag from bytes that were made by hand. They are the
+ * standard's tag where roualint_sheet made them and only these functions changed them since (theorem sheet-run in
+ * crates/capi/proofs/Runs.antt). So keep them, like the keys they hold, where nobody else writes. Bytes from elsewhere are
+ * safe to pass: every call returns and keeps to its contract. But their answers are worth nothing: such a tag may let in a
+ * reader that has no key. */
 typedef struct roualint_tag {
     uint8_t bytes[ROUALINT_TAG];
 } roualint_tag;
@@ -88,12 +95,13 @@ typedef struct roualint_tag {
 /* How many bytes a kept tag has: 827. */
 size_t roualint_tag_bytes(void);
 
-/* A sheet becomes a tag at its power-up: 0, and *place is 0. A refused sheet: 30 to 35, *place is that of the record that
- * is refused, and the tag stays as it was. */
+/* A sheet becomes a tag at its power-up: 0, and *place is 0. A refused sheet: 30 to 35, and the tag stays as it was; *place,
+ * counted from 0, is that of the kind byte of the record that is refused; for 35 that of the first byte behind the end
+ * record; for 30, where no record is there, the sheet's length. */
 uint8_t roualint_sheet(const uint8_t *sheet, size_t sheet_length, roualint_tag *tag, size_t *place);
 
-/* Power-up and reset: 0, and the tag is in Initial and holds nothing but its sheet. Bytes that are no tag's: 7, and they
- * stay as they are. */
+/* Power-up and reset: 0, and the tag is in Initial and holds nothing: the session's sixteen bytes are zeros, and all others
+ * stay. Bytes that are no tag's: 7, and they stay as they are. */
 uint8_t roualint_power_up(roualint_tag *tag);
 
 /* The tag's state, 0 to 3; 255 for bytes that are no tag's. */

@@ -46,12 +46,13 @@ impl fmt::Display for Refusal {
 
 impl Error for Refusal {}
 
-/// A sheet's refusal, with the place of the record that is refused.
+/// A sheet's refusal, with its place.
 #[derive(Clone, Copy, PartialEq, Eq, Debug)]
 pub struct SheetRefusal {
     /// 30 to 35.
     pub refusal: Refusal,
-    /// The place of the record's kind byte, counted from 0.
+    /// Counted from 0: the place of the kind byte of the record that is refused; for 35 of the first byte behind the end
+    /// record; for 30, where no record is there, the sheet's length.
     pub place: usize,
 }
 

@@ -12,7 +12,9 @@ pub const TAG_BYTES: usize = 827;
 const REPLY_ROOM: usize = 172;
 
 /// A tag: what its sheet says, and its session. The bytes are those that include/roualint.h describes, so that a tag can be
-/// stored and read back; a value of this type is always a tag's.
+/// stored and read back. A value of this type always has one of the four states and a sheet that is accepted. One that
+/// [`Tag::new`] made is the standard's tag from then on (theorem sheet-run in crates/capi/proofs/Runs.antt), also where it
+/// was stored in between; of bytes from elsewhere see [`Tag::from_bytes`].
 #[derive(Clone, PartialEq, Eq)]
 #[repr(transparent)]
 pub struct Tag {
@@ -66,7 +68,11 @@ impl Tag {
         Refusal::check(number).map_err(|refusal| SheetRefusal { refusal, place })
     }
 
-    /// The tag of these bytes. Number 7 where they are no tag's.
+    /// The tag of these bytes. Number 7 where the state is over 3 or the sheet is refused.
+    ///
+    /// State and sheet are all that is asked: the library can't tell a stored tag from bytes that were made by hand. So keep the
+    /// bytes, like the keys they hold, where nobody else writes. Bytes from elsewhere are safe to pass: every call returns
+    /// and keeps to its contract. But their answers are worth nothing: such a tag may let in a reader that has no key.
     pub fn from_bytes(bytes: [u8; TAG_BYTES]) -> Result<Tag, Refusal> {
         let mut areas = (0, 0);
         // The bytes are only read; the two sizes are places of their own.
@@ -79,11 +85,11 @@ impl Tag {
         &self.bytes
     }
 
-    /// Power-up and reset: the tag is in Initial, and holds nothing but its sheet.
+    /// Power-up and reset: the tag is in Initial and holds nothing. The session's sixteen bytes are zeros, all others stay.
     pub fn power_up(&mut self) {
         // The tag is borrowed for writing, and nothing else is lent.
         let number = unsafe { ffi::roualint_power_up(&mut self.bytes) };
-        debug_assert_eq!(number, 0, "a value of this type is a tag's");
+        debug_assert_eq!(number, 0, "state and sheet are those of a tag");
     }
 
     /// The state.
@@ -94,7 +100,7 @@ impl Tag {
             1 => State::IamInit,
             2 => State::MamInit,
             3 => State::IaOk,
-            _ => unreachable!("a value of this type is a tag's"),
+            _ => unreachable!("state and sheet are those of a tag"),
         }
     }
 
@@ -103,7 +109,7 @@ impl Tag {
         let mut areas = Areas { identity: 0, user: 0 };
         // The tag is only read; the two sizes are places of their own.
         let number = unsafe { ffi::roualint_areas(&self.bytes, &mut areas.identity, &mut areas.user) };
-        debug_assert_eq!(number, 0, "a value of this type is a tag's");
+        debug_assert_eq!(number, 0, "state and sheet are those of a tag");
         areas
     }
 
