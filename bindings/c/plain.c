@@ -22,7 +22,7 @@ void builder_refusals(void)
     EXPECT(roualint_build_tam2(enc, mac, 16, 0, 1, 0, i, 0, 0, 0, 4, m, room) == 0, "ProtMode 4");
     EXPECT(roualint_build_iam2(enc, mac, 16, 16, irnd, i, m, room) == 0, "Purpose 16");
     EXPECT(roualint_build_iam3(enc, mac, 16, 0, 0, 0, 0, 0, 0, irnd, i, word, 2, m, room) == 0, "two bytes for a block of 64 bits");
-    EXPECT(roualint_build_mam2(enc, mac, 17, 0, i, i, m, room) == 0, "a MAC key of 17 bytes");
+    EXPECT(roualint_build_mam2(enc, bytes(MAC0 "00"), 17, 0, i, i, m, room) == 0, "a MAC key of 17 bytes");
     EXPECT(are_all(m, room, 0xA5), "a refusal writes nothing");
     INTACT();
     lent_back();

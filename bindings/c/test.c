@@ -1,126 +1,13 @@
 /* Both halves of the bench through include/roualint.h: exchanges of Annex F, refusals of each family, and that no byte
  * outside of what is lent is written. Prints one line where all is well; else a message, and the status is 1. */
 #include "annexf.h"
+#include "bench.h"
 #include "lent.h"
 #include "plain.h"
 #include "roualint.h"
 
 #include <stdio.h>
 #include <string.h>
-
-/* A tag with its areas, and what the last call told. */
-struct bench {
-    roualint_tag *tag;
-    uint8_t *room;
-    uint8_t *identity;
-    uint8_t *user;
-    size_t length;
-    uint8_t purpose;
-};
-
-/* Annex F's tag, at its power-up. */
-static struct bench annex_f(void)
-{
-    struct bench b = {0};
-    size_t n, place = 99;
-    const uint8_t *sheet = hex(SHEET, &n);
-    b.tag = (roualint_tag *)lent(sizeof(roualint_tag));
-    b.room = lent(ROUALINT_REPLY_ROOM);
-    b.identity = lent(18);
-    b.user = lent(0);
-    memcpy(b.identity, bytes(MEMORY), 18);
-    EXPECT(roualint_sheet(sheet, n, b.tag, &place) == 0 && place == 0, "Annex F's sheet is accepted");
-    INTACT();
-    return b;
-}
-
-static uint8_t send(struct bench *b, const uint8_t *message, size_t n, const char *draws)
-{
-    size_t draw_count;
-    const uint8_t *drawn = hex(draws, &draw_count);
-    uint8_t number;
-    b->length = 99;
-    b->purpose = 99;
-    number = roualint_message(b->tag, message, n, drawn, draw_count, b->room, ROUALINT_REPLY_ROOM, b->identity, 18, b->user, 0,
-                              &b->length, &b->purpose);
-    INTACT();
-    return number;
-}
-
-static uint8_t send_hex(struct bench *b, const char *message, const char *draws)
-{
-    size_t n;
-    const uint8_t *m = hex(message, &n);
-    return send(b, m, n, draws);
-}
-
-/* Accepted, with this reply, in this state; what lies behind the reply in the room stays. */
-static void answers(struct bench *b, const uint8_t *message, size_t n, const char *draws, const char *reply, uint8_t state)
-{
-    memset(b->room, 0xA5, ROUALINT_REPLY_ROOM);
-    EXPECT(send(b, message, n, draws) == 0, "the message is accepted");
-    EXPECT(is_hex(b->room, b->length, reply), "the reply is Annex F's");
-    EXPECT(are_all(b->room + b->length, ROUALINT_REPLY_ROOM - b->length, 0xA5), "behind the reply the room stays");
-    EXPECT(b->purpose == (state == ROUALINT_IA_OK ? 0 : ROUALINT_NO_PURPOSE), "the Purpose");
-    EXPECT(roualint_state(b->tag) == state, "the state");
-}
-
-/* Refused by this number: nothing but the tag has changed, and that is in Initial and holds nothing. */
-static void refuses(struct bench *b, const char *message, uint8_t number)
-{
-    memset(b->room, 0xA5, ROUALINT_REPLY_ROOM);
-    EXPECT(send_hex(b, message, NO_DRAWS) == number, "the number of the refusal");
-    EXPECT(b->length == 0 && b->purpose == ROUALINT_NO_PURPOSE, "a refusal tells no reply and no Purpose");
-    EXPECT(are_all(b->room, ROUALINT_REPLY_ROOM, 0xA5) && is_hex(b->identity, 18, MEMORY), "a refusal writes nothing");
-    EXPECT(are_all(b->tag->bytes, 16, 0) && roualint_state(b->tag) == ROUALINT_INITIAL, "a refusal ends in Initial");
-}
-
-/* What the judge says. */
-struct judged {
-    uint8_t number;
-    uint8_t *room;
-    size_t length;
-    uint8_t worth;
-    uint8_t issued;
-    uint8_t *challenge;
-};
-
-static struct judged judge(const char *enc, const char *mac, const uint8_t *m, size_t n, const uint8_t *reply, size_t k, size_t room)
-{
-    struct judged j = {99, NULL, 99, 99, 99, NULL};
-    size_t mac_length;
-    const uint8_t *mac_key = hex(mac, &mac_length);
-    j.room = lent(room);
-    j.challenge = lent(10);
-    j.number = roualint_judge(bytes(enc), mac_key, mac_length, m, n, reply, k, j.room, room, &j.length, &j.worth, &j.issued, j.challenge);
-    INTACT();
-    return j;
-}
-
-/* Accepted, with these data of this worth, or with this challenge. */
-static void accepts(struct judged j, const char *data, uint8_t worth, const char *challenge)
-{
-    EXPECT(j.number == 0, "the reply is accepted");
-    EXPECT(is_hex(j.room, j.length, data) && are_all(j.room + j.length, ROUALINT_DATA_ROOM - j.length, 0xA5), "the data");
-    EXPECT(j.worth == worth, "what the data are worth");
-    EXPECT(j.issued == (challenge[0] != '\0'), "whether a challenge came");
-    EXPECT(j.issued ? is_hex(j.challenge, 10, challenge) : are_all(j.challenge, 10, 0), "the challenge");
-}
-
-static void rejects(struct judged j, size_t room, uint8_t number)
-{
-    EXPECT(j.number == number, "the number of the judgement");
-    EXPECT(j.length == 0 && j.worth == ROUALINT_NO_DATA && are_all(j.room, room, 0xA5), "a refusal hands no data over");
-    EXPECT(j.issued == 0 && are_all(j.challenge, 10, 0), "a refusal hands no challenge over");
-}
-
-/* The message in a room is this one, and behind it the room stays. */
-static void is_built(const uint8_t *room, size_t n, const char *message)
-{
-    EXPECT(is_hex(room, n, message), "the message is Annex F's");
-    EXPECT(are_all(room + n, ROUALINT_MESSAGE_ROOM - n, 0xA5), "behind the message the room stays");
-    INTACT();
-}
 
 static void sizes(void)
 {
@@ -142,6 +29,8 @@ static void sheets(void)
 
     EXPECT(roualint_sheet(sheet, 0, b.tag, &place) == ROUALINT_SHEET_CUT && place == 0, "the empty sheet");
     EXPECT(roualint_sheet(sheet, 20, b.tag, &place) == ROUALINT_SHEET_CUT && place == 8, "a sheet that is cut");
+    EXPECT(roualint_sheet(sheet, 45, b.tag, &place) == ROUALINT_SHEET_CUT && place == 45, "a sheet that ends behind a record");
+    EXPECT(roualint_sheet(bytes(SHEET "00"), n + 1, b.tag, &place) == ROUALINT_SHEET_BYTES_FOLLOW && place == n, "a byte follows");
     EXPECT(roualint_sheet(sheet + 3, n - 3, b.tag, &place) == ROUALINT_SHEET_KIND_ORDER && place == 0, "a sheet without its first record");
     EXPECT(memcmp(&before, b.tag, sizeof before) == 0, "a refused sheet leaves the tag as it was");
 
@@ -174,6 +63,13 @@ static void tag_authentication(void)
     rejects(judge(ENC0, "00", m, n, b.room, b.length, ROUALINT_DATA_ROOM), ROUALINT_DATA_ROOM, ROUALINT_OWN_MESSAGE);
     rejects(judge(ENC0, MAC0, m, n, b.room, b.length, ROUALINT_DATA_ROOM - 1), ROUALINT_DATA_ROOM - 1, ROUALINT_OWN_MESSAGE);
     rejects(judge(ENC0, MAC0, m, n - 1, b.room, b.length, ROUALINT_DATA_ROOM), ROUALINT_DATA_ROOM, ROUALINT_OWN_MESSAGE);
+
+    /* Rev 0, ProtMode 0: the same block, and the data with no header. */
+    memset(m, 0xA5, ROUALINT_MESSAGE_ROOM);
+    n = roualint_build_tam2(bytes(ENC0), bytes(MAC0), 16, 0, 0, 0, bytes(ICHALLENGE), 1, 0, 1, 0, m, ROUALINT_MESSAGE_ROOM);
+    is_built(m, n, "2000" ICHALLENGE "100010");
+    answers(&b, m, n, "6D696372000000000000", "E920530CC781B20CFE1AB4A0144E7335 A16A76656E69617A5265676E756D5475", ROUALINT_INITIAL);
+    accepts(judge(ENC0, MAC0, m, n, b.room, b.length, ROUALINT_DATA_ROOM), "A16A76656E69617A5265676E756D5475", ROUALINT_UNPROVED, "");
 
     /* Rev 1, ProtMode 3, two blocks of 64 bits (F.16): proved. */
     memset(m, 0xA5, ROUALINT_MESSAGE_ROOM);
@@ -213,23 +109,28 @@ static void interrogator_authentication(void)
 
     /* 7: the tag stays as it was. */
     waiting = *b.tag;
-    EXPECT(send_hex(&b, IAM2, "000000000000000000") == ROUALINT_BENCH_FAULT, "nine draws");
+    EXPECT(sends_hex(&b, IAM2, "000000000000000000") == ROUALINT_BENCH_FAULT, "nine draws");
     EXPECT(memcmp(&waiting, b.tag, sizeof waiting) == 0 && b.length == 0, "number 7 changes nothing");
 
     memset(m, 0xA5, ROUALINT_MESSAGE_ROOM);
     n = roualint_build_iam2(bytes(ENC1), bytes(MAC1), 16, 0, bytes(IRND), bytes(TCHALLENGE), m, ROUALINT_MESSAGE_ROOM);
     is_built(m, n, IAM2);
-    answers(&b, m, n, NO_DRAWS, "", ROUALINT_IA_OK);
+    lets_in(&b, m, n, 0);
     accepts(judge(ENC1, MAC1, m, n, b.room, 0, ROUALINT_DATA_ROOM), "", ROUALINT_NO_DATA, "");
     EXPECT(roualint_power_up(b.tag) == 0 && roualint_state(b.tag) == ROUALINT_INITIAL, "power-up");
 
+    /* Another Purpose is handed out as it came. */
+    EXPECT(sends_hex(&b, "4001", TCHALLENGE) == 0, "IAM1");
+    n = roualint_build_iam2(bytes(ENC1), bytes(MAC1), 16, 5, bytes(IRND), bytes(TCHALLENGE), m, ROUALINT_MESSAGE_ROOM);
+    lets_in(&b, m, n, 5);
+
     /* IAM3, ProtMode 3, two blocks of 16 bits from the third word on (F.29). */
-    EXPECT(send_hex(&b, "4001", TCHALLENGE) == 0, "IAM1");
+    EXPECT(sends_hex(&b, "4001", TCHALLENGE) == 0, "IAM1");
     memset(m, 0xA5, ROUALINT_MESSAGE_ROOM);
     n = roualint_build_iam3(bytes(ENC1), bytes(MAC1), 16, 1, 1, 2, 1, 3, 0, bytes(IRND), bytes(TCHALLENGE), bytes("AABBCCDD"), 4, m,
                             ROUALINT_MESSAGE_ROOM);
     is_built(m, n, "5C100213 5D3F017B042E02228D26C90DBDB513DA 49E163B8C7A3316BA0A1E3EB62088358 624C8B0CDBE35E089F1C355F");
-    answers(&b, m, n, NO_DRAWS, "", ROUALINT_IA_OK);
+    lets_in(&b, m, n, 0);
     EXPECT(is_hex(b.identity, 18, "A16A7665AABBCCDD5265676E756D5475756D"), "the words are written, and no others");
     lent_back();
 }
@@ -246,7 +147,57 @@ static void mutual_authentication(void)
     memset(m, 0xA5, ROUALINT_MESSAGE_ROOM);
     n = roualint_build_mam2(bytes(ENC1), bytes(MAC1), 16, 0, bytes(ICHALLENGE), bytes(VON_BRAUN), m, ROUALINT_MESSAGE_ROOM);
     is_built(m, n, "90 F537798C9E30CF1999E3C52A7994BD93");
-    answers(&b, m, n, NO_DRAWS, "", ROUALINT_IA_OK);
+    lets_in(&b, m, n, 0);
+
+    /* Another Purpose is handed out as it came. */
+    EXPECT(sends_hex(&b, "8001" ICHALLENGE, VON_BRAUN) == 0, "MAM1");
+    n = roualint_build_mam2(bytes(ENC1), bytes(MAC1), 16, 14, bytes(ICHALLENGE), bytes(VON_BRAUN), m, ROUALINT_MESSAGE_ROOM);
+    lets_in(&b, m, n, 14);
+    lent_back();
+}
+
+/* Profile 0 over words 4 to 271 of area 1: IAM3 writes there and TAM2 reads, in blocks of both sizes, with Offsets of two bytes. */
+static void user_area(void)
+{
+    struct bench b = tag_of("013D0F 02 0000 0110 03 01 01 0001" ENC1 MAC1 "04 00 01 0004 010C 06");
+    const uint8_t *enc = bytes(ENC1), *mac = bytes(MAC1), *challenge = bytes(ICHALLENGE), *issued = bytes(TCHALLENGE), *irnd = bytes(IRND);
+    uint8_t *m = lent(ROUALINT_MESSAGE_ROOM);
+    const size_t room = ROUALINT_MESSAGE_ROOM;
+    size_t n;
+    EXPECT(b.identity_length == 0 && b.user_length == 544, "the areas' sizes");
+
+    /* One block of 64 bits at Offset 2: words 12 to 15. */
+    EXPECT(sends_hex(&b, "4001", TCHALLENGE) == 0, "IAM1");
+    n = roualint_build_iam3(enc, mac, 16, 0, 0, 2, 0, 3, 9, irnd, issued, bytes("0011223344556677"), 8, m, room);
+    lets_in(&b, m, n, 9);
+    EXPECT(is_hex(b.user + 24, 8, "0011223344556677"), "the words are written");
+    EXPECT(are_all(b.user, 24, 0xA5) && are_all(b.user + 32, 544 - 32, 0xA5), "and no others");
+
+    /* Two blocks of 16 bits at Offset 258: words 262 and 263. */
+    EXPECT(sends_hex(&b, "4001", TCHALLENGE) == 0, "IAM1");
+    n = roualint_build_iam3(enc, mac, 16, 1, 0, 258, 1, 1, 15, irnd, issued, bytes("AABBCCDD"), 4, m, room);
+    lets_in(&b, m, n, 15);
+    EXPECT(is_hex(b.user + 524, 4, "AABBCCDD") && is_hex(b.user + 24, 8, "0011223344556677"), "the words are written");
+    EXPECT(are_all(b.user + 32, 524 - 32, 0xA5) && are_all(b.user + 528, 16, 0xA5), "and no others");
+
+    /* What was written is read: of the first block, in both sizes, and of the second. */
+    memset(m, 0xA5, room);
+    n = roualint_build_tam2(enc, mac, 16, 0, 1, 1, challenge, 0, 2, 0, 3, m, room);
+    is_built(m, n, "2801" ICHALLENGE "000203");
+    EXPECT(sends(&b, m, n, RFID) == 0, "TAM2");
+    accepts(judge(ENC1, MAC1, m, n, b.room, b.length, ROUALINT_DATA_ROOM), "0011223344556677", ROUALINT_PROVED, "");
+    n = roualint_build_tam2(enc, mac, 16, 1, 1, 1, challenge, 0, 9, 2, 3, m, room);
+    is_built(m, n, "3801" ICHALLENGE "000923");
+    EXPECT(sends(&b, m, n, RFID) == 0, "TAM2");
+    accepts(judge(ENC1, MAC1, m, n, b.room, b.length, ROUALINT_DATA_ROOM), "223344556677", ROUALINT_PROVED, "");
+    n = roualint_build_tam2(enc, mac, 16, 1, 1, 1, challenge, 0, 258, 1, 2, m, room);
+    is_built(m, n, "3801" ICHALLENGE "010212");
+    EXPECT(sends(&b, m, n, RFID) == 0, "TAM2");
+    accepts(judge(ENC1, MAC1, m, n, b.room, b.length, ROUALINT_DATA_ROOM), "AABBCCDD", ROUALINT_PROVED, "");
+
+    /* Word 272 is behind the profile. */
+    refuses(&b, "3801" ICHALLENGE "010C00", ROUALINT_MEMORY_OVERRUN);
+    EXPECT(roualint_message(b.tag, m, n, bytes(RFID), 10, b.room, 172, b.identity, 0, b.user, 543, &n, &b.purpose) == 7, "an area of 543");
     lent_back();
 }
 
@@ -262,14 +213,14 @@ static void tag_refusals(void)
     refuses(&b, "0002" ICHALLENGE, ROUALINT_NOT_SUPPORTED);
     refuses(&b, "2800" ICHALLENGE "100020", ROUALINT_MEMORY_OVERRUN);
     refuses(&b, IAM2, ROUALINT_OUT_OF_TURN);
-    EXPECT(send_hex(&b, "4001", TCHALLENGE) == 0, "IAM1");
+    EXPECT(sends_hex(&b, "4001", TCHALLENGE) == 0, "IAM1");
     refuses(&b, "50 2C79B76E2EF8B47F6DC4E861EA2F3D5F", ROUALINT_PROOF_WRONG);
 
     EXPECT(roualint_message(b.tag, m, n, bytes(RFID), 10, b.room, 171, b.identity, 18, b.user, 0, &length, &purpose) == 7, "a room of 171");
     EXPECT(roualint_message(b.tag, m, n, bytes(RFID), 10, b.room, 172, b.identity, 17, b.user, 0, &length, &purpose) == 7, "an area of 17");
     EXPECT(memcmp(&before, b.tag, sizeof before) == 0, "number 7 changes nothing");
     memset(b.tag, 0xFF, sizeof *b.tag);
-    EXPECT(send_hex(&b, "4001", TCHALLENGE) == ROUALINT_BENCH_FAULT && are_all(b.tag->bytes, ROUALINT_TAG, 0xFF), "bytes that are no tag's");
+    EXPECT(sends_hex(&b, "4001", TCHALLENGE) == ROUALINT_BENCH_FAULT && are_all(b.tag->bytes, ROUALINT_TAG, 0xFF), "bytes that are no tag's");
     EXPECT(are_all(b.room, 172, 0xA5) && is_hex(b.identity, 18, MEMORY), "nothing is written");
     lent_back();
 }
@@ -281,9 +232,11 @@ int main(void)
     tag_authentication();
     interrogator_authentication();
     mutual_authentication();
+    user_area();
     tag_refusals();
     builder_refusals();
     cipher_and_chaining();
-    puts("bindings/c: Annex F's TAM1, TAM2, IAM2, IAM3 and MAM through both halves; numbers 1 to 3, 5 to 8, 20 to 24, 30, 32; layout; guards");
+    puts("bindings/c: Annex F's TAM1, TAM2, IAM2, IAM3 and MAM through both halves; Rev 0; Purposes; a user area; numbers 1 to 3, 5 to 8, 20 to 24, 30, "
+         "32, 35; layout; guards");
     return 0;
 }

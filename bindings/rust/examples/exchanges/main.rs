@@ -54,9 +54,21 @@ fn sheets() {
     );
 
     let before = tag.clone();
-    for (cut, refused, place) in [(&sheet[..0], 30, 0), (&sheet[..20], 30, 8), (&sheet[3..], 32, 0)] {
+    let longer = [&sheet[..], &[0]].concat();
+    for (cut, refused, place) in [
+        (&sheet[..0], 30, 0),
+        (&sheet[..20], 30, 8),
+        (&sheet[..45], 30, 45),
+        (&sheet[3..], 32, 0),
+        (&longer, 35, 90),
+    ] {
         let refusal = tag.set_up(cut).expect_err("refused");
-        assert_eq!((refusal.refusal.number(), refusal.place), (refused, place), "a refused sheet");
+        assert_eq!(
+            (number::<()>(Err(refusal.refusal)), refusal.place),
+            (Some(refused), place),
+            "a refused sheet"
+        );
+        assert_eq!(refusal.to_string(), format!("{} (place {place})", refusal.refusal), "its text");
     }
     assert_eq!(tag, before, "a refused sheet leaves the tag as it was");
     tag.set_up(&hex(&[OPENING, "06"].concat())).expect("three records");
@@ -77,6 +89,20 @@ fn tag_authentication() {
     assert_eq!(number(reader.judge(&message, &tag.reply[1..])), Some(20));
     assert_eq!(number(other.judge(&message, &tag.reply)), Some(21));
     assert_eq!(number(reader.judge(&message[1..], &tag.reply)), Some(24));
+
+    // Rev 0, ProtMode 0: the same block, and the data with no header.
+    let message = reader
+        .build_tam2(false, 0, &array(ICHALLENGE), custom(BlockSize::Bits64, 1, 0, 1, 0))
+        .expect("TAM2");
+    assert_eq!(*message, hex("2000 96564402375796C69664 100010"), "Rev 0");
+    let reply = "E920530CC781B20CFE1AB4A0144E7335 A16A76656E69617A5265676E756D5475";
+    let tag = bench.answers(&message, "6D696372000000000000", reply, State::Initial);
+    judged(
+        reader.judge(&message, &tag.reply),
+        "A16A76656E69617A5265676E756D5475",
+        Worth::Unproved,
+        None,
+    );
 
     // F.16: Rev 1, ProtMode 3.
     let message = reader
@@ -131,10 +157,15 @@ fn interrogator_authentication() {
 
     let iam2 = reader.build_iam2(0, &array(IRND), &array(TCHALLENGE)).expect("IAM2");
     assert_eq!(*iam2, hex(IAM2), "the message is Annex F's");
-    let tag = bench.answers(&iam2, RFID, "", State::IaOk);
+    let tag = bench.lets_in(&iam2, 0);
     judged(reader.judge(&iam2, &tag.reply), "", Worth::NoData, None);
     bench.tag.power_up();
     assert_eq!(bench.tag, Bench::annex_f().tag, "power-up");
+
+    // Another Purpose is handed out as it came.
+    bench.answers(&iam1, TCHALLENGE, TCHALLENGE, State::IamInit);
+    let iam2 = reader.build_iam2(5, &array(IRND), &array(TCHALLENGE)).expect("IAM2");
+    bench.lets_in(&iam2, 5);
 
     // F.29: ProtMode 3, two blocks of 16 bits from the third word on.
     bench.answers(&iam1, TCHALLENGE, TCHALLENGE, State::IamInit);
@@ -146,8 +177,8 @@ fn interrogator_authentication() {
         *iam3,
         hex("5C100213 5D3F017B042E02228D26C90DBDB513DA 49E163B8C7A3316BA0A1E3EB62088358 624C8B0CDBE35E089F1C355F")
     );
-    bench.answers(&iam3, RFID, "", State::IaOk);
-    bench.holds("A16A7665AABBCCDD5265676E756D5475756D");
+    bench.lets_in(&iam3, 0);
+    bench.holds(&hex("A16A7665AABBCCDD5265676E756D5475756D"), &[]);
 }
 
 fn mutual_authentication() {
@@ -162,7 +193,65 @@ fn mutual_authentication() {
     judged(reader.judge(&mam1, &tag.reply), "", Worth::NoData, Some(VON_BRAUN));
     let mam2 = reader.build_mam2(0, &array(ICHALLENGE), &array(VON_BRAUN)).expect("MAM2");
     assert_eq!(*mam2, hex("90 F537798C9E30CF1999E3C52A7994BD93"), "the message is Annex F's");
-    bench.answers(&mam2, RFID, "", State::IaOk);
+    bench.lets_in(&mam2, 0);
+
+    // Another Purpose is handed out as it came.
+    bench.send(&mam1, VON_BRAUN).expect("MAM1");
+    let mam2 = reader.build_mam2(14, &array(ICHALLENGE), &array(VON_BRAUN)).expect("MAM2");
+    bench.lets_in(&mam2, 14);
+}
+
+/// Profile 0 over words 4 to 271 of area 1: IAM3 writes there and TAM2 reads, in blocks of both sizes, with Offsets of two bytes.
+fn user_area() {
+    let keys = "0A1B2C3D4E5F6A7B8C9D0E1F2AB3C4D5 889900AABBCCDDEEFFAABBCCDDEEFF00";
+    let sheet = hex(&["01 3D 0F 02 0000 0110 03 01 01 0001", keys, "04 00 01 0004 010C 06"].concat());
+    let (reader, mut words) = (reader(1), vec![0xa5; 544]);
+    let mut bench = Bench::new(&sheet, &[], &words);
+    assert_eq!(bench.tag.areas(), Areas { identity: 0, user: 544 }, "the sizes");
+
+    // One block of 64 bits at Offset 2: words 12 to 15. Two of 16 bits at Offset 258: words 262 and 263.
+    for (block, purpose, text, place) in [
+        (custom(BlockSize::Bits64, 0, 2, 0, 3), 9, "0011223344556677", 24),
+        (custom(BlockSize::Bits16, 0, 258, 1, 1), 15, "AABBCCDD", 524),
+    ] {
+        bench.send(&hex("4001"), TCHALLENGE).expect("IAM1");
+        let text = hex(text);
+        let iam3 = reader
+            .build_iam3(block, purpose, &array(IRND), &array(TCHALLENGE), &text)
+            .expect("IAM3");
+        bench.lets_in(&iam3, purpose);
+        words[place..][..text.len()].copy_from_slice(&text);
+        bench.holds(&[], &words);
+    }
+
+    // What was written is read: of the first block, in both sizes, and of the second.
+    for (block, message, data) in [
+        (
+            custom(BlockSize::Bits64, 0, 2, 0, 3),
+            "2801 96564402375796C69664 000203",
+            "0011223344556677",
+        ),
+        (
+            custom(BlockSize::Bits16, 0, 9, 2, 3),
+            "3801 96564402375796C69664 000923",
+            "223344556677",
+        ),
+        (
+            custom(BlockSize::Bits16, 0, 258, 1, 2),
+            "3801 96564402375796C69664 010212",
+            "AABBCCDD",
+        ),
+    ] {
+        let tam2 = reader.build_tam2(true, 1, &array(ICHALLENGE), block).expect("TAM2");
+        assert_eq!(*tam2, hex(message), "the message");
+        let tag = bench.send(&tam2, RFID).expect("accepted");
+        judged(reader.judge(&tam2, &tag.reply), data, Worth::Proved, None);
+    }
+
+    // Word 272 is behind the profile.
+    bench.refuses("3801 96564402375796C69664 010C00", 3);
+    let short = bench.tag.message(&hex("4001"), &hex(TCHALLENGE), &mut [], &mut words[1..]);
+    assert_eq!(number(short), Some(7), "an area of 543 bytes");
 }
 
 fn refusals() {
@@ -174,15 +263,8 @@ fn refusals() {
     bench.refuses(IAM2, 5);
     bench.send(&hex("4001"), TCHALLENGE).expect("IAM1");
     bench.refuses("50 2C79B76E2EF8B47F6DC4E861EA2F3D5F", 6);
-    let refusal = bench
-        .tag
-        .message(&hex("4001"), &hex(TCHALLENGE), &mut [0; 17], &mut [])
-        .expect_err("an area of 17 bytes");
-    assert_eq!(refusal.number(), 7);
-    assert!(
-        refusal.text().starts_with("Bench fault") && refusal.to_string().starts_with("7 Bench fault"),
-        "the text"
-    );
+    let short = bench.tag.message(&hex("4001"), &hex(TCHALLENGE), &mut [0; 17], &mut []);
+    assert_eq!(number(short), Some(7), "an area of 17 bytes");
 
     let (plain, keyed) = (Reader::new([0; 16], None), reader(0));
     let tam2 = |reader: &Reader, custom| number(reader.build_tam2(true, 0, &[0; 10], custom));
@@ -203,7 +285,8 @@ fn main() {
     tag_authentication();
     interrogator_authentication();
     mutual_authentication();
+    user_area();
     refusals();
     chaining::cipher_and_chaining();
-    println!("bindings/rust: Annex F's TAM1, TAM2, IAM2, IAM3 and MAM through both halves; numbers 1 to 3, 5 to 8, 20 to 24, 30, 32; layout; guards");
+    println!("bindings/rust: Annex F's TAM1, TAM2, IAM2, IAM3 and MAM through both halves; Rev 0; Purposes; a user area; numbers and texts 1 to 3, 5 to 8, 20 to 24, 30, 32, 35; layout; guards");
 }
