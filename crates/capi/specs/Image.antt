@@ -1,4 +1,4 @@
--- A tag in the memory of its caller: 827 bytes, its image. Sixteen of the session, two of the sheet's length, most significant first, the sheet, and zeros behind it.
+-- A tag in the memory of its caller: 827 bytes, its image. Sixteen of the session, two of the sheet's length, most significant first, the sheet, and behind it what an image that is made of a sheet has as zeros.
 use Prim.Native.Nat.{ℕ, _+_}
 use mathlib.Core.Bool.{Bool, true, false}
 use mathlib.Core.List.{List, [], _∷_, _++_}

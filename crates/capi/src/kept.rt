@@ -46,7 +46,7 @@ fn power_up(image: &mut [u8]) -> u8
     0
 }
 
-/// Power-up and reset: 0, and the tag holds nothing but its sheet. Bytes that are no tag's: 7, and they stay as they are.
+/// Power-up and reset: 0, and the session is that of power-up; the sheet stays. Bytes that are no tag's: 7, and they stay as they are.
 /// Ruled out: a challenge that outlives the power; a tag made of bytes that are none.
 #[no_mangle]
 pub extern "C" fn roualint_power_up(tag: &mut [u8; IMAGE]) -> u8
