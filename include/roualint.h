@@ -80,14 +80,14 @@ extern "C" {
  *     16, 17     the length of the sheet, most significant byte first
  *     18 to 826  the sheet; roualint_sheet sets the bytes behind it to zero, and no other function writes there
  * It can be copied, stored and compared like any bytes: of tags that roualint_sheet made, two have the same sheet and the
- * same session just where their bytes are equal. Bytes are no tag's where the state is over 3 or the sheet is refused; all
- * zeros are none. Each function reads the sheet anew.
+ * same session just where their bytes are equal. Bytes are no tag's where the state is over 3, the sheet is refused, or a
+ * challenge waits (state 1 or 2) for a KeyID that no record of the sheet has; all zeros are none. Each function reads the
+ * sheet anew.
  *
- * State and sheet are all that is asked: the library can't tell a stored tag from bytes that were made by hand. They are the
- * standard's tag where roualint_sheet made them and only these functions changed them since (theorem sheet-run in
+ * That is all that is asked: the library can't tell a stored tag from bytes that were made by hand. They are the standard's
+ * tag where roualint_sheet made them and only these functions changed them since (theorem sheet-run in
  * crates/capi/proofs/Runs.antt). So keep them, like the keys they hold, where nobody else writes. Bytes from elsewhere are
- * safe to pass: every call returns and keeps to its contract. But their answers are worth nothing: such a tag may let in a
- * reader that has no key. */
+ * safe to pass: every call returns and keeps to its contract. But whoever makes the bytes chooses keys and challenges. */
 typedef struct roualint_tag {
     uint8_t bytes[ROUALINT_TAG];
 } roualint_tag;

@@ -45,6 +45,11 @@ static void sheets(void)
     EXPECT(are_all(none->bytes, ROUALINT_TAG, 0), "bytes that are no tag's stay");
     before.bytes[0] = 4;
     EXPECT(roualint_state(&before) == ROUALINT_NO_TAG, "a state that is none");
+    before.bytes[0] = ROUALINT_IAM_INIT;
+    before.bytes[1] = 1;
+    EXPECT(roualint_state(&before) == ROUALINT_IAM_INIT, "a challenge that waits under a key of the sheet");
+    before.bytes[1] = 99;
+    EXPECT(roualint_state(&before) == ROUALINT_NO_TAG, "a challenge that waits under a key that no record has");
     INTACT();
     lent_back();
 }

@@ -68,11 +68,12 @@ impl Tag {
         Refusal::check(number).map_err(|refusal| SheetRefusal { refusal, place })
     }
 
-    /// The tag of these bytes. Number 7 where the state is over 3 or the sheet is refused.
+    /// The tag of these bytes. Number 7 where the state is over 3, the sheet is refused, or a challenge waits for a KeyID that
+    /// no record of the sheet has.
     ///
-    /// State and sheet are all that is asked: the library can't tell a stored tag from bytes that were made by hand. So keep the
-    /// bytes, like the keys they hold, where nobody else writes. Bytes from elsewhere are safe to pass: every call returns
-    /// and keeps to its contract. But their answers are worth nothing: such a tag may let in a reader that has no key.
+    /// That is all that is asked: the library can't tell a stored tag from bytes that were made by hand. So keep the bytes, like
+    /// the keys they hold, where nobody else writes. Bytes from elsewhere are safe to pass: every call returns and keeps to its
+    /// contract. But whoever makes the bytes chooses keys and challenges.
     pub fn from_bytes(bytes: [u8; TAG_BYTES]) -> Result<Tag, Refusal> {
         let mut areas = (0, 0);
         // The bytes are only read; the two sizes are places of their own.

@@ -5,22 +5,28 @@ use mathlib.Core.List.{List, [], _∷_}
 use Prim.Native.Nat.{ℕ}
 use native.Mathlib.Omega.{arith}
 use lib.ListN.{replicate}
+use Rattle.ground.specs.Choice.{both}
 use Rattle.sheet.specs.declared.Reading.{Reading}
 use Rattle.sheet.specs.Setups.{emptySetup}
 use Rattle.sheet.specs.Within.{Bytes}
 use Rattle.sheet.proofs.Examples.{example-11, example-12}
+use Rattle.tag.specs.Records.{keyFits}
 use Rattle.tag.specs.States.{cleared, poweredUp}
+use Rattle.tag.proofs.Holding.{holds-fits, powered-up-holds}
 use Rattle.tag.specs.Plays.{Brought, sentAll}
 use Rattle.tag.specs.Runs.{run}
-use Rattle.capi.specs.Image.{imageOf, sheetIn, accepts, isTag}
+use Rattle.capi.specs.Image.{imageOf, sheetIn, tagIn, accepts, isTag}
 use Rattle.capi.specs.Run.{Left, SendsAll, leftAll}
 use Rattle.capi.proofs.ReadBack.{is-tag-back}
 use Rattle.capi.proofs.Runs.{sheet-run}
 use Rattle.capi.proofs.Sessions.{cleared-sized}
 
-pub zeros-none : isTag (replicate 827 0) ≡ false
+abbrev zeros : List ℕ
+zeros = replicate 827 0
+
+pub zeros-none : isTag zeros ≡ false
 unfolding isTag sheetIn
-zeros-none = ap (λ (r : Reading). accepts (r .verdict)) example-12
+zeros-none = ap (λ (r : Reading). both (accepts (r .verdict)) (keyFits (tagIn zeros .setup) (tagIn zeros .session .state) (tagIn zeros .session .keyid))) example-12
 
 abbrev smallest : List ℕ
 smallest = 0x01 ∷ 0x00 ∷ 0x00 ∷ 0x02 ∷ 0x00 ∷ 0x00 ∷ 0x00 ∷ 0x00 ∷ 0x06 ∷ []
@@ -29,7 +35,8 @@ smallest-bytes : Bytes smallest
 smallest-bytes = (omega arith, (omega arith, (omega arith, (omega arith, (omega arith, (omega arith, (omega arith, (omega arith, (omega arith, tt)))))))))
 
 pub smallest-tag : isTag (imageOf cleared smallest) ≡ true
-smallest-tag = is-tag-back smallest cleared cleared-sized (omega arith) emptySetup example-11
+unfolding poweredUp
+smallest-tag = is-tag-back smallest cleared cleared-sized (omega arith) emptySetup example-11 (holds-fits emptySetup cleared (powered-up-holds emptySetup))
 
 pub smallest-run : (bs : List Brought) (zs : List Left) → SendsAll (imageOf cleared smallest) [] [] bs zs → zs ≡ leftAll smallest bs (run (poweredUp emptySetup) [] [] (sentAll bs))
 smallest-run bs zs = sheet-run smallest emptySetup smallest-bytes example-11 bs zs [] []

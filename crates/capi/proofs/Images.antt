@@ -17,6 +17,7 @@ use Rattle.sheet.specs.Records.{wordAt}
 use Rattle.sheet.specs.Sheet.{readOf}
 use Rattle.tag.specs.declared.Session.{Session}
 use Rattle.tag.specs.declared.Tag.{Tag}
+use Rattle.tag.specs.Records.{keyFits}
 use Rattle.tag.specs.States.{cleared}
 use Rattle.capi.specs.Image.{imageOf, sessionIn, sheetIn, tagIn, accepts, isTag}
 
@@ -52,10 +53,13 @@ module _ (image p : List ℕ) (q : Reading) (e : q ≡ readOf p) (f : p ≡ shee
   read-again : q ≡ readOf (sheetIn image)
   read-again = e ∙ ap readOf f
 
-  pub is-tag : (r : Bool) → r ≡ both (ltb (byte image 0) 4) (accepts (q .verdict)) → r ≡ isTag image
-  unfolding isTag
-  is-tag r h = h ∙ ap (λ (x : Reading). both (ltb (byte image 0) 4) (accepts (x .verdict))) read-again
-
   pub tag-in : (s : Session) → s ≡ sessionIn image → _≡_ {A = Tag} (record { setup = q .setup; session = s }) (tagIn image)
   unfolding tagIn
   tag-in s h = λ i. record { setup = read-again i .setup; session = h i }
+
+  pub is-tag : (t : Tag) → t ≡ tagIn image → (r : Bool)
+      → r ≡ both (ltb (byte image 0) 4) (both (accepts (q .verdict)) (keyFits (t .setup) (t .session .state) (t .session .keyid))) → r ≡ isTag image
+  unfolding isTag
+  is-tag t g r h =
+      h
+      ∙ ap₂ (λ (x : Reading) (y : Tag). both (ltb (byte image 0) 4) (both (accepts (x .verdict)) (keyFits (y .setup) (y .session .state) (y .session .keyid)))) read-again g

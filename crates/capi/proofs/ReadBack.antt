@@ -24,6 +24,7 @@ use Rattle.tag.specs.declared.State.{State}
 use Rattle.tag.specs.declared.State.the-variants.{Initial, IamInit, MamInit, IaOk}
 use Rattle.tag.specs.declared.Session.{Session}
 use Rattle.tag.specs.declared.Tag.{Tag}
+use Rattle.tag.specs.Records.{keyFits}
 use Rattle.capi.specs.Image.{stateNumber, sessionBytes, kept, imageOf, stateOf, sessionIn, sheetIn, tagIn, accepts, isTag}
 use Rattle.capi.specs.Run.{Sized}
 
@@ -101,7 +102,7 @@ module _ (sheet : List ℕ) where
           ∙ ap₂ take length-back sheet-behind
           ∙ take-append-seam sheet (drop (length sheet) (replicate longestSheet 0))
 
-      -- the image of an accepted sheet is a tag's: the one of this setup and this session
+      -- the image of an accepted sheet says this setup and this session; it is a tag's where a KeyID that is held has its record
       module _ (x : Setup) (e : readOf sheet ≡ whole x) where
         read-back : readOf (sheetIn (imageOf s sheet)) ≡ whole x
         read-back = ap readOf sheet-back ∙ e
@@ -110,6 +111,8 @@ module _ (sheet : List ℕ) where
         unfolding tagIn
         tag-back = λ j. record { setup = read-back j .setup; session = session-back j }
 
-        pub is-tag-back : isTag (imageOf s sheet) ≡ true
+        pub is-tag-back : keyFits x (s .state) (s .keyid) ≡ true → isTag (imageOf s sheet) ≡ true
         unfolding isTag imageOf
-        is-tag-back = ap₂ both (state-small (s .state)) (ap (λ (r : Reading). accepts (r .verdict)) read-back)
+        is-tag-back k =
+            ap₂ both (state-small (s .state))
+            (ap₂ both (ap (λ (r : Reading). accepts (r .verdict)) read-back) (ap (λ (t : Tag). keyFits (t .setup) (t .session .state) (t .session .keyid)) tag-back ∙ k))

@@ -22,6 +22,7 @@ use Rattle.tag.specs.Plays.{Brought, sentAll}
 use Rattle.tag.specs.Reactions.{lent}
 use Rattle.tag.specs.Runs.{run}
 use Rattle.tag.specs.States.{cleared, poweredUp, numberGiven, replyLength}
+use Rattle.tag.proofs.Holding.{Holds, holds-fits, powered-up-holds, answer-holds}
 use Rattle.capi.specs.Image.{kept, imageOf, accepts, isTag}
 use Rattle.capi.specs.Kept.{SetUp, PoweredUp, purposeGiven, answerIn}
 use Rattle.capi.specs.Run.{Left, Sends, SendsAll, leftOf, leftAll, Sized}
@@ -54,9 +55,9 @@ module _ (sheet : List ℕ) (x : Setup) (y : Bytes sheet) (e : readOf sheet ≡ 
   abbrev tagOf : Session → Tag
   tagOf s = record { setup = x; session = s }
 
-  module _ (s : Session) (w : Sized s) where
+  module _ (s : Session) (w : Sized s) (k : Holds x s) where
     tag-there : isTag (imageOf s sheet) ≡ true
-    tag-there = is-tag-back sheet s w short x e
+    tag-there = is-tag-back sheet s w short x e (holds-fits x s k)
 
     answered : (c : Call) → answerIn (imageOf s sheet) c ≡ answerOf c (tagOf s)
     answered c = answer-of (imageOf s sheet) tag-there (tagOf s) (sym (tag-back sheet s w short x e)) c
@@ -90,20 +91,20 @@ module _ (sheet : List ℕ) (x : Setup) (y : Bytes sheet) (e : readOf sheet ≡ 
   sheet-made image r at after h = h .holds ∙ ap (λ (q : Reading). pick (accepts (q .verdict)) (imageOf cleared sheet) image) e
 
   -- what a run leaves
-  pub all-sent : (bs : List Brought) (zs : List Left) (s : Session) (w : Sized s) (identity user : List ℕ) → SendsAll (imageOf s sheet) identity user bs zs
+  pub all-sent : (bs : List Brought) (zs : List Left) (s : Session) (w : Sized s) (k : Holds x s) (identity user : List ℕ) → SendsAll (imageOf s sheet) identity user bs zs
       → zs ≡ leftAll sheet bs (run (tagOf s) identity user (sentAll bs))
   unfolding SendsAll leftAll run sentAll
-  all-sent [] [] s w identity user h = refl
-  all-sent [] (z ∷ zs) s w identity user h = absurd h
-  all-sent (b ∷ bs) [] s w identity user h = absurd h
-  all-sent (b ∷ bs) (z ∷ zs) s w identity user (h, hs) =
-      let q = sent s w identity user b z h in
-      let k = subst (λ (l : Left). SendsAll (l .image) (l .identity) (l .user) bs zs) q hs in
-      let v = answer-sized (lent (b .message) (b .draws) (b .room) identity user) (tagOf s) w in
-      λ j. q j ∷ all-sent bs zs _ v _ _ k j
+  all-sent [] [] s w k identity user h = refl
+  all-sent [] (z ∷ zs) s w k identity user h = absurd h
+  all-sent (b ∷ bs) [] s w k identity user h = absurd h
+  all-sent (b ∷ bs) (z ∷ zs) s w k identity user (h, hs) =
+      let c = lent (b .message) (b .draws) (b .room) identity user in
+      let q = sent s w k identity user b z h in
+      let g = subst (λ (l : Left). SendsAll (l .image) (l .identity) (l .user) bs zs) q hs in
+      λ j. q j ∷ all-sent bs zs _ (answer-sized c (tagOf s) w) (answer-holds c (tagOf s) k) _ _ g j
 
   -- from what `roualint_sheet` makes of the sheet
   pub sheet-run : (bs : List Brought) (zs : List Left) (identity user : List ℕ) → SendsAll (imageOf cleared sheet) identity user bs zs
       → zs ≡ leftAll sheet bs (run (poweredUp x) identity user (sentAll bs))
   unfolding poweredUp
-  sheet-run bs zs identity user = all-sent bs zs cleared cleared-sized identity user
+  sheet-run bs zs identity user = all-sent bs zs cleared cleared-sized (powered-up-holds x) identity user

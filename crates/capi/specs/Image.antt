@@ -17,6 +17,7 @@ use Rattle.tag.specs.declared.State.{State}
 use Rattle.tag.specs.declared.State.the-variants.{Initial, IamInit, MamInit, IaOk}
 use Rattle.tag.specs.declared.Session.{Session}
 use Rattle.tag.specs.declared.Tag.{Tag}
+use Rattle.tag.specs.Records.{keyFits}
 
 -- Where the sheet starts, and how long an image is: with room for the longest sheet.
 abbrev pub sheetPlace : ℕ
@@ -59,10 +60,12 @@ sheetIn image = let n = wordAt image 16 in pick (leb (sheetPlace + n) (length im
 unfoldable pub tagIn : List ℕ → Tag
 tagIn image = record { setup = readOf (sheetIn image) .setup; session = sessionIn image }
 
--- An image is a tag's where its state is one of the four and its sheet is accepted.
+-- An image is a tag's where its state is one of the four, its sheet is accepted, and a KeyID that is held has its record.
 abbrev pub accepts : Verdict → Bool
 accepts Whole = true
 accepts (Refused f at) = false
 
 unfoldable pub isTag : List ℕ → Bool
-isTag image = both (ltb (byte image 0) 4) (accepts (readOf (sheetIn image) .verdict))
+isTag image =
+    both (ltb (byte image 0) 4)
+    (both (accepts (readOf (sheetIn image) .verdict)) (keyFits (tagIn image .setup) (tagIn image .session .state) (tagIn image .session .keyid)))

@@ -10,6 +10,7 @@ ghost use lib.Dec.{ltb};
 ghost use lib.ListN.{length};
 ghost use Rattle.ground.specs.Choice.{both};
 ghost use Rattle.modes.specs.Room.{over};
+ghost use Rattle.tag.specs.Records.{keyFits};
 ghost use Rattle.tag.specs.States.{cleared};
 ghost use Rattle.capi.specs.Image.{stateNumber, kept, imageOf, stateOf, sessionIn, sheetIn, tagIn, accepts, isTag};
 
@@ -106,14 +107,17 @@ fn sheet_in(image: &[u8]) -> &[u8]
     &image[18..end]
 }
 
-// Is the state one of the four, and the sheet accepted?
-fn whole(state: u8, verdict: Verdict) -> bool
-    ensures { λ r. ⌜ r ≡ both (ltb state 4) (accepts verdict) ⌝ }
+// Is the state one of the four, the sheet accepted, and a KeyID that is held one of the sheet's?
+fn whole(state: u8, verdict: Verdict, tag: Tag) -> bool
+    ensures { λ r. ⌜ r ≡ both (ltb state 4) (both (accepts verdict) (keyFits (tag .setup) (tag .session .state) (tag .session .keyid))) ⌝ }
 {
     if 4 <= state {
         return false;
     }
-    accepted(verdict)
+    if !accepted(verdict) {
+        return false;
+    }
+    tag::key_held(tag)
 }
 
 /// What an image says. Ruled out: a sheet that is not read anew; a tag of a state that is none.
@@ -125,9 +129,10 @@ pub fn read(image: &[u8]) -> Found
     let verdict = reading.verdict;
     let setup = reading.setup;
     let session = session(image);
+    let tag = Tag { setup, session };
     Found {
-        whole: whole(image[0], verdict),
-        tag: Tag { setup, session },
+        whole: whole(image[0], verdict, tag),
+        tag,
     }
 }
 

@@ -1,5 +1,6 @@
 -- No second answer fits the contracts of the exported functions: of a step the result, the room and both areas are determined.
 use mathlib.Core.Path.{_≡_}
+use mathlib.Core.Bool.{Bool}
 use mathlib.Core.List.{List}
 use Prim.Native.Nat.{ℕ}
 use denote.Ref.{now}
@@ -14,6 +15,8 @@ use Rattle.tag.proofs.reply_length.Reads as reply-length
 use Rattle.tag.proofs.reply_length.Kinds as reply-length-kinds
 use Rattle.tag.proofs.power_up.Reads as power-up
 use Rattle.tag.proofs.power_up.Kinds as power-up-kinds
+use Rattle.tag.proofs.key_held.Reads as key-held
+use Rattle.tag.proofs.key_held.Kinds as key-held-kinds
 use Rattle.tag.proofs.step.Reads as step
 use Rattle.tag.proofs.step.Kinds as step-kinds
 
@@ -25,6 +28,9 @@ reply-length-one κs a x y s t p q = one p q
 
 pub power-up-one : OneAnswer 0 power-up-kinds.ps power-up-kinds.r power-up.Post Tag (λ κs r s. r)
 power-up-one κs a x y s t p q = one p q
+
+pub key-held-one : OneAnswer 0 key-held-kinds.ps key-held-kinds.r key-held.Post Bool (λ κs r s. r)
+key-held-one κs a x y s t p q = one p q
 
 -- what a step returns is what it says of it
 stepped : (a : Answer) (tag : Tag) (room : List ℕ) (r : Stepped) (after i u : List ℕ) → Steps a tag room r after i u

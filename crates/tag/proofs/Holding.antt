@@ -1,5 +1,5 @@
 -- While a challenge waits for its answer, a record has the KeyID that is held: from power-up on no key of zeros stands in for one that is missing.
-use mathlib.Core.Path.{_≡_}
+use mathlib.Core.Path.{_≡_, refl}
 use mathlib.Core.Bool.{true}
 use Prim.Native.Nat.{ℕ}
 use native.Mathlib.Omega.{arith}
@@ -11,10 +11,11 @@ use Rattle.sheet.specs.declared.Setup.{Setup}
 use Rattle.tag.specs.declared.Fault.{Fault}
 use Rattle.tag.specs.declared.Fault.the-variants.{NotSupported}
 use Rattle.tag.specs.declared.Session.{Session}
-use Rattle.tag.specs.declared.State.the-variants.{IamInit, MamInit}
+use Rattle.tag.specs.declared.State.{State}
+use Rattle.tag.specs.declared.State.the-variants.{Initial, IamInit, MamInit, IaOk}
 use Rattle.tag.specs.declared.Tag.{Tag}
 use Rattle.tag.specs.States.{cleared, entered, poweredUp}
-use Rattle.tag.specs.Records.{keyPresent}
+use Rattle.tag.specs.Records.{keyPresent, keyFits}
 use Rattle.tag.specs.Answers.{Answer, Call, refused, replied, letIn, tam1Answer, tam2Answer, iam1Answer, iam2Answer, iam3Answer, mam1Answer, mam2Answer, byKind, answerOf}
 use Rattle.tag.proofs.Cases.{fine-case, fine-known, answer-case}
 use Rattle.tag.proofs.Passed.{opening-key}
@@ -22,6 +23,17 @@ use Rattle.tag.proofs.Passed.{opening-key}
 pub record Holds (setup : Setup) (s : Session) : Type 0 where
   pub iamInit : s .state ≡ IamInit → keyPresent setup (s .keyid) ≡ true
   pub mamInit : s .state ≡ MamInit → keyPresent setup (s .keyid) ≡ true
+
+-- the same as a test
+pub holds-fits : (setup : Setup) (s : Session) → Holds setup s → keyFits setup (s .state) (s .keyid) ≡ true
+unfolding keyFits
+holds-fits setup s h = by-state (s .state) refl
+  where
+    by-state : (t : State) → s .state ≡ t → keyFits setup t (s .keyid) ≡ true
+    by-state Initial e = refl
+    by-state IamInit e = h .iamInit e
+    by-state MamInit e = h .mamInit e
+    by-state IaOk e = refl
 
 module _ (setup : Setup) where
   cleared-holds : Holds setup cleared

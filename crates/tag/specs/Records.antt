@@ -18,6 +18,8 @@ use Rattle.frames.specs.declared.Kind.the-variants.{Tam1, Tam2, Iam1, Iam2, Iam
 use Rattle.frames.specs.declared.Custom.{Custom}
 use Rattle.frames.specs.Asked.{blockAsked as wordsAsked}
 use Rattle.frames.specs.Lengths.{hasMac}
+use Rattle.tag.specs.declared.State.{State}
+use Rattle.tag.specs.declared.State.the-variants.{Initial, IamInit, MamInit, IaOk}
 
 -- The method, the step and the feature are there. TAM is always; IAM, IAM3 and MAM as the sheet says.
 unfoldable pub offered : Features → Kind → Bool
@@ -67,6 +69,13 @@ keyPresent setup keyid = hasKey keyid (keysOf setup)
 
 abbrev pub keyNamed : Setup → ℕ → Key
 keyNamed setup keyid = keyOf keyid (keysOf setup)
+
+-- While a challenge waits for its answer, a record has the KeyID that is held.
+unfoldable pub keyFits : Setup → State → ℕ → Bool
+keyFits setup Initial keyid = true
+keyFits setup IamInit keyid = keyPresent setup keyid
+keyFits setup MamInit keyid = keyPresent setup keyid
+keyFits setup IaOk keyid = true
 
 -- The slot of a profile's number.
 unfoldable pub slotNamed : Setup → ℕ → Slot

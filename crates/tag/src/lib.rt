@@ -3,6 +3,7 @@ use sheet::Setup;
 ghost use mathlib.Core.Path.{_≡_};
 ghost use lib.ListN.{length};
 ghost use Rattle.tag.specs.States.{poweredUp, numberOf, numberGiven, replyLength};
+ghost use Rattle.tag.specs.Records.{keyPresent, keyFits};
 ghost use Rattle.tag.specs.Answers.{answerOf};
 ghost use Rattle.tag.specs.Reactions.{lent, Steps};
 
@@ -121,6 +122,33 @@ pub fn power_up(setup: Setup) -> Tag
     Tag {
         setup,
         session: kinds::cleared(),
+    }
+}
+
+// Does a record have the KeyID?
+fn known(setup: Setup, keyid: u8) -> bool
+    ensures { λ r. ⌜ r ≡ keyPresent setup keyid ⌝ }
+{
+    let keys = setup.keys;
+    let found = records::find(keys, keyid);
+    found.present
+}
+
+/// Does a record have the KeyID that the tag holds, where a challenge waits for its answer? Of a tag from power-up on it does
+/// (`Holding`); a host that stores tags asks it of what it takes up again.
+///
+/// Ruled out: a KeyID that no record has, taken with the key of zeros; a tag in Initial refused for the KeyID 0 that stands there.
+pub fn key_held(tag: Tag) -> bool
+    ensures { λ r. ⌜ r ≡ keyFits (tag .setup) (tag .session .state) (tag .session .keyid) ⌝ }
+{
+    let setup = tag.setup;
+    let session = tag.session;
+    let state = session.state;
+    match state {
+        State::Initial => true,
+        State::IamInit => known(setup, session.keyid),
+        State::MamInit => known(setup, session.keyid),
+        State::IaOk => true,
     }
 }
 

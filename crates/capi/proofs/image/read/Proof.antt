@@ -23,7 +23,8 @@ returns : tie.Need-returns
 returns c = let image = c .before .before .before .before .before .before .before .args .image .now in
     let q = c .before .before .before .before .read in
     let p = c .before .before .before .before .before .sheet-in .ensures in
-    (is-tag image _ _ (q .ensures .0) p _ (c .whole .ensures), tag-in image _ _ (q .ensures .0) p _ (c .before .before .session .ensures))
+    let t = tag-in image _ _ (q .ensures .0) p _ (c .before .before .session .ensures) in
+    (is-tag image _ _ (q .ensures .0) p _ t _ (c .whole .ensures), t)
 
 pub read-spec : {M : Type 1} → statement M
 read-spec =
