@@ -79,7 +79,11 @@ fn sheets() {
     bytes[0] = 4;
     assert_eq!(number(Tag::from_bytes(bytes)), Some(7), "a state that is none");
     (bytes[0], bytes[1]) = (1, 99);
-    assert_eq!(number(Tag::from_bytes(bytes)), Some(7), "a challenge that waits under a key that no record has");
+    assert_eq!(
+        number(Tag::from_bytes(bytes)),
+        Some(7),
+        "a challenge that waits under a key that no record has"
+    );
     assert_eq!(number(Tag::from_bytes([0; TAG_BYTES])), Some(7), "zeros");
 }
 
