@@ -1,4 +1,5 @@
-//! The cipher, its four forms of chaining, and the MAC.
+//! The cipher, its four forms of chaining, and the MAC. Chaining and the MAC use stack for each block: with 8 MB they were run
+//! over 57,000 and 37,000 blocks, and a longer input ends the program.
 
 use crate::ffi;
 use crate::refusal::Refusal;
