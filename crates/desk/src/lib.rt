@@ -10,12 +10,12 @@ use tag::Tag;
 
 // A tag, where a sheet was accepted; the bytes lent of each area; the reader's keys, where there are some.
 pub struct Desk {
-    pub set: bool,
-    pub tag: Tag,
-    pub identity: usize,
-    pub user: usize,
-    pub held: bool,
-    pub keys: Keys,
+    set: bool,
+    tag: Tag,
+    identity: usize,
+    user: usize,
+    held: bool,
+    keys: Keys,
 }
 
 // Before the first command. The setup of an empty sheet, which is refused, is empty.

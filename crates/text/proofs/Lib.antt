@@ -1,4 +1,4 @@
--- Laws that the proofs of this crate cite; of these `word-fits` of Rooms and `bytes-fit` of Readings are for callers.
+-- Laws that the proofs of this crate cite.
 pub mod Choices
 pub mod Values
 pub mod Words

@@ -6,12 +6,11 @@ use Prim.Native.Nat.{ℕ, _%_, _/_, _≤_, _<_}
 use native.Mathlib.Omega.{arith}
 use lib.Dec.{eqb, ltb}
 use lib.ListN.{length, drop, getD}
-use borrow.Author.Tests.{eq-eqb, ne-eqb, lt-ltb, le-ltb, ltb-false}
+use borrow.Author.Tests.{eq-eqb, ne-eqb, lt-ltb, le-ltb}
 use Rattle.text.specs.Digits.{isWord}
 use Rattle.text.specs.Hex.{dash, isDash, bytesOf, hexRead, hexRoom, ReadsHex}
 use Rattle.text.specs.declared.HexRead.{HexRead}
 use Rattle.text.specs.declared.HexRead.the-variants.{Bytes, NotHex, Odd, Over}
-use Rattle.text.proofs.Choices.{picked, never}
 use Rattle.text.proofs.Pairs.{bytes-long}
 
 -- the steps of `is_dash`
@@ -59,20 +58,3 @@ module _ (w room : List ℕ) where
       → after ≡ bytesOf w ++ drop (length (bytesOf w)) room → ReadsHex w room (Bytes (length w / 2)) after
   unfolding hexRead
   bytes d t h l after e = answered (Bytes (length w / 2)) after (simp (d, t, ne-eqb _ _ h, bytes-long, le-ltb _ _ l)) (e ∙ simp bytes-long)
-
--- bytes that were read fit the room
-module _ (w room : List ℕ) (n : ℕ) where
-  abbrev Fitting : HexRead → Type 0
-  Fitting r = r ≡ Bytes n → n ≤ length room
-
-  read-fits : Fitting (hexRead w (length room))
-  unfolding hexRead
-  read-fits =
-      picked Fitting (isDash w) (λ d e. let z : n ≡ 0 = cc in omega arith)
-      (λ d. picked Fitting (not (isWord 16 w)) (λ t e. never (cc))
-      (λ t. picked Fitting (eqb (length w % 2) 1) (λ v e. never (cc))
-      (λ v. picked Fitting (ltb (length room) (length (bytesOf w))) (λ l e. never (cc))
-      (λ l e. let z : n ≡ length (bytesOf w) = cc in omega (arith, ltb-false (length room) (length (bytesOf w)) l)))))
-
-  pub bytes-fit : (r : HexRead) (after : List ℕ) → ReadsHex w room r after → r ≡ Bytes n → n ≤ length room
-  bytes-fit r after h e = read-fits (sym (h .says) ∙ e)

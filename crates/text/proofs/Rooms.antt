@@ -1,5 +1,5 @@
 -- A word put over the first characters of a room.
-use mathlib.Core.Path.{_≡_, refl, sym, ap, _∙_}
+use mathlib.Core.Path.{_≡_, sym, ap, _∙_}
 use mathlib.Core.Bool.{Bool, true, false}
 use mathlib.Core.List.{List, _++_}
 use Prim.Native.Nat.{ℕ, _+_, _≤_, _<_}
@@ -9,7 +9,7 @@ use native.Mathlib.Omega.{arith}
 use lib.Dec.{leb}
 use lib.ListN.{length, take, drop, getD, set}
 use lib.Seq.{paste-suc, take-length, take-at}
-use borrow.Author.Tests.{le-leb, lt-leb, leb-true}
+use borrow.Author.Tests.{le-leb, lt-leb}
 use Rattle.ground.specs.Choice.{pick}
 use Rattle.text.specs.Room.{Writes}
 
@@ -58,11 +58,3 @@ module _ (word room : List ℕ) (n : ℕ) (after : List ℕ) where
 
   pub stands : Writes word room n after → 0 < n → take n after ≡ word
   stands w = stands-if (leb (length word) (length room)) (w .says) (w .holds)
-
-  -- and the room has as many characters
-  fits-if : (b : Bool) → leb (length word) (length room) ≡ b → n ≡ pick b (length word) 0 → n ≤ length room
-  fits-if true t e = omega (arith, leb-true (length word) (length room) t)
-  fits-if false t e = omega arith
-
-  pub word-fits : Writes word room n after → n ≤ length room
-  word-fits w = fits-if (leb (length word) (length room)) refl (w .says)
