@@ -5,7 +5,7 @@ use Prim.Native.Nat.{ℕ}
 use denote.Ref.{now}
 use Rattle.ground.specs.OneAnswer.{OneAnswer, one}
 use Rattle.tag.specs.declared.Tag.{Tag}
-use Rattle.tag.specs.declared.Outcome.{Outcome}
+use Rattle.offer.specs.declared.Outcome.{Outcome}
 use Rattle.tag.specs.declared.Stepped.{Stepped}
 use Rattle.tag.specs.States.{poweredUp}
 use Rattle.tag.specs.Answers.{Answer, answerOf}

@@ -10,8 +10,9 @@ use Rattle.sheet.specs.declared.Reading.{Reading}
 use Rattle.sheet.specs.Setups.{emptySetup}
 use Rattle.sheet.specs.Within.{Bytes}
 use Rattle.sheet.proofs.Examples.{example-11, example-12}
-use Rattle.tag.specs.Records.{keyFits}
-use Rattle.tag.specs.States.{cleared, poweredUp}
+use Rattle.tag.specs.States.{keyFits}
+use Rattle.entry.specs.Sessions.{cleared}
+use Rattle.tag.specs.States.{poweredUp}
 use Rattle.tag.proofs.Holding.{holds-fits, powered-up-holds}
 use Rattle.tag.specs.Plays.{Brought, sentAll}
 use Rattle.tag.specs.Runs.{run}

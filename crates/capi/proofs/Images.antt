@@ -15,10 +15,10 @@ use Rattle.sheet.specs.declared.Reading.{Reading}
 use Rattle.sheet.specs.Limits.{longestSheet, keyLimit, profileLimit, lockLimit}
 use Rattle.sheet.specs.Records.{wordAt}
 use Rattle.sheet.specs.Sheet.{readOf}
-use Rattle.tag.specs.declared.Session.{Session}
+use Rattle.entry.specs.declared.Session.{Session}
 use Rattle.tag.specs.declared.Tag.{Tag}
-use Rattle.tag.specs.Records.{keyFits}
-use Rattle.tag.specs.States.{cleared}
+use Rattle.tag.specs.States.{keyFits}
+use Rattle.entry.specs.Sessions.{cleared}
 use Rattle.capi.specs.Image.{imageOf, sessionIn, sheetIn, tagIn, accepts, isTag}
 
 -- ---- written

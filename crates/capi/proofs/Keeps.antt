@@ -16,7 +16,9 @@ use Rattle.tag.specs.declared.Stepped.{Stepped}
 use Rattle.tag.specs.declared.Tag.{Tag}
 use Rattle.tag.specs.Answers.{Answer, Call, answerOf, refused}
 use Rattle.tag.specs.Reactions.{lent, Steps}
-use Rattle.tag.specs.States.{cleared, poweredUp, numberGiven, replyLength}
+use Rattle.entry.specs.Sessions.{cleared}
+use Rattle.tag.specs.States.{poweredUp}
+use Rattle.offer.specs.Outcomes.{numberGiven, replyLength}
 use Rattle.capi.specs.Image.{kept, imageOf, tagIn, isTag}
 use Rattle.capi.specs.Kept.{SetUp, PoweredUp, AreasOf, purposeGiven, answerIn, Answered}
 

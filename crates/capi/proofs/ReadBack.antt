@@ -20,11 +20,11 @@ use Rattle.sheet.specs.Records.{wordAt}
 use Rattle.sheet.specs.Sheet.{readOf, whole}
 use Rattle.sheet.specs.Writer.{twoBytes}
 use Rattle.sheet.proofs.Lengths.{longest-is}
-use Rattle.tag.specs.declared.State.{State}
-use Rattle.tag.specs.declared.State.the-variants.{Initial, IamInit, MamInit, IaOk}
-use Rattle.tag.specs.declared.Session.{Session}
+use Rattle.entry.specs.declared.State.{State}
+use Rattle.entry.specs.declared.State.the-variants.{Initial, IamInit, MamInit, IaOk}
+use Rattle.entry.specs.declared.Session.{Session}
 use Rattle.tag.specs.declared.Tag.{Tag}
-use Rattle.tag.specs.Records.{keyFits}
+use Rattle.tag.specs.States.{keyFits}
 use Rattle.capi.specs.Image.{stateNumber, sessionBytes, kept, imageOf, stateOf, sessionIn, sheetIn, tagIn, accepts, isTag}
 use Rattle.capi.specs.Run.{Sized}
 

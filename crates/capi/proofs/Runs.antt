@@ -15,13 +15,15 @@ use Rattle.sheet.specs.declared.Setup.{Setup}
 use Rattle.sheet.specs.Sheet.{readOf, whole}
 use Rattle.sheet.specs.Within.{Bytes}
 use Rattle.sheet.proofs.Lengths.{longest, longest-is}
-use Rattle.tag.specs.declared.Session.{Session}
+use Rattle.entry.specs.declared.Session.{Session}
 use Rattle.tag.specs.declared.Tag.{Tag}
 use Rattle.tag.specs.Answers.{Answer, Call, answerOf}
 use Rattle.tag.specs.Plays.{Brought, sentAll}
 use Rattle.tag.specs.Reactions.{lent}
 use Rattle.tag.specs.Runs.{run}
-use Rattle.tag.specs.States.{cleared, poweredUp, numberGiven, replyLength}
+use Rattle.entry.specs.Sessions.{cleared}
+use Rattle.tag.specs.States.{poweredUp}
+use Rattle.offer.specs.Outcomes.{numberGiven, replyLength}
 use Rattle.tag.proofs.Holding.{Holds, holds-fits, powered-up-holds, answer-holds}
 use Rattle.capi.specs.Image.{kept, imageOf, accepts, isTag}
 use Rattle.capi.specs.Kept.{SetUp, PoweredUp, purposeGiven, answerIn}

@@ -11,15 +11,15 @@ use Rattle.frames.specs.Fields.{bytesFrom}
 use Rattle.frames.specs.Kinds.{kindOf}
 use Rattle.frames.specs.Messages.{mam1Of}
 use Rattle.frames.proofs.Places.{bytes-length}
-use Rattle.tag.specs.declared.Fault.{Fault}
-use Rattle.tag.specs.declared.Fault.the-variants.{NotSupported, BenchFault}
+use Rattle.offer.specs.declared.Fault.{Fault}
+use Rattle.offer.specs.declared.Fault.the-variants.{NotSupported, BenchFault}
 use Rattle.tag.specs.declared.Tag.{Tag}
-use Rattle.tag.specs.declared.Verdict.{Verdict}
-use Rattle.tag.specs.States.{cleared, entered}
-use Rattle.tag.specs.Judged.{benchChecks}
+use Rattle.offer.specs.declared.Verdict.{Verdict}
+use Rattle.entry.specs.Sessions.{cleared, entered}
+use Rattle.offer.specs.Judged.{benchChecks}
 use Rattle.tag.specs.Answers.{Answer, Call, refused, replied, letIn, tam1Answer, tam2Answer, iam1Answer, iam2Answer, iam3Answer, mam1Answer, mam2Answer, byKind, ofBench, answerOf}
 use Rattle.tag.proofs.Cases.{fine-case, answer-case}
-use Rattle.tag.proofs.Lines.{fails}
+use Rattle.offer.proofs.Lines.{fails}
 use Rattle.capi.specs.Run.{Sized}
 
 pub cleared-sized : Sized cleared

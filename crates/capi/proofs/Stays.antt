@@ -12,9 +12,9 @@ use Rattle.modes.specs.Room.{over}
 use Rattle.frames.specs.Fields.{byte, bytesFrom}
 use Rattle.frames.proofs.Places.{bytes-taken}
 use Rattle.sheet.proofs.Rules.{both-true}
-use Rattle.tag.specs.declared.Fault.the-variants.{BenchFault}
-use Rattle.tag.specs.declared.Outcome.the-variants.{Refused}
-use Rattle.tag.specs.declared.Session.{Session}
+use Rattle.offer.specs.declared.Fault.the-variants.{BenchFault}
+use Rattle.offer.specs.declared.Outcome.the-variants.{Refused}
+use Rattle.entry.specs.declared.Session.{Session}
 use Rattle.tag.specs.Answers.{Answer, Call}
 use Rattle.tag.proofs.Kept.{refusal-kept}
 use Rattle.capi.specs.Image.{stateNumber, stateOf, sessionBytes, kept, sessionIn, tagIn, isTag}

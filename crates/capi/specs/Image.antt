@@ -13,11 +13,11 @@ use Rattle.sheet.specs.Limits.{longestSheet}
 use Rattle.sheet.specs.Records.{wordAt}
 use Rattle.sheet.specs.Sheet.{readOf}
 use Rattle.sheet.specs.Writer.{twoBytes}
-use Rattle.tag.specs.declared.State.{State}
-use Rattle.tag.specs.declared.State.the-variants.{Initial, IamInit, MamInit, IaOk}
-use Rattle.tag.specs.declared.Session.{Session}
+use Rattle.entry.specs.declared.State.{State}
+use Rattle.entry.specs.declared.State.the-variants.{Initial, IamInit, MamInit, IaOk}
+use Rattle.entry.specs.declared.Session.{Session}
 use Rattle.tag.specs.declared.Tag.{Tag}
-use Rattle.tag.specs.Records.{keyFits}
+use Rattle.tag.specs.States.{keyFits}
 
 -- Where the sheet starts, and how long an image is: with room for the longest sheet.
 abbrev pub sheetPlace : ℕ

@@ -7,11 +7,12 @@ use Rattle.frames.specs.Fields.{byte}
 use Rattle.memory.specs.Areas.{wordBytes}
 use Rattle.modes.specs.Room.{over}
 use Rattle.sheet.specs.Sheet.{readOf, readNumber, readPlace}
-use Rattle.tag.specs.declared.Outcome.{Outcome}
-use Rattle.tag.specs.declared.Outcome.the-variants.{Replied, Entered, Refused}
-use Rattle.tag.specs.declared.Fault.the-variants.{BenchFault}
+use Rattle.offer.specs.declared.Outcome.{Outcome}
+use Rattle.offer.specs.declared.Outcome.the-variants.{Replied, Entered, Refused}
+use Rattle.offer.specs.declared.Fault.the-variants.{BenchFault}
 use Rattle.tag.specs.Answers.{Answer, Call, answerOf, refused}
-use Rattle.tag.specs.States.{cleared, numberGiven, replyLength}
+use Rattle.entry.specs.Sessions.{cleared}
+use Rattle.offer.specs.Outcomes.{numberGiven, replyLength}
 use Rattle.capi.specs.Image.{kept, imageOf, sessionIn, tagIn, accepts, isTag}
 
 -- A sheet that is accepted becomes a tag at its power-up; one that is refused changes nothing.

@@ -4,11 +4,11 @@ use mathlib.Core.List.{List, [], _∷_}
 use Prim.Native.Nat.{ℕ}
 use lib.ListN.{length}
 use Rattle.modes.specs.Room.{over}
-use Rattle.tag.specs.declared.Session.{Session}
+use Rattle.entry.specs.declared.Session.{Session}
 use Rattle.tag.specs.Answers.{Answer}
 use Rattle.tag.specs.Plays.{Brought}
 use Rattle.tag.specs.Reactions.{lent}
-use Rattle.tag.specs.States.{numberGiven, replyLength}
+use Rattle.offer.specs.Outcomes.{numberGiven, replyLength}
 use Rattle.capi.specs.Image.{imageOf}
 use Rattle.capi.specs.Kept.{purposeGiven, answerIn, Answered}
 

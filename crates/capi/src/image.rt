@@ -10,8 +10,8 @@ ghost use lib.Dec.{ltb};
 ghost use lib.ListN.{length};
 ghost use Rattle.ground.specs.Choice.{both};
 ghost use Rattle.modes.specs.Room.{over};
-ghost use Rattle.tag.specs.Records.{keyFits};
-ghost use Rattle.tag.specs.States.{cleared};
+ghost use Rattle.tag.specs.States.{keyFits};
+ghost use Rattle.entry.specs.Sessions.{cleared};
 ghost use Rattle.capi.specs.Image.{stateNumber, kept, imageOf, stateOf, sessionIn, sheetIn, tagIn, accepts, isTag};
 
 /// The bytes of an image.

@@ -28,8 +28,8 @@ use Rattle.sheet.specs.Setups.{emptySetup}
 use Rattle.sheet.specs.Records.{featuresRule, sizesRule, keyRule, profileRule, lockRule}
 use Rattle.sheet.specs.Judgement.{judgedOf, openedOf, recordOf, taken, refused, onlyIf, withFeatures, withSizes, withKey, withProfile, withLock}
 use Rattle.sheet.specs.Sheet.{readOf, walk, after}
-use Rattle.tag.specs.declared.Fault.{Fault as TagFault}
-use Rattle.tag.specs.declared.Fault.the-variants.{OtherError, NotSupported, MemoryOverrun, MemoryWriteError, OutOfTurn, ProofWrong, BenchFault}
+use Rattle.offer.specs.declared.Fault.{Fault as TagFault}
+use Rattle.offer.specs.declared.Fault.the-variants.{OtherError, NotSupported, MemoryOverrun, MemoryWriteError, OutOfTurn, ProofWrong, BenchFault}
 use Rattle.tag.specs.declared.Tag.{Tag}
 use Rattle.tag.specs.States as states
 use Rattle.tag.specs.Reactions.{lent}

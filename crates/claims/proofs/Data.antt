@@ -31,9 +31,10 @@ use Rattle.payload.proofs.Alike.{same-self}
 use Rattle.payload.proofs.Data.{carried-long}
 use Rattle.payload.proofs.Lengths.{blocks-whole}
 use Rattle.payload.proofs.Recovered.{header-carried, words-carried, filler-carried}
-use Rattle.tag.specs.Replies.{tamBlock, tam2Body, tam2Reply}
-use Rattle.tag.proofs.ReplyBytes.{Ten, tam-block-block, carried-bytes}
-use Rattle.tag.proofs.ReplyLengths.{tam-block-long, body-long, tam2-long}
+use Rattle.tam.specs.Replies.{tamBlock, tam2Body, tam2Reply}
+use Rattle.offer.proofs.Bytes.{Ten}
+use Rattle.tam.proofs.ReplyBytes.{tam-block-block, carried-bytes}
+use Rattle.tam.proofs.ReplyLengths.{tam-block-long, body-long, tam2-long}
 use Rattle.reader.specs.declared.Keys.{Keys}
 use Rattle.reader.specs.Findings.{carries, worthOf}
 use Rattle.reader.specs.Judged.{dataFinding, tam2Finding}

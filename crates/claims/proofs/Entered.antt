@@ -17,13 +17,13 @@ use Rattle.frames.specs.Asked.{blockAsked as wordsAsked}
 use Rattle.frames.specs.Blocks.{dataLength, blockBytes}
 use Rattle.frames.specs.Fields.{customFits}
 use Rattle.frames.specs.Lengths.{hasMac}
-use Rattle.tag.specs.declared.State.{State}
-use Rattle.tag.specs.declared.State.the-variants.{IamInit, MamInit}
+use Rattle.entry.specs.declared.State.{State}
+use Rattle.entry.specs.declared.State.the-variants.{IamInit, MamInit}
 use Rattle.tag.specs.declared.Tag.{Tag}
 use Rattle.tag.specs.States.{afterIam1, afterMam1, inTurn}
-use Rattle.tag.specs.Checks.{judged}
-use Rattle.tag.specs.Judged.{benchChecks}
-use Rattle.tag.specs.Records.{offered, sizeOffered, modeOffered, modeSupported, keyNamed, keyOf, keysOf, slotNamed, blockAsked}
+use Rattle.offer.specs.Checks.{judged}
+use Rattle.offer.specs.Judged.{benchChecks}
+use Rattle.offer.specs.Records.{offered, sizeOffered, modeOffered, modeSupported, keyNamed, keyOf, keysOf, slotNamed, blockAsked}
 use Rattle.tag.specs.Answers.{Call, answerOf, letIn}
 use Rattle.tag.specs.Reactions.{lent}
 use Rattle.reader.specs.declared.Keys.{Keys}

@@ -19,16 +19,16 @@ use Rattle.frames.specs.Lengths.{lengthFits}
 use Rattle.frames.specs.Messages.{iam2Of, mam2Of}
 use Rattle.frames.proofs.Shape.{iam2-shape, mam2-shape}
 use Rattle.frames.proofs.Taken.{iam2-taken, mam2-taken}
-use Rattle.tag.specs.declared.Verdict.{Verdict}
-use Rattle.tag.specs.declared.Verdict.the-variants.{Fine}
-use Rattle.tag.specs.Judged.{iam2Checks, mam2Checks}
-use Rattle.tag.specs.Opened.{purposeIn, iamProof, mamProof}
-use Rattle.tag.specs.Records.{keyNamed}
+use Rattle.offer.specs.declared.Verdict.{Verdict}
+use Rattle.offer.specs.declared.Verdict.the-variants.{Fine}
+use Rattle.entry.specs.Judged.{iam2Checks, mam2Checks}
+use Rattle.entry.specs.Opened.{purposeIn, iamProof, mamProof}
+use Rattle.offer.specs.Records.{keyNamed}
 use Rattle.tag.specs.Answers.{Call, Answer, letIn, ifFine, iam2Answer, mam2Answer, byKind}
-use Rattle.tag.proofs.Lines.{passes, ends}
+use Rattle.offer.proofs.Lines.{passes, ends}
 use Rattle.reader.specs.Builds.{purposeFits, iam2Made, mam2Made}
 use Rattle.sheet.specs.declared.Setup.{Setup}
-use Rattle.tag.specs.declared.Session.{Session}
+use Rattle.entry.specs.declared.Session.{Session}
 use Rattle.reader.specs.declared.Keys.{Keys}
 use Rattle.claims.proofs.InTurn.{in-turn}
 use Rattle.claims.specs.Entry.{Knows, Array, Iam2Enters, Mam2Enters}

@@ -25,17 +25,17 @@ use Rattle.frames.proofs.Taken.{iam3-taken}
 use Rattle.payload.specs.Data.{carriedData, headerFits, fillerFits}
 use Rattle.payload.proofs.Data.{carried-long}
 use Rattle.payload.proofs.Recovered.{header-carried, words-carried, filler-carried}
-use Rattle.tag.specs.Opened.{purposeIn, iamProof, sentBlock, openedData, wordsIn, iam3Proof}
-use Rattle.tag.specs.Judged.{iam3Checks}
-use Rattle.tag.specs.Records.{keyNamed, blockAsked}
+use Rattle.entry.specs.Opened.{purposeIn, iamProof, sentBlock, openedData, wordsIn, iam3Proof}
+use Rattle.entry.specs.Judged.{iam3Checks}
+use Rattle.offer.specs.Records.{keyNamed, blockAsked}
 use Rattle.tag.specs.Answers.{Call, letIn, ifFine, iam3Answer, byKind}
-use Rattle.tag.proofs.Lines.{passes, ends}
-use Rattle.tag.proofs.ReplyBytes.{carried-bytes}
+use Rattle.offer.proofs.Lines.{passes, ends}
+use Rattle.tam.proofs.ReplyBytes.{carried-bytes}
 use Rattle.reader.specs.declared.Keys.{Keys}
 use Rattle.reader.specs.Builds.{purposeFits, iam3Made, iam3Fits}
 use Rattle.reader.proofs.Making.{partFits, parts-fit, part-count, part-select, part-purposed}
 use Rattle.sheet.specs.declared.Setup.{Setup}
-use Rattle.tag.specs.declared.Session.{Session}
+use Rattle.entry.specs.declared.Session.{Session}
 use Rattle.claims.proofs.InTurn.{in-turn}
 use Rattle.claims.specs.Entry.{Bytes, Array, Knows, Writable, Iam3Enters}
 use Rattle.claims.proofs.Proofs.{sent, sixteen, opened, clear, purpose-in, iam-holds, sent-bytes}

@@ -38,8 +38,9 @@ use Rattle.payload.specs.Protected.{encrypts, withMac, macFits}
 use Rattle.payload.proofs.Alike.{same-equal}
 use Rattle.payload.proofs.Lengths.{blocks-whole}
 use Rattle.payload.proofs.Recovered.{carried-only}
-use Rattle.tag.specs.Replies.{tamBlock, tam1Reply, tam2Body, tam2Reply, mam1Reply}
-use Rattle.tag.proofs.ReplyBytes.{drop-bytes}
+use Rattle.tam.specs.Replies.{tamBlock, tam1Reply, tam2Body, tam2Reply}
+use Rattle.entry.specs.Replies.{mam1Reply}
+use Rattle.offer.proofs.Bytes.{drop-bytes}
 use Rattle.reader.specs.declared.Fault.{Fault}
 use Rattle.reader.specs.declared.Fault.the-variants.{ReplyLength, OwnMessage}
 use Rattle.reader.specs.declared.Keys.{Keys}

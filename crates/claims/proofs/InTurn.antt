@@ -9,9 +9,9 @@ use Rattle.ground.specs.Choice.{pick}
 use Rattle.frames.specs.declared.Kind.{Kind}
 use Rattle.frames.specs.Fields.{byte}
 use Rattle.frames.specs.Kinds.{kindOf}
-use Rattle.tag.specs.declared.Fault.the-variants.{NotSupported, OutOfTurn}
+use Rattle.offer.specs.declared.Fault.the-variants.{NotSupported, OutOfTurn}
 use Rattle.tag.specs.declared.Tag.{Tag}
-use Rattle.tag.specs.States.{cleared}
+use Rattle.entry.specs.Sessions.{cleared}
 use Rattle.tag.specs.Answers.{Answer, Call, refused, byKind, inOrder, ofMessage, ofBench, answerOf}
 use Rattle.claims.specs.Entry.{Waits}
 

@@ -15,12 +15,13 @@ use Rattle.sheet.specs.Setups.{nothingKept, emptySetup}
 use Rattle.sheet.specs.Judgement.{judgedOf}
 use Rattle.sheet.specs.Sheet.{readOf}
 use Rattle.sheet.proofs.Examples.{example-12}
-use Rattle.tag.specs.declared.Fault.the-variants.{OtherError}
-use Rattle.tag.specs.declared.Outcome.the-variants.{Replied, Refused}
+use Rattle.offer.specs.declared.Fault.the-variants.{OtherError}
+use Rattle.offer.specs.declared.Outcome.the-variants.{Replied, Refused}
 use Rattle.tag.specs.declared.Tag.{Tag}
-use Rattle.tag.specs.States.{cleared, poweredUp}
-use Rattle.tag.specs.Checks.{judged}
-use Rattle.tag.specs.Judged.{benchChecks}
+use Rattle.entry.specs.Sessions.{cleared}
+use Rattle.tag.specs.States.{poweredUp}
+use Rattle.offer.specs.Checks.{judged}
+use Rattle.offer.specs.Judged.{benchChecks}
 use Rattle.tag.specs.Answers.{answerOf, ofMessage, refused}
 use Rattle.tag.specs.Plays.{Brought, Left, Called}
 use Rattle.reader.specs.declared.Fault.the-variants.{OwnMessage}

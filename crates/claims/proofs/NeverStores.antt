@@ -11,11 +11,12 @@ use Rattle.frames.specs.Asked.{blockAsked as wordsAsked}
 use Rattle.frames.specs.Kinds.{kindOf, iamKind}
 use Rattle.frames.specs.Lengths.{lengthFits}
 use Rattle.frames.specs.Messages.{iam1Of}
-use Rattle.tag.specs.declared.State.the-variants.{IamInit}
-use Rattle.tag.specs.States.{cleared, poweredUp, atRest, inTurn}
-use Rattle.tag.specs.Checks.{judged}
-use Rattle.tag.specs.Records.{offered, hasKey, keysOf, slotNamed, blockAsked}
-use Rattle.tag.specs.Judged.{benchChecks, openingChecks}
+use Rattle.entry.specs.declared.State.the-variants.{IamInit}
+use Rattle.entry.specs.Sessions.{cleared}
+use Rattle.tag.specs.States.{poweredUp, atRest, inTurn}
+use Rattle.offer.specs.Checks.{judged}
+use Rattle.offer.specs.Records.{offered, hasKey, keysOf, slotNamed, blockAsked}
+use Rattle.offer.specs.Judged.{benchChecks, openingChecks}
 use Rattle.tag.specs.Answers.{Answer, answerOf, ofMessage, inOrder, byKind, iam1Answer, ifFine, replied, refused, letIn}
 use Rattle.tag.specs.Runs.{run}
 use Rattle.tag.specs.Plays.{Brought, Left, sentAll, leftOf, leftAll}

@@ -26,7 +26,7 @@ use Rattle.payload.specs.Alike.{same}
 use Rattle.payload.specs.Protected.{encrypts, withMac, macFits}
 use Rattle.payload.proofs.Alike.{same-self}
 use Rattle.payload.proofs.Lengths.{blocks-whole, mac-long}
-use Rattle.tag.specs.Opened.{sentBlock, sentData, sentMac, openedData, sentMacFits}
+use Rattle.entry.specs.Opened.{sentBlock, sentData, sentMac, openedData, sentMacFits}
 use Rattle.reader.specs.declared.Keys.{Keys}
 use Rattle.reader.specs.Builds.{sentData as readerData, iam3Response, iam3Whole}
 use Rattle.reader.proofs.Sending.{data-sent-long}

@@ -21,10 +21,12 @@ use Rattle.frames.specs.Constants.{C-TAM1, C-MAM1, twoBytes}
 use Rattle.payload.specs.Alike.{same}
 use Rattle.payload.proofs.Alike.{same-self}
 use Rattle.payload.proofs.Lengths.{enc-sixteen}
-use Rattle.tag.specs.Replies.{tamBlock, tam1Reply, mam1Reply}
+use Rattle.tam.specs.Replies.{tamBlock, tam1Reply}
+use Rattle.entry.specs.Replies.{mam1Reply}
 use Rattle.payload.proofs.Bytes.{joined-bytes}
-use Rattle.tag.proofs.ReplyBytes.{Ten, drop-bytes}
-use Rattle.tag.proofs.ReplyLengths.{tam1-long, mam1-long}
+use Rattle.offer.proofs.Bytes.{Ten, drop-bytes}
+use Rattle.tam.proofs.ReplyLengths.{tam1-long}
+use Rattle.entry.proofs.ReplyLengths.{mam1-long}
 use Rattle.reader.specs.declared.Keys.{Keys}
 use Rattle.reader.specs.Findings.{nothingMore, issues}
 use Rattle.reader.specs.Judged.{tam1Finding, mam1Finding}

@@ -12,9 +12,9 @@ use Rattle.field.proofs.Block.{Bytes}
 use Rattle.aes.specs.AesEnc.{aesEnc}
 use Rattle.sheet.specs.declared.Key.{Key}
 use Rattle.frames.specs.Constants.{withPurpose}
-use Rattle.tag.specs.declared.Session.{Session}
+use Rattle.entry.specs.declared.Session.{Session}
 use Rattle.payload.specs.Alike.{same}
-use Rattle.tag.specs.Opened.{constantIn, purposeIn, middleIn, challengeIn, purposeAllowed, iamProof}
+use Rattle.entry.specs.Opened.{constantIn, purposeIn, middleIn, challengeIn, purposeAllowed, iamProof}
 use Rattle.payload.proofs.Alike.{same-self}
 use Rattle.reader.specs.declared.Keys.{Keys}
 use Rattle.reader.specs.Builds.{purposeFits, response}

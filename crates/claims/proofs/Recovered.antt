@@ -18,10 +18,11 @@ use Rattle.frames.specs.Fields.{byte}
 use Rattle.frames.specs.Kinds.{kindOf, iamKind}
 use Rattle.frames.specs.Lengths.{lengthFits}
 use Rattle.frames.specs.Messages.{iam1Of}
-use Rattle.tag.specs.States.{poweredUp, cleared, atRest, inTurn}
-use Rattle.tag.specs.Checks.{judged}
-use Rattle.tag.specs.Records.{offered, hasKey, keyOf, keysOf}
-use Rattle.tag.specs.Judged.{benchChecks, openingChecks}
+use Rattle.tag.specs.States.{poweredUp, atRest, inTurn}
+use Rattle.entry.specs.Sessions.{cleared}
+use Rattle.offer.specs.Checks.{judged}
+use Rattle.offer.specs.Records.{offered, hasKey, keyOf, keysOf}
+use Rattle.offer.specs.Judged.{benchChecks, openingChecks}
 use Rattle.tag.specs.Answers.{Call, refused, replied, ifFine, iam1Answer, byKind, inOrder, ofMessage, answerOf}
 use Rattle.tag.specs.Reactions.{lent}
 use Rattle.tag.specs.Plays.{Called}

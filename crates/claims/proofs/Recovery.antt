@@ -19,18 +19,23 @@ use Rattle.frames.specs.Lengths.{hasMac, lengthFits}
 use Rattle.frames.specs.Messages.{tam1Of, tam2Of, iam1Of, iam3Of, mam1Of}
 use Rattle.frames.proofs.Range.{both-right}
 use Rattle.tag.specs.declared.Tag.{Tag}
-use Rattle.tag.specs.declared.Fault.the-variants.{NotSupported, OutOfTurn}
-use Rattle.tag.specs.declared.Verdict.{Verdict}
-use Rattle.tag.specs.declared.Verdict.the-variants.{Fine, Wrong}
-use Rattle.tag.specs.States.{cleared, inTurn}
-use Rattle.tag.specs.Checks.{judged}
-use Rattle.tag.specs.Records.{offered, modeOffered, modeSupported, keyNamed, slotNamed, blockAsked}
-use Rattle.tag.specs.Judged.{benchChecks, openingChecks, tam2Checks, iam2Checks, iam3Checks, mam2Checks}
+use Rattle.offer.specs.declared.Fault.the-variants.{NotSupported, OutOfTurn}
+use Rattle.offer.specs.declared.Verdict.{Verdict}
+use Rattle.offer.specs.declared.Verdict.the-variants.{Fine, Wrong}
+use Rattle.entry.specs.Sessions.{cleared}
+use Rattle.tag.specs.States.{inTurn}
+use Rattle.offer.specs.Checks.{judged}
+use Rattle.offer.specs.Records.{offered, modeOffered, modeSupported, keyNamed, slotNamed, blockAsked}
+use Rattle.offer.specs.Judged.{benchChecks, openingChecks}
+use Rattle.tam.specs.Judged.{tam2Checks}
+use Rattle.entry.specs.Judged.{iam2Checks, iam3Checks, mam2Checks}
 use Rattle.tag.specs.Answers.{Answer, Call, refused, replied, letIn, ifFine, tam1Answer, tam2Answer, iam1Answer, iam2Answer, iam3Answer, mam1Answer, mam2Answer, byKind, inOrder, ofMessage, ofBench, answerOf}
-use Rattle.tag.proofs.Lines.{first-holds, others-hold}
-use Rattle.tag.proofs.Passed.{mode-below, bench-draws, tam2-mode, tam2-inside}
-use Rattle.tag.proofs.ReplyBytes.{Ten}
-use Rattle.tag.proofs.Tam2Asked.{tam1-challenge, tam2-challenge, mam1-challenge, tam2-custom-fits, words-bytes}
+use Rattle.offer.proofs.Lines.{first-holds, others-hold}
+use Rattle.offer.proofs.Passed.{mode-below, bench-draws}
+use Rattle.tam.proofs.Passed.{tam2-mode, tam2-inside}
+use Rattle.offer.proofs.Bytes.{Ten}
+use Rattle.tam.proofs.Tam2Asked.{tam1-challenge, tam2-challenge, tam2-custom-fits, words-bytes}
+use Rattle.entry.proofs.ReplyBytes.{mam1-challenge}
 use Rattle.reader.specs.declared.Keys.{Keys}
 use Rattle.reader.specs.Findings.{Finding, nothingMore, issues}
 use Rattle.reader.specs.Judged.{iam1Finding, emptyFinding, judgementOf, byKind as findingOf}

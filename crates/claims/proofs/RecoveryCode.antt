@@ -4,7 +4,7 @@ use mathlib.Core.List.{List}
 use Prim.Native.Nat.{ℕ}
 use lib.ListN.{length, take, drop}
 use lib.Seq.{take-at}
-use Rattle.tag.specs.States.{replyLength}
+use Rattle.offer.specs.Outcomes.{replyLength}
 use Rattle.tag.specs.Answers.{answerOf}
 use Rattle.tag.specs.Reactions.{lent}
 use Rattle.tag.proofs.PaperNumbers.{length-told}

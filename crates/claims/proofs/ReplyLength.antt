@@ -14,23 +14,25 @@ use Rattle.frames.specs.declared.Kind.the-variants.{Tam1, Tam2, Iam1, Iam2, Iam
 use Rattle.frames.specs.Fields.{byte}
 use Rattle.frames.specs.Kinds.{kindOf}
 use Rattle.frames.specs.Messages.{tam1Of, tam2Of, mam1Of}
-use Rattle.tag.specs.declared.Fault.{Fault}
-use Rattle.tag.specs.declared.Fault.the-variants.{OtherError, NotSupported, OutOfTurn}
-use Rattle.tag.specs.declared.Outcome.the-variants.{Replied}
-use Rattle.tag.specs.declared.Session.{Session}
+use Rattle.offer.specs.declared.Fault.{Fault}
+use Rattle.offer.specs.declared.Fault.the-variants.{OtherError, NotSupported, OutOfTurn}
+use Rattle.offer.specs.declared.Outcome.the-variants.{Replied}
+use Rattle.entry.specs.declared.Session.{Session}
 use Rattle.tag.specs.declared.Tag.{Tag}
-use Rattle.tag.specs.declared.Verdict.{Verdict}
-use Rattle.tag.specs.declared.Verdict.the-variants.{Fine, Wrong}
-use Rattle.tag.specs.States.{cleared, inTurn}
-use Rattle.tag.specs.Checks.{judged}
-use Rattle.tag.specs.Records.{offered, keyNamed, blockAsked}
-use Rattle.tag.specs.Judged.{benchChecks}
+use Rattle.offer.specs.declared.Verdict.{Verdict}
+use Rattle.offer.specs.declared.Verdict.the-variants.{Fine, Wrong}
+use Rattle.entry.specs.Sessions.{cleared}
+use Rattle.tag.specs.States.{inTurn}
+use Rattle.offer.specs.Checks.{judged}
+use Rattle.offer.specs.Records.{offered, keyNamed, blockAsked}
+use Rattle.offer.specs.Judged.{benchChecks}
 use Rattle.tag.specs.Answers.{Answer, Call, refused, replied, letIn, tam1Answer, tam2Answer, iam1Answer, iam2Answer, iam3Answer, mam1Answer, mam2Answer, byKind, inOrder, ofMessage, ofBench, ifFine, answerOf}
 use Rattle.tag.specs.Reactions.{lent}
 use Rattle.tag.proofs.Cases.{fine-case}
-use Rattle.tag.proofs.Lines.{first-holds}
-use Rattle.tag.proofs.ReplyLengths.{tam1-long, mam1-long, tam2-long}
-use Rattle.tag.proofs.Tam2Asked.{words-most}
+use Rattle.offer.proofs.Lines.{first-holds}
+use Rattle.tam.proofs.ReplyLengths.{tam1-long, tam2-long}
+use Rattle.entry.proofs.ReplyLengths.{mam1-long}
+use Rattle.tam.proofs.Tam2Asked.{words-most}
 use Rattle.claims.specs.ShutOut.{layoutLength, LengthFixed}
 
 -- an answer that, where it is a reply, has k bytes

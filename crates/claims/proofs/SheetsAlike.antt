@@ -20,7 +20,7 @@ use Rattle.sheet.specs.Limits.{keyLimit, lockLimit, profileLimit}
 use Rattle.sheet.specs.Kinds.{kindOf, isUnknown, bodyLength, inOrder}
 use Rattle.sheet.specs.Records.{byteAt, wordAt, featuresRule, sizesRule, allZero, keyRule, keyOf, profileRule, slotOf, lockRule, lockOf}
 use Rattle.sheet.specs.Judgement.{tooMany, shutIf, openedOf, refused, taken, withFeatures, withSizes, withKey, withProfile, withLock, recordOf, onlyIf, judgedOf}
-use Rattle.tag.specs.Records.{keysOf}
+use Rattle.offer.specs.Records.{keysOf}
 use Rattle.claims.specs.Silence.{RecordAlike, RecordsAlike, SetupsAlike}
 use Rattle.claims.specs.Sheets.{KeyBodiesAlike, BodiesAlike}
 

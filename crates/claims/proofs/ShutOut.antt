@@ -9,14 +9,15 @@ use Rattle.sheet.specs.Limits.{keyLimit, profileLimit}
 use Rattle.frames.specs.Kinds.{kindOf, iamKind}
 use Rattle.frames.specs.Lengths.{lengthFits}
 use Rattle.frames.specs.Messages.{iam1Of}
-use Rattle.tag.specs.declared.Fault.the-variants.{OtherError}
-use Rattle.tag.specs.declared.Outcome.the-variants.{Replied, Refused}
-use Rattle.tag.specs.declared.State.the-variants.{IamInit}
+use Rattle.offer.specs.declared.Fault.the-variants.{OtherError}
+use Rattle.offer.specs.declared.Outcome.the-variants.{Replied, Refused}
+use Rattle.entry.specs.declared.State.the-variants.{IamInit}
 use Rattle.tag.specs.declared.Tag.{Tag}
-use Rattle.tag.specs.States.{cleared, poweredUp, atRest, inTurn}
-use Rattle.tag.specs.Checks.{judged}
-use Rattle.tag.specs.Records.{offered, hasKey, keysOf}
-use Rattle.tag.specs.Judged.{benchChecks, openingChecks}
+use Rattle.entry.specs.Sessions.{cleared}
+use Rattle.tag.specs.States.{poweredUp, atRest, inTurn}
+use Rattle.offer.specs.Checks.{judged}
+use Rattle.offer.specs.Records.{offered, hasKey, keysOf}
+use Rattle.offer.specs.Judged.{benchChecks, openingChecks}
 use Rattle.tag.specs.Answers.{answerOf, ofMessage, inOrder, byKind, iam1Answer, ifFine, replied, refused}
 use Rattle.tag.specs.Runs.{run}
 use Rattle.tag.specs.Plays.{Brought, Left, Plays, sentAll, leftAll}

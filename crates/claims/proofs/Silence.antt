@@ -9,9 +9,10 @@ use borrow.Author.Tests.{eqb-true, eqb-false}
 use Rattle.ground.specs.Choice.{either}
 use Rattle.modes.specs.Room.{over}
 use Rattle.sheet.specs.declared.Setup.{Setup}
-use Rattle.tag.specs.declared.Session.{Session}
+use Rattle.entry.specs.declared.Session.{Session}
 use Rattle.tag.specs.declared.Tag.{Tag}
-use Rattle.tag.specs.States.{cleared, poweredUp}
+use Rattle.entry.specs.Sessions.{cleared}
+use Rattle.tag.specs.States.{poweredUp}
 use Rattle.tag.specs.Answers.{Answer, answerOf}
 use Rattle.tag.specs.Runs.{Sent, callOf, tagAfter, run}
 use Rattle.tag.specs.Plays.{Brought, Left, sentAll, leftAll}

@@ -20,12 +20,13 @@ use Rattle.sheet.specs.Setups.{noKey, noSlot, noLock}
 use Rattle.frames.specs.Kinds.{kindOf, iamKind}
 use Rattle.frames.specs.Lengths.{lengthFits}
 use Rattle.frames.specs.Messages.{iam1Of}
-use Rattle.tag.specs.declared.Outcome.the-variants.{Replied}
-use Rattle.tag.specs.declared.State.the-variants.{IamInit}
-use Rattle.tag.specs.Checks.{judged}
-use Rattle.tag.specs.States.{cleared, atRest, inTurn, poweredUp}
-use Rattle.tag.specs.Records.{offered, hasKey, keyOf, keysOf, keyPresent, keyNamed, slotNamed}
-use Rattle.tag.specs.Judged.{benchChecks, openingChecks}
+use Rattle.offer.specs.declared.Outcome.the-variants.{Replied}
+use Rattle.entry.specs.declared.State.the-variants.{IamInit}
+use Rattle.offer.specs.Checks.{judged}
+use Rattle.entry.specs.Sessions.{cleared}
+use Rattle.tag.specs.States.{atRest, inTurn, poweredUp}
+use Rattle.offer.specs.Records.{offered, hasKey, keyOf, keysOf, keyPresent, keyNamed, slotNamed}
+use Rattle.offer.specs.Judged.{benchChecks, openingChecks}
 use Rattle.tag.specs.Answers.{replied, ifFine, iam1Answer, byKind, inOrder, ofMessage, answerOf}
 use Rattle.tag.specs.Runs.{Sent, run}
 use Rattle.claims.specs.Names.{carriesKeyid, namedBy, namedIn}

@@ -24,14 +24,17 @@ use Rattle.frames.specs.Constants.{C-IAM2}
 use Rattle.frames.specs.Messages.{tam2Of, iam2Of, iam3Of, mam2Of}
 use Rattle.frames.specs.Lengths.{lengthFits, replyRoom, hasMac}
 use Rattle.frames.proofs.Range.{both-right}
-use Rattle.tag.specs.declared.Fault.the-variants.{OtherError, NotSupported, MemoryOverrun, MemoryWriteError, ProofWrong, BenchFault}
-use Rattle.tag.specs.declared.Session.{Session}
-use Rattle.tag.specs.declared.Verdict.the-variants.{Fine}
-use Rattle.tag.specs.Checks.{_else_, judged}
-use Rattle.tag.specs.Records.{sizeOffered, revOffered, modeOffered, modeSupported, hasKey, keyOf, keysOf, keyNamed, slotNamed, blockAsked}
-use Rattle.tag.specs.Opened.{iamProof, mamProof, iam3Proof}
-use Rattle.tag.specs.Judged.{drawBytes, benchChecks, openingChecks, tam2Checks, iam2Checks, iam3Checks, mam2Checks}
-use Rattle.tag.proofs.Lines.{first-holds, others-hold}
+use Rattle.offer.specs.declared.Fault.the-variants.{OtherError, NotSupported, MemoryOverrun, MemoryWriteError, ProofWrong, BenchFault}
+use Rattle.entry.specs.declared.Session.{Session}
+use Rattle.offer.specs.declared.Verdict.the-variants.{Fine}
+use Rattle.ground.specs.Checks.{_else_}
+use Rattle.offer.specs.Checks.{judged}
+use Rattle.offer.specs.Records.{sizeOffered, revOffered, modeOffered, modeSupported, hasKey, keyOf, keysOf, keyNamed, slotNamed, blockAsked}
+use Rattle.entry.specs.Opened.{iamProof, mamProof, iam3Proof}
+use Rattle.offer.specs.Judged.{drawBytes, benchChecks, openingChecks}
+use Rattle.tam.specs.Judged.{tam2Checks}
+use Rattle.entry.specs.Judged.{iam2Checks, iam3Checks, mam2Checks}
+use Rattle.offer.proofs.Lines.{first-holds, others-hold}
 use Rattle.claims.specs.Silence.{SetupsAlike}
 use Rattle.claims.proofs.SilenceRecords.{Found, found}
 

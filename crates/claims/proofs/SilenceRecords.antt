@@ -6,7 +6,7 @@ use Prim.Native.Nat.{ℕ}
 use lib.Dec.{eqb}
 use borrow.Author.Tests.{eqb-true}
 use Rattle.sheet.specs.declared.Key.{Key}
-use Rattle.tag.specs.Records.{hasKey, keyOf}
+use Rattle.offer.specs.Records.{hasKey, keyOf}
 use Rattle.claims.specs.Silence.{RecordAlike, RecordsAlike}
 
 pub record Found (named : ℕ → Bool) (keyid : ℕ) (ks ls : List Key) : Type 0 where

@@ -26,12 +26,14 @@ use Rattle.frames.specs.Lengths.{lengthFits, hasMac}
 use Rattle.frames.specs.Messages.{tam1Of, tam2Of}
 use Rattle.payload.specs.Data.{filled, carriedData}
 use Rattle.payload.specs.Protected.{encrypts, withMac}
-use Rattle.tag.specs.declared.Outcome.the-variants.{Replied}
-use Rattle.tag.specs.Checks.{judged}
-use Rattle.tag.specs.States.{cleared, inTurn, poweredUp}
-use Rattle.tag.specs.Records.{offered, sizeOffered, revOffered, modeOffered, modeSupported, hasKey, keyOf, keysOf, slotNamed, blockAsked}
-use Rattle.tag.specs.Replies.{tamBlock, tam1Reply, tam2Body, tam2Reply}
-use Rattle.tag.specs.Judged.{benchChecks, openingChecks, tam2Checks}
+use Rattle.offer.specs.declared.Outcome.the-variants.{Replied}
+use Rattle.offer.specs.Checks.{judged}
+use Rattle.entry.specs.Sessions.{cleared}
+use Rattle.tag.specs.States.{inTurn, poweredUp}
+use Rattle.offer.specs.Records.{offered, sizeOffered, revOffered, modeOffered, modeSupported, hasKey, keyOf, keysOf, slotNamed, blockAsked}
+use Rattle.tam.specs.Replies.{tamBlock, tam1Reply, tam2Body, tam2Reply}
+use Rattle.offer.specs.Judged.{benchChecks, openingChecks}
+use Rattle.tam.specs.Judged.{tam2Checks}
 use Rattle.tag.specs.Answers.{replied, ifFine, tam1Answer, tam2Answer, byKind, inOrder, ofMessage, answerOf}
 use Rattle.tag.specs.Runs.{Sent, run}
 use Rattle.claims.specs.Silence.{Memory, SameAnswers, answers}

@@ -18,23 +18,27 @@ use Rattle.frames.specs.Fields.{byte}
 use Rattle.frames.specs.Kinds.{kindOf}
 use Rattle.frames.specs.Lengths.{lengthFits}
 use Rattle.frames.specs.Messages.{tam1Of, tam2Of, iam1Of, iam2Of, iam3Of, mam1Of, mam2Of}
-use Rattle.tag.specs.declared.Fault.{Fault}
-use Rattle.tag.specs.declared.Fault.the-variants.{OtherError, NotSupported, OutOfTurn}
-use Rattle.tag.specs.declared.Outcome.the-variants.{Replied, Entered}
-use Rattle.tag.specs.declared.Session.{Session}
-use Rattle.tag.specs.declared.State.{State}
-use Rattle.tag.specs.declared.State.the-variants.{Initial, IamInit, MamInit, IaOk}
-use Rattle.tag.specs.declared.Verdict.{Verdict}
-use Rattle.tag.specs.declared.Verdict.the-variants.{Fine, Wrong}
-use Rattle.tag.specs.Checks.{judged}
-use Rattle.tag.specs.States.{cleared, entered, atRest, afterIam1, afterMam1, inTurn}
-use Rattle.tag.specs.Records.{offered, keyNamed, keysOf, blockAsked}
-use Rattle.tag.specs.Replies.{tam1Reply, tam2Reply, mam1Reply}
-use Rattle.tag.specs.Opened.{purposeIn, openedData, wordsIn, sentBlock}
-use Rattle.tag.specs.Judged.{benchChecks, tam2Checks}
+use Rattle.offer.specs.declared.Fault.{Fault}
+use Rattle.offer.specs.declared.Fault.the-variants.{OtherError, NotSupported, OutOfTurn}
+use Rattle.offer.specs.declared.Outcome.the-variants.{Replied, Entered}
+use Rattle.entry.specs.declared.Session.{Session}
+use Rattle.entry.specs.declared.State.{State}
+use Rattle.entry.specs.declared.State.the-variants.{Initial, IamInit, MamInit, IaOk}
+use Rattle.offer.specs.declared.Verdict.{Verdict}
+use Rattle.offer.specs.declared.Verdict.the-variants.{Fine, Wrong}
+use Rattle.offer.specs.Checks.{judged}
+use Rattle.entry.specs.Sessions.{cleared, entered}
+use Rattle.tag.specs.States.{atRest, afterIam1, afterMam1, inTurn}
+use Rattle.offer.specs.Records.{offered, keyNamed, keysOf, blockAsked}
+use Rattle.tam.specs.Replies.{tam1Reply, tam2Reply}
+use Rattle.entry.specs.Replies.{mam1Reply}
+use Rattle.entry.specs.Opened.{purposeIn, openedData, wordsIn, sentBlock}
+use Rattle.offer.specs.Judged.{benchChecks}
+use Rattle.tam.specs.Judged.{tam2Checks}
 use Rattle.tag.specs.Answers.{Answer, Call, refused, replied, letIn, ifFine, tam1Answer, tam2Answer, iam1Answer, iam2Answer, iam3Answer, mam1Answer, mam2Answer, byKind, inOrder, ofMessage, ofBench, answerOf}
 use Rattle.tag.specs.Runs.{Sent, callOf}
-use Rattle.tag.proofs.Passed.{opening-length, tam2-length, tam2-key, tam2-inside}
+use Rattle.offer.proofs.Passed.{opening-length}
+use Rattle.tam.proofs.Passed.{tam2-length, tam2-key, tam2-inside}
 use Rattle.claims.specs.Names.{carriesKeyid, namedBy}
 use Rattle.claims.specs.Silence.{SetupsAlike, Memory, MemoriesAlike, SameChange, SameAnswer}
 use Rattle.claims.proofs.SilenceStores.{unchanged, stored-alike}

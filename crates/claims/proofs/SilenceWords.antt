@@ -17,7 +17,7 @@ use Rattle.memory.proofs.Windows.{word-inside, window-agree}
 use Rattle.sheet.specs.declared.Setup.{Setup}
 use Rattle.frames.specs.declared.Custom.{Custom}
 use Rattle.frames.specs.Asked.{blockAsked as wordsAsked}
-use Rattle.tag.specs.Records.{keyPresent, keyNamed, slotNamed, blockAsked}
+use Rattle.offer.specs.Records.{keyPresent, keyNamed, slotNamed, blockAsked}
 use Rattle.claims.specs.Names.{Open}
 use Rattle.claims.specs.Silence.{wordOf, Memory, MemoriesAlike, SameChange}
 

@@ -1,8 +1,8 @@
 -- The tag opens by AES-ENC.
 use Rattle.frames.proofs.Range.{both-left}
-use Rattle.tag.specs.Judged.{iam2Checks, iam3Checks, mam2Checks}
-use Rattle.tag.specs.Opened.{iam3Proof}
-use Rattle.tag.proofs.Lines.{first-holds, others-hold}
+use Rattle.entry.specs.Judged.{iam2Checks, iam3Checks, mam2Checks}
+use Rattle.entry.specs.Opened.{iam3Proof}
+use Rattle.offer.proofs.Lines.{first-holds, others-hold}
 use Rattle.claims.specs.Ways.{TagEncrypts}
 
 pub tag-encrypts : TagEncrypts

@@ -25,12 +25,12 @@ use Rattle.frames.specs.declared.Custom.{Custom}
 use Rattle.frames.specs.Asked.{blockAsked as wordsAsked}
 use Rattle.frames.specs.Blocks.{dataLength}
 use Rattle.frames.proofs.Range.{both-right}
-use Rattle.tag.specs.declared.Verdict.the-variants.{Fine}
-use Rattle.tag.specs.Checks.{judged}
-use Rattle.tag.specs.Judged.{benchChecks}
-use Rattle.tag.specs.Records.{slotNamed, blockAsked}
-use Rattle.tag.proofs.Lines.{first-holds, others-hold}
-use Rattle.tag.proofs.Tam2Asked.{asked-bytes}
+use Rattle.offer.specs.declared.Verdict.the-variants.{Fine}
+use Rattle.offer.specs.Checks.{judged}
+use Rattle.offer.specs.Judged.{benchChecks}
+use Rattle.offer.specs.Records.{slotNamed, blockAsked}
+use Rattle.offer.proofs.Lines.{first-holds, others-hold}
+use Rattle.tam.proofs.Tam2Asked.{asked-bytes}
 
 -- a slot of a table, or the empty one past its end
 slot-fine : (z : Sizes) (ss : List Slot) (i : ℕ) → SlotsFine z ss → SlotFine z (getD ss i noSlot)

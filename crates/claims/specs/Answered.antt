@@ -17,8 +17,8 @@ use Rattle.sheet.specs.Setups.{emptySetup}
 use Rattle.sheet.specs.Judgement.{judgedOf}
 use Rattle.sheet.specs.Sheet.{readOf}
 use Rattle.frames.specs.Built.{Built}
-use Rattle.tag.specs.declared.Fault.{Fault as TagFault}
-use Rattle.tag.specs.declared.Outcome.the-variants.{Refused as NoReply}
+use Rattle.offer.specs.declared.Fault.{Fault as TagFault}
+use Rattle.offer.specs.declared.Outcome.the-variants.{Refused as NoReply}
 use Rattle.tag.specs.declared.Tag.{Tag}
 use Rattle.tag.specs.States as states
 use Rattle.tag.specs.States.{sessionAfter}

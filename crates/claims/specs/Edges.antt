@@ -17,8 +17,8 @@ use Rattle.sheet.specs.Sheet.{readNumber, readPlace}
 use Rattle.frames.specs.declared.Iam3.{Iam3}
 use Rattle.frames.specs.Fields.{sizeOf}
 use Rattle.frames.specs.Messages.{iam3Of}
-use Rattle.tag.specs.declared.Fault.the-variants.{MemoryOverrun}
-use Rattle.tag.specs.States.{numberOf}
+use Rattle.offer.specs.declared.Fault.the-variants.{MemoryOverrun}
+use Rattle.offer.specs.Outcomes.{numberOf}
 
 -- (7): the fields of a head.
 abbrev pub fieldsOf : Iam3 → List ℕ

@@ -14,11 +14,11 @@ use Rattle.frames.specs.declared.Kind.the-variants.{Iam2, Mam2, Iam3}
 use Rattle.sheet.specs.declared.Key.{Key}
 use Rattle.sheet.specs.declared.Setup.{Setup}
 use Rattle.tag.specs.declared.Tag.{Tag}
-use Rattle.tag.specs.declared.Verdict.the-variants.{Fine}
-use Rattle.tag.specs.Checks.{judged}
-use Rattle.tag.specs.Judged.{benchChecks}
+use Rattle.offer.specs.declared.Verdict.the-variants.{Fine}
+use Rattle.offer.specs.Checks.{judged}
+use Rattle.offer.specs.Judged.{benchChecks}
 use Rattle.tag.specs.States.{inTurn}
-use Rattle.tag.specs.Records.{offered, keyNamed, slotNamed, sizeOffered, modeSupported, blockAsked}
+use Rattle.offer.specs.Records.{offered, keyNamed, slotNamed, sizeOffered, modeSupported, blockAsked}
 use Rattle.tag.specs.Answers.{Call, letIn, answerOf}
 use Rattle.reader.specs.declared.Keys.{Keys}
 use Rattle.reader.specs.Builds.{purposeFits, iam2Made, mam2Made, iam3Made, iam3Fits}

@@ -11,7 +11,8 @@ use Rattle.frames.specs.declared.Kind.the-variants.{Tam1, Tam2, Iam1, Iam2, Iam
 use Rattle.frames.specs.Fields.{byte}
 use Rattle.frames.specs.Kinds.{kindOf}
 use Rattle.frames.specs.Messages.{tam1Of, tam2Of, mam1Of}
-use Rattle.tag.specs.Replies.{tam1Reply, tam2Reply, mam1Reply}
+use Rattle.tam.specs.Replies.{tam1Reply, tam2Reply}
+use Rattle.entry.specs.Replies.{mam1Reply}
 use Rattle.reader.specs.declared.Keys.{Keys}
 use Rattle.reader.specs.declared.Verdict.the-variants.{Accepted}
 use Rattle.reader.specs.Findings.{Finding}

@@ -12,7 +12,7 @@ use Rattle.sheet.specs.declared.Setup.{Setup}
 use Rattle.frames.specs.declared.Kind.{Kind}
 use Rattle.frames.specs.declared.Kind.the-variants.{Tam1, Tam2, Iam1, Iam2, Iam3, Mam1, Mam2, Unsupported}
 use Rattle.frames.specs.Kinds.{kindOf}
-use Rattle.tag.specs.Records.{keyPresent, keyNamed, slotNamed}
+use Rattle.offer.specs.Records.{keyPresent, keyNamed, slotNamed}
 use Rattle.tag.specs.Runs.{Sent}
 
 -- TAM1, TAM2, IAM1 and MAM1 carry a KeyID.

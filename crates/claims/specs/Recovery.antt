@@ -14,11 +14,11 @@ use Rattle.frames.specs.Fields.{byte}
 use Rattle.frames.specs.Kinds.{kindOf}
 use Rattle.frames.specs.Messages.{tam1Of, tam2Of, iam1Of, mam1Of}
 use Rattle.tag.specs.declared.Tag.{Tag}
-use Rattle.tag.specs.declared.Outcome.{Outcome}
-use Rattle.tag.specs.declared.Outcome.the-variants.{Replied, Entered, Refused}
+use Rattle.offer.specs.declared.Outcome.{Outcome}
+use Rattle.offer.specs.declared.Outcome.the-variants.{Replied, Entered, Refused}
 use Rattle.tag.specs.Answers.{Answer, Call, answerOf}
-use Rattle.tag.specs.States.{replyLength}
-use Rattle.tag.specs.Records.{keyNamed, blockAsked}
+use Rattle.offer.specs.Outcomes.{replyLength}
+use Rattle.offer.specs.Records.{keyNamed, blockAsked}
 use Rattle.tag.specs.Reactions.{lent}
 use Rattle.tag.specs.Plays.{Brought, Left, Called}
 use Rattle.reader.specs.declared.Judgement.{Judgement}

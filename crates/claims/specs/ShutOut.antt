@@ -10,7 +10,7 @@ use Rattle.frames.specs.Fields.{byte}
 use Rattle.frames.specs.Kinds.{kindOf}
 use Rattle.frames.specs.Lengths.{tam1ReplyLength, tam2ReplyLength, iam1ReplyLength, mam1ReplyLength, emptyReplyLength}
 use Rattle.frames.specs.Messages.{tam2Of}
-use Rattle.tag.specs.declared.Outcome.the-variants.{Replied}
+use Rattle.offer.specs.declared.Outcome.the-variants.{Replied}
 use Rattle.tag.specs.declared.Tag.{Tag}
 use Rattle.tag.specs.Plays.{Brought, Left, Called, Plays}
 

@@ -10,7 +10,7 @@ use Rattle.memory.specs.Areas.{wordBytes}
 use Rattle.sheet.specs.declared.Key.{Key}
 use Rattle.sheet.specs.declared.Setup.{Setup}
 use Rattle.tag.specs.States.{poweredUp}
-use Rattle.tag.specs.Records.{keysOf}
+use Rattle.offer.specs.Records.{keysOf}
 use Rattle.tag.specs.Answers.{Answer}
 use Rattle.tag.specs.Runs.{Sent, run}
 use Rattle.tag.specs.Plays.{Brought, Left, Plays, sentAll}

@@ -7,12 +7,12 @@ use Rattle.aes.specs.AesEnc.{aesEnc}
 use Rattle.frames.specs.Constants.{C-IAM2, iam3Constant}
 use Rattle.frames.specs.Messages.{iam2Of, iam3Of, mam2Of}
 use Rattle.sheet.specs.declared.Setup.{Setup}
-use Rattle.tag.specs.declared.Session.{Session}
-use Rattle.tag.specs.declared.Verdict.the-variants.{Fine}
-use Rattle.tag.specs.Checks.{judged}
-use Rattle.tag.specs.Judged.{iam2Checks, iam3Checks, mam2Checks}
-use Rattle.tag.specs.Records.{keyNamed}
-use Rattle.tag.specs.Opened.{iamProof, mamProof, sentBlock}
+use Rattle.entry.specs.declared.Session.{Session}
+use Rattle.offer.specs.declared.Verdict.the-variants.{Fine}
+use Rattle.offer.specs.Checks.{judged}
+use Rattle.entry.specs.Judged.{iam2Checks, iam3Checks, mam2Checks}
+use Rattle.offer.specs.Records.{keyNamed}
+use Rattle.entry.specs.Opened.{iamProof, mamProof, sentBlock}
 
 -- An IAM2, a MAM2, and an IAM3 that passes its checks proves itself in the block that AES-ENC makes of IResponse's first.
 abbrev pub TagEncrypts : Type 0

@@ -17,12 +17,12 @@ use Rattle.frames.specs.declared.Kind.the-variants.{Tam1, Tam2, Iam1, Iam2, Iam
 use Rattle.frames.specs.Kinds.{kindOf}
 use Rattle.frames.specs.Messages.{iam3Of}
 use Rattle.sheet.specs.declared.Setup.{Setup}
-use Rattle.tag.specs.declared.Fault.{Fault}
-use Rattle.tag.specs.declared.Session.{Session}
+use Rattle.offer.specs.declared.Fault.{Fault}
+use Rattle.entry.specs.declared.Session.{Session}
 use Rattle.tag.specs.declared.Tag.{Tag}
-use Rattle.tag.specs.declared.Fault.the-variants.{NotSupported}
-use Rattle.tag.specs.States.{cleared}
-use Rattle.tag.specs.Records.{blockAsked}
+use Rattle.offer.specs.declared.Fault.the-variants.{NotSupported}
+use Rattle.entry.specs.Sessions.{cleared}
+use Rattle.offer.specs.Records.{blockAsked}
 use Rattle.tag.specs.Answers.{Answer, Call, refused, replied, letIn, tam1Answer, tam2Answer, iam1Answer, iam2Answer, iam3Answer, mam1Answer, mam2Answer, byKind, answerOf}
 use Rattle.tag.proofs.Cases.{fine-case, answer-case}
 

@@ -6,15 +6,16 @@ use Prim.Native.Nat.{ℕ}
 use lib.ListN.{length}
 use Rattle.ground.specs.Choice.{pick}
 use Rattle.frames.specs.Kinds.{kindOf}
-use Rattle.tag.specs.declared.Fault.{Fault}
-use Rattle.tag.specs.declared.Fault.the-variants.{OtherError, NotSupported, OutOfTurn}
+use Rattle.offer.specs.declared.Fault.{Fault}
+use Rattle.offer.specs.declared.Fault.the-variants.{OtherError, NotSupported, OutOfTurn}
 use Rattle.tag.specs.declared.Tag.{Tag}
-use Rattle.tag.specs.declared.Verdict.{Verdict}
-use Rattle.tag.specs.declared.Verdict.the-variants.{Fine, Wrong}
-use Rattle.tag.specs.States.{cleared, inTurn}
-use Rattle.tag.specs.Checks.{judged}
-use Rattle.tag.specs.Records.{offered}
-use Rattle.tag.specs.Judged.{benchChecks}
+use Rattle.offer.specs.declared.Verdict.{Verdict}
+use Rattle.offer.specs.declared.Verdict.the-variants.{Fine, Wrong}
+use Rattle.entry.specs.Sessions.{cleared}
+use Rattle.tag.specs.States.{inTurn}
+use Rattle.offer.specs.Checks.{judged}
+use Rattle.offer.specs.Records.{offered}
+use Rattle.offer.specs.Judged.{benchChecks}
 use Rattle.tag.specs.Answers.{Answer, Call, refused, ifFine, byKind, inOrder, ofMessage, ofBench, answerOf}
 
 module _ (c : Call) (P : Answer → Type 0) (initial : (f : Fault) → P (refused c f cleared)) where

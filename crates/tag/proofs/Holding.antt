@@ -8,17 +8,19 @@ use Rattle.frames.specs.declared.Kind.the-variants.{Tam1, Tam2, Iam1, Iam2, Iam
 use Rattle.frames.specs.Kinds.{kindOf}
 use Rattle.frames.specs.Messages.{iam1Of, mam1Of}
 use Rattle.sheet.specs.declared.Setup.{Setup}
-use Rattle.tag.specs.declared.Fault.{Fault}
-use Rattle.tag.specs.declared.Fault.the-variants.{NotSupported}
-use Rattle.tag.specs.declared.Session.{Session}
-use Rattle.tag.specs.declared.State.{State}
-use Rattle.tag.specs.declared.State.the-variants.{Initial, IamInit, MamInit, IaOk}
+use Rattle.offer.specs.declared.Fault.{Fault}
+use Rattle.offer.specs.declared.Fault.the-variants.{NotSupported}
+use Rattle.entry.specs.declared.Session.{Session}
+use Rattle.entry.specs.declared.State.{State}
+use Rattle.entry.specs.declared.State.the-variants.{Initial, IamInit, MamInit, IaOk}
 use Rattle.tag.specs.declared.Tag.{Tag}
-use Rattle.tag.specs.States.{cleared, entered, poweredUp}
-use Rattle.tag.specs.Records.{keyPresent, keyFits}
+use Rattle.entry.specs.Sessions.{cleared, entered}
+use Rattle.tag.specs.States.{poweredUp}
+use Rattle.offer.specs.Records.{keyPresent}
+use Rattle.tag.specs.States.{keyFits}
 use Rattle.tag.specs.Answers.{Answer, Call, refused, replied, letIn, tam1Answer, tam2Answer, iam1Answer, iam2Answer, iam3Answer, mam1Answer, mam2Answer, byKind, answerOf}
 use Rattle.tag.proofs.Cases.{fine-case, fine-known, answer-case}
-use Rattle.tag.proofs.Passed.{opening-key}
+use Rattle.offer.proofs.Passed.{opening-key}
 
 pub record Holds (setup : Setup) (s : Session) : Type 0 where
   pub iamInit : s .state ≡ IamInit → keyPresent setup (s .keyid) ≡ true

@@ -9,17 +9,22 @@ use Rattle.sheet.specs.declared.Setup.{Setup}
 use Rattle.frames.specs.declared.Kind.{Kind}
 use Rattle.frames.specs.declared.Kind.the-variants.{Tam1, Tam2, Iam1, Iam2, Iam3, Mam1, Mam2, Unsupported}
 use Rattle.frames.specs.Kinds.{kindOf}
-use Rattle.tag.specs.declared.Fault.{Fault}
-use Rattle.tag.specs.declared.Fault.the-variants.{OtherError, NotSupported, OutOfTurn}
-use Rattle.tag.specs.declared.Outcome.the-variants.{Refused}
-use Rattle.tag.specs.declared.Session.{Session}
+use Rattle.offer.specs.declared.Fault.{Fault}
+use Rattle.offer.specs.declared.Fault.the-variants.{OtherError, NotSupported, OutOfTurn}
+use Rattle.offer.specs.declared.Outcome.the-variants.{Refused}
+use Rattle.entry.specs.declared.Session.{Session}
 use Rattle.tag.specs.declared.Tag.{Tag}
-use Rattle.tag.specs.declared.Verdict.{Verdict}
-use Rattle.tag.specs.declared.Verdict.the-variants.{Fine, Wrong}
-use Rattle.tag.specs.States.{cleared, inTurn, sessionAfter}
-use Rattle.tag.specs.Checks.{Check, after, judged}
-use Rattle.tag.specs.Records.{offered}
-use Rattle.tag.specs.Judged.{benchChecks, openingChecks, tam2Checks, iam2Checks, iam3Checks, mam2Checks}
+use Rattle.offer.specs.declared.Verdict.{Verdict}
+use Rattle.offer.specs.declared.Verdict.the-variants.{Fine, Wrong}
+use Rattle.entry.specs.Sessions.{cleared}
+use Rattle.tag.specs.States.{inTurn, sessionAfter}
+use Rattle.ground.specs.Checks.{Check}
+use Rattle.tag.specs.Checks.{after}
+use Rattle.offer.specs.Checks.{judged}
+use Rattle.offer.specs.Records.{offered}
+use Rattle.offer.specs.Judged.{benchChecks, openingChecks}
+use Rattle.tam.specs.Judged.{tam2Checks}
+use Rattle.entry.specs.Judged.{iam2Checks, iam3Checks, mam2Checks}
 use Rattle.tag.specs.Answers.{Answer, Call, refused, replied, letIn, ifFine, tam1Answer, tam2Answer, iam1Answer, iam2Answer, iam3Answer, mam1Answer, mam2Answer, byKind, inOrder, ofMessage, ofBench, answerOf}
 
 -- Nothing was sent and no byte of an area changed; the tag holds `s`.

@@ -4,13 +4,13 @@ use mathlib.Core.List.{List}
 use Prim.Native.Nat.{ℕ}
 use lib.ListN.{length}
 use Rattle.modes.specs.Room.{over}
-use Rattle.tag.specs.declared.Fault.{Fault}
-use Rattle.tag.specs.declared.Outcome.the-variants.{Replied, Entered, Refused}
-use Rattle.tag.specs.declared.Reacted.{Reacted}
-use Rattle.tag.specs.declared.Session.{Session}
-use Rattle.tag.specs.declared.Verdict.{Verdict}
-use Rattle.tag.specs.declared.Verdict.the-variants.{Fine, Wrong}
-use Rattle.tag.specs.States.{cleared, entered}
+use Rattle.offer.specs.declared.Fault.{Fault}
+use Rattle.offer.specs.declared.Outcome.the-variants.{Replied, Entered, Refused}
+use Rattle.entry.specs.declared.Reacted.{Reacted}
+use Rattle.entry.specs.declared.Session.{Session}
+use Rattle.offer.specs.declared.Verdict.{Verdict}
+use Rattle.offer.specs.declared.Verdict.the-variants.{Fine, Wrong}
+use Rattle.entry.specs.Sessions.{cleared, entered}
 use Rattle.tag.specs.Answers.{Answer, Call, refused, replied, letIn, ifFine}
 use Rattle.tag.specs.Reactions.{Reacts, ReactsIn}
 

@@ -8,16 +8,17 @@ use Rattle.frames.specs.declared.Kind.{Kind}
 use Rattle.frames.specs.declared.Kind.the-variants.{Tam1, Tam2, Iam1, Iam2, Iam3, Mam1, Mam2, Unsupported}
 use Rattle.frames.specs.Kinds.{kindOf}
 use Rattle.sheet.specs.declared.Setup.{Setup}
-use Rattle.tag.specs.declared.State.{State}
-use Rattle.tag.specs.declared.State.the-variants.{Initial, IamInit, MamInit, IaOk}
-use Rattle.tag.specs.declared.Fault.{Fault}
-use Rattle.tag.specs.declared.Fault.the-variants.{NotSupported}
-use Rattle.tag.specs.declared.Session.{Session}
-use Rattle.tag.specs.declared.Outcome.the-variants.{Refused}
+use Rattle.entry.specs.declared.State.{State}
+use Rattle.entry.specs.declared.State.the-variants.{Initial, IamInit, MamInit, IaOk}
+use Rattle.offer.specs.declared.Fault.{Fault}
+use Rattle.offer.specs.declared.Fault.the-variants.{NotSupported}
+use Rattle.entry.specs.declared.Session.{Session}
+use Rattle.offer.specs.declared.Outcome.the-variants.{Refused}
 use Rattle.tag.specs.declared.Tag.{Tag}
-use Rattle.tag.specs.States.{cleared, entered, poweredUp, atRest, afterIam1, afterMam1, inTurn, tableA1}
+use Rattle.entry.specs.Sessions.{cleared, entered}
+use Rattle.tag.specs.States.{poweredUp, atRest, afterIam1, afterMam1, inTurn, tableA1}
 use Rattle.tag.specs.Runs.{Sent, callOf, tagAfter, run}
-use Rattle.tag.specs.Records.{offered}
+use Rattle.offer.specs.Records.{offered}
 use Rattle.tag.specs.Answers.{Answer, Call, refused, replied, letIn, tam1Answer, tam2Answer, iam1Answer, iam2Answer, iam3Answer, mam1Answer, mam2Answer, byKind, answerOf}
 use Rattle.tag.proofs.Cases.{fine-case, answer-case}
 

@@ -11,21 +11,25 @@ use Rattle.frames.specs.declared.Kind.{Kind}
 use Rattle.frames.specs.declared.Kind.the-variants.{Tam1, Tam2, Iam1, Iam2, Iam3, Mam1, Mam2, Unsupported}
 use Rattle.frames.specs.Kinds.{kindOf}
 use Rattle.frames.specs.Messages.{tam1Of, tam2Of, iam1Of, iam2Of, iam3Of, mam1Of, mam2Of}
-use Rattle.tag.specs.declared.State.the-variants.{IamInit, MamInit}
-use Rattle.tag.specs.declared.Session.{Session}
+use Rattle.entry.specs.declared.State.the-variants.{IamInit, MamInit}
+use Rattle.entry.specs.declared.Session.{Session}
 use Rattle.tag.specs.declared.Tag.{Tag}
-use Rattle.tag.specs.declared.Fault.{Fault}
-use Rattle.tag.specs.declared.Fault.the-variants.{OtherError, NotSupported, OutOfTurn}
-use Rattle.tag.specs.declared.Outcome.{Outcome}
-use Rattle.tag.specs.declared.Outcome.the-variants.{Replied, Entered, Refused}
-use Rattle.tag.specs.declared.Verdict.{Verdict}
-use Rattle.tag.specs.declared.Verdict.the-variants.{Fine, Wrong}
-use Rattle.tag.specs.States.{cleared, entered, inTurn}
-use Rattle.tag.specs.Checks.{judged}
-use Rattle.tag.specs.Records.{offered, keyNamed, blockAsked}
-use Rattle.tag.specs.Replies.{tam1Reply, tam2Reply, mam1Reply}
-use Rattle.tag.specs.Opened.{purposeIn, openedData, wordsIn, sentBlock}
-use Rattle.tag.specs.Judged.{benchChecks, openingChecks, tam2Checks, iam2Checks, iam3Checks, mam2Checks}
+use Rattle.offer.specs.declared.Fault.{Fault}
+use Rattle.offer.specs.declared.Fault.the-variants.{OtherError, NotSupported, OutOfTurn}
+use Rattle.offer.specs.declared.Outcome.{Outcome}
+use Rattle.offer.specs.declared.Outcome.the-variants.{Replied, Entered, Refused}
+use Rattle.offer.specs.declared.Verdict.{Verdict}
+use Rattle.offer.specs.declared.Verdict.the-variants.{Fine, Wrong}
+use Rattle.entry.specs.Sessions.{cleared, entered}
+use Rattle.tag.specs.States.{inTurn}
+use Rattle.offer.specs.Checks.{judged}
+use Rattle.offer.specs.Records.{offered, keyNamed, blockAsked}
+use Rattle.tam.specs.Replies.{tam1Reply, tam2Reply}
+use Rattle.entry.specs.Replies.{mam1Reply}
+use Rattle.entry.specs.Opened.{purposeIn, openedData, wordsIn, sentBlock}
+use Rattle.offer.specs.Judged.{benchChecks, openingChecks}
+use Rattle.tam.specs.Judged.{tam2Checks}
+use Rattle.entry.specs.Judged.{iam2Checks, iam3Checks, mam2Checks}
 
 -- What a call comes to: the outcome, what the tag holds next, the reply's bytes, and both areas.
 pub record Answer : Type 0 where

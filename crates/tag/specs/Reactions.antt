@@ -5,9 +5,9 @@ use Prim.Native.Nat.{ℕ}
 use lib.ListN.{length}
 use Rattle.modes.specs.Room.{over}
 use Rattle.tag.specs.declared.Tag.{Tag}
-use Rattle.tag.specs.declared.Reacted.{Reacted}
+use Rattle.entry.specs.declared.Reacted.{Reacted}
 use Rattle.tag.specs.declared.Stepped.{Stepped}
-use Rattle.tag.specs.States.{numberGiven}
+use Rattle.offer.specs.Outcomes.{numberGiven}
 use Rattle.tag.specs.Answers.{Answer, Call}
 use Rattle.tag.specs.Runs.{tagAfter}
 

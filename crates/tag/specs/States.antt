@@ -6,14 +6,14 @@ use lib.ListN.{replicate}
 use Rattle.sheet.specs.declared.Setup.{Setup}
 use Rattle.frames.specs.declared.Kind.{Kind}
 use Rattle.frames.specs.declared.Kind.the-variants.{Tam1, Tam2, Iam1, Iam2, Iam3, Mam1, Mam2, Unsupported}
-use Rattle.tag.specs.declared.State.{State}
-use Rattle.tag.specs.declared.State.the-variants.{Initial, IamInit, MamInit, IaOk}
-use Rattle.tag.specs.declared.Session.{Session}
+use Rattle.entry.specs.declared.State.{State}
+use Rattle.entry.specs.declared.State.the-variants.{Initial, IamInit, MamInit, IaOk}
+use Rattle.entry.specs.declared.Session.{Session}
 use Rattle.tag.specs.declared.Tag.{Tag}
-use Rattle.tag.specs.declared.Outcome.{Outcome}
-use Rattle.tag.specs.declared.Outcome.the-variants.{Replied, Entered, Refused}
-use Rattle.tag.specs.declared.Fault.{Fault}
-use Rattle.tag.specs.declared.Fault.the-variants.{OtherError, NotSupported, MemoryOverrun, MemoryWriteError, OutOfTurn, ProofWrong, BenchFault}
+use Rattle.offer.specs.declared.Outcome.{Outcome}
+use Rattle.offer.specs.declared.Outcome.the-variants.{Replied, Entered, Refused}
+use Rattle.offer.specs.declared.Fault.{Fault}
+use Rattle.offer.specs.declared.Fault.the-variants.{OtherError, NotSupported, MemoryOverrun, MemoryWriteError, OutOfTurn, ProofWrong, BenchFault}
 
 -- Clause 8: a state in which nothing is held.
 abbrev pub nothingHeld : State → Session

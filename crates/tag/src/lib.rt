@@ -2,8 +2,10 @@
 use sheet::Setup;
 ghost use mathlib.Core.Path.{_≡_};
 ghost use lib.ListN.{length};
-ghost use Rattle.tag.specs.States.{poweredUp, numberOf, numberGiven, replyLength};
-ghost use Rattle.tag.specs.Records.{keyPresent, keyFits};
+ghost use Rattle.tag.specs.States.{poweredUp};
+ghost use Rattle.offer.specs.Outcomes.{numberOf, numberGiven, replyLength};
+ghost use Rattle.offer.specs.Records.{keyPresent};
+ghost use Rattle.tag.specs.States.{keyFits};
 ghost use Rattle.tag.specs.Answers.{answerOf};
 ghost use Rattle.tag.specs.Reactions.{lent, Steps};
 

@@ -45,7 +45,7 @@ use denote.Signature.{plain}
 use Rattle.tag.specs.Answers.{answerOf}
 use Rattle.tag.specs.Reactions.{lent, Steps}
 use Rattle.tag.specs.declared.Tag.{Tag}
-use Rattle.tag.specs.declared.Outcome.{Outcome}
+use Rattle.offer.specs.declared.Outcome.{Outcome}
 use Rattle.bench.specs.Kept.{left}
 use Rattle.tag.proofs.Tag as T
 use Rattle.tag.proofs.Tag.Laws as T′

@@ -1,8 +1,8 @@
 -- `key_held` meets its contract, state by state.
 use mathlib.Core.Path.{sym, ap, _∙_}
 use borrow.Author.Needs.{needs}
-use Rattle.tag.specs.declared.State.{State}
-use Rattle.tag.specs.Records.{keyFits}
+use Rattle.entry.specs.declared.State.{State}
+use Rattle.tag.specs.States.{keyFits}
 use Rattle.tag.proofs.key_held.Statement.{statement}
 use Rattle.tag.proofs.key_held.Tie as tie
 

@@ -1,5 +1,5 @@
 use mathlib.Core.Path.{ap}
-use Rattle.tag.specs.declared.Session.{Session}
+use Rattle.entry.specs.declared.Session.{Session}
 use Rattle.tag.specs.States.{poweredUp}
 use borrow.Author.Needs.{needs}
 use Rattle.tag.proofs.power_up.Statement.{statement}

@@ -1,6 +1,6 @@
 -- `tag::step` meets its contract.
 use mathlib.Core.Path.{sym, _∙_}
-use Rattle.tag.proofs.Passed.{bench-draws, bench-room}
+use Rattle.offer.proofs.Passed.{bench-draws, bench-room}
 use Rattle.tag.proofs.Turning.{bench-wrong, bench-fine}
 use borrow.Author.Needs.{needs}
 use Rattle.tag.proofs.step.Statement.{statement}

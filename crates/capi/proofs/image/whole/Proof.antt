@@ -1,7 +1,7 @@
 -- `image::whole` meets its contract: the three tests, one after the other.
 use borrow.Author.Tests.{le-ltb, lt-ltb}
 use borrow.Author.Needs.{needs}
-use Rattle.tag.proofs.Lines.{yes, no}
+use Rattle.offer.proofs.Lines.{yes, no}
 use Rattle.capi.proofs.image.whole.Statement.{statement}
 use Rattle.capi.proofs.image.whole.Tie as tie
 

@@ -1,6 +1,6 @@
 -- `kept::answer` meets its contract.
 use native.Mathlib.Omega.{arith}
-use Rattle.tag.proofs.Lines.{yes, no}
+use Rattle.offer.proofs.Lines.{yes, no}
 use Rattle.tag.specs.Reactions.{lent}
 use Rattle.capi.proofs.Keeps.{answer-none, answer-some}
 use borrow.Author.Needs.{needs}

@@ -1,5 +1,5 @@
 -- `kept::areas` meets its contract.
-use Rattle.tag.proofs.Lines.{yes, no}
+use Rattle.offer.proofs.Lines.{yes, no}
 use Rattle.capi.proofs.Keeps.{areas-none, areas-some}
 use borrow.Author.Needs.{needs}
 use Rattle.capi.proofs.kept.areas.Statement.{statement}

@@ -1,5 +1,5 @@
 -- `kept::power_up` meets its contract.
-use Rattle.tag.proofs.Lines.{yes, no}
+use Rattle.offer.proofs.Lines.{yes, no}
 use Rattle.capi.proofs.Keeps.{power-none, power-some}
 use borrow.Author.Needs.{needs}
 use Rattle.capi.proofs.kept.power_up.Statement.{statement}

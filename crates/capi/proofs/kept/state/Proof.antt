@@ -1,5 +1,5 @@
 -- `kept::state` meets its contract.
-use Rattle.tag.proofs.Lines.{yes, no}
+use Rattle.offer.proofs.Lines.{yes, no}
 use borrow.Author.Needs.{needs}
 use Rattle.capi.proofs.kept.state.Statement.{statement}
 use Rattle.capi.proofs.kept.state.Tie as tie

@@ -1,0 +1,47 @@
+-- `entry::opened::iam3_proof` meets its contract.
+use Rattle.entry.proofs.Judging.{iam3-tested}
+use borrow.Author.Needs.{needs}
+use Rattle.entry.proofs.opened.iam3_proof.Statement.{statement}
+use Rattle.entry.proofs.opened.iam3_proof.Tie as tie
+
+constant-of-requires : tie.Need-constant-of-requires
+constant-of-requires c κs = search needs
+
+iam-proof-requires : tie.Need-iam-proof-requires
+iam-proof-requires c κs = search needs
+
+mac-fits-requires : tie.Need-mac-fits-requires
+mac-fits-requires c κs = search needs
+
+header-fits-requires : tie.Need-header-fits-requires
+header-fits-requires c κs = search needs
+
+filler-fits-requires : tie.Need-filler-fits-requires
+filler-fits-requires c κs = search needs
+
+both-requires : tie.Need-both-requires
+both-requires c κs = search needs
+
+both-requires-2 : tie.Need-both-requires-2
+both-requires-2 c κs = search needs
+
+both-requires-3 : tie.Need-both-requires-3
+both-requires-3 c κs = search needs
+
+returns : tie.Need-returns
+returns c = let s = c .before .before .before .before .before .before .before .before .before .before .before .pre in let a = c .before .before .before .before .before .before .before .before .before .before .before .args in
+    iam3-tested (a .key) (a .held) (a .f) (a .m .now) (a .b) (a .p .now) _ _ _ _ _ _ _ _ (s .1) (s .2) (c .before .before .before .before .before .before .before .constant-of .ensures) (c .before .before .before .before .before .before .iam-proof .ensures) (c .before .before .before .before .before .mac-fits .ensures) (c .before .before .before .before .header-fits .ensures) (c .before .before .before .filler-fits .ensures) (c .before .before .both .ensures) (c .before .both2 .ensures) (c .both3 .ensures)
+
+pub iam3-proof-spec : {M : Type 1} → statement M
+iam3-proof-spec =
+    tie.close
+    (tie.spec
+    constant-of-requires
+    iam-proof-requires
+    mac-fits-requires
+    header-fits-requires
+    filler-fits-requires
+    both-requires
+    both-requires-2
+    both-requires-3
+    returns)

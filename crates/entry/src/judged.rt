@@ -1,0 +1,90 @@
+// The checks of IAM2, MAM2 and IAM3 in their order, as 9.5, 9.6 and the scope paper have them: the first that does not
+// hold decides.
+use frames::Iam3;
+use frames::Kind;
+use frames::fields::iam3_of;
+use frames::sizes::length_fits;
+use memory::Block;
+use offer::Fault;
+use offer::Verdict;
+use offer::records;
+use sheet::Key;
+use sheet::Setup;
+use sheet::Slot;
+ghost use mathlib.Core.Path.{_≡_};
+ghost use Rattle.offer.specs.Checks.{judged};
+ghost use Rattle.entry.specs.Judged.{closingChecks, iam3BlockChecks, iam3MiddleChecks, iam3FieldChecks};
+
+/// IAM2, MAM2: length, RFU, and the proof, which the caller worked out.
+///
+/// Ruled out: a wrong proof told before an RFU bit; a message of another length let in by its proof.
+pub fn closing(proof: bool, rfu: u8, kind: Kind, m: &[u8]) -> Verdict
+    ensures { λ r. ⌜ r ≡ judged (closingChecks proof rfu kind (now (m .entry))) ⌝ }
+{
+    if !length_fits(kind, m) {
+        return Verdict::Wrong(Fault::OtherError);
+    }
+    if rfu != 0 {
+        return Verdict::Wrong(Fault::NotSupported);
+    }
+    if proof {
+        return Verdict::Fine;
+    }
+    Verdict::Wrong(Fault::ProofWrong)
+}
+
+// IAM3: profile, right, memory, lock. A block size that is not offered counts as memory.
+fn iam3_block(setup: Setup, key: Key, f: Iam3, slot: Slot, block: Block) -> Verdict
+    ensures { λ r. ⌜ r ≡ judged (iam3BlockChecks setup key f slot block) ⌝ }
+{
+    let custom = f.custom;
+    if !slot.present {
+        return Verdict::Wrong(Fault::NotSupported);
+    }
+    if !memory::permits(key.mpi, custom.profile) {
+        return Verdict::Wrong(Fault::NotSupported);
+    }
+    let features = setup.features;
+    let size = custom.blocksize;
+    if !records::size_offered(features, size) {
+        return Verdict::Wrong(Fault::MemoryOverrun);
+    }
+    let profile = slot.profile;
+    if !memory::fits(profile, block) {
+        return Verdict::Wrong(Fault::MemoryOverrun);
+    }
+    let locks = setup.locks.table;
+    if memory::locked(locks, setup.locks.count, block) {
+        return Verdict::Wrong(Fault::MemoryWriteError);
+    }
+    Verdict::Fine
+}
+
+// IAM3, all between the length and the proof: ProtMode, RFU, and the block.
+fn iam3_middle(setup: Setup, key: Key, f: Iam3) -> Verdict
+    ensures { λ r. ⌜ r ≡ judged (iam3MiddleChecks setup key f) ⌝ }
+{
+    let features = setup.features;
+    if !records::mode_supported(features, key, f.protmode) {
+        return Verdict::Wrong(Fault::NotSupported);
+    }
+    if f.rfu != 0 {
+        return Verdict::Wrong(Fault::NotSupported);
+    }
+    let custom = f.custom;
+    let profiles = setup.profiles;
+    let slot = records::slot(profiles, custom.profile);
+    iam3_block(setup, key, f, slot, records::block_asked(slot, custom))
+}
+
+/// IAM3, all but its proof, with the record that is held: length, ProtMode, RFU, profile, right, memory, lock.
+///
+/// Ruled out: a locked word told before a block past its profile; ProtMode 4 refused for its length.
+pub fn iam3_fields(setup: Setup, key: Key, m: &[u8]) -> Verdict
+    ensures { λ r. ⌜ r ≡ judged (iam3FieldChecks setup key (now (m .entry))) ⌝ }
+{
+    if !length_fits(Kind::Iam3, m) {
+        return Verdict::Wrong(Fault::OtherError);
+    }
+    iam3_middle(setup, key, iam3_of(m))
+}

@@ -1,0 +1,7 @@
+pub mod KeySearch
+pub mod Lines
+pub mod Named
+pub mod Passed
+pub mod Bytes
+pub mod PaperNumbers
+pub mod Fits

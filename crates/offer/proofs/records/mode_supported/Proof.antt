@@ -1,0 +1,28 @@
+-- `offer::records::mode_supported` meets its contract.
+use borrow.Author.Tests.{not-true, not-false}
+use mathlib.Core.Path.{sym, _∙_}
+use Rattle.offer.specs.Records.{modeSupported}
+use Rattle.offer.proofs.records.mode_supported.Statement.{statement}
+use Rattle.offer.proofs.records.mode_supported.Tie as tie
+
+mode-offered-requires : tie.Need-mode-offered-requires
+mode-offered-requires c κs = tt
+
+returns : tie.Need-returns
+unfolding modeSupported
+returns c = rw (sym (c .before .mode-offered .ensures) ∙ not-true _ (c .if1 .taken))
+
+has-mac-requires : tie.Need-has-mac-requires
+has-mac-requires c κs = tt
+
+returns-2 : tie.Need-returns-2
+unfolding modeSupported
+returns-2 c = rw (sym (c .before .before .before .mode-offered .ensures) ∙ not-false _ (c .before .before .if1 .left), sym (c .before .has-mac .ensures) ∙ c .if2 .taken)
+
+returns-3 : tie.Need-returns-3
+unfolding modeSupported
+returns-3 c = rw (sym (c .before .before .before .mode-offered .ensures) ∙ not-false _ (c .before .before .if1 .left), sym (c .before .has-mac .ensures) ∙ c .if2 .left)
+
+pub mode-supported-spec : {M : Type 1} → statement M
+mode-supported-spec =
+    tie.close (tie.spec mode-offered-requires returns has-mac-requires returns-2 returns-3)

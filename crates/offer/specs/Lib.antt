@@ -1,0 +1,4 @@
+pub mod Outcomes
+pub mod Checks
+pub mod Records
+pub mod Judged

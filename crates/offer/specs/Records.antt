@@ -1,0 +1,80 @@
+-- What a tag's setup offers: clause 11 and Table 27, 9.2, and the scope paper's feature record.
+use Prim.Native.Nat.{ℕ}
+use mathlib.Core.Bool.{Bool, true, false}
+use mathlib.Core.List.{List, [], _∷_}
+use lib.Dec.{eqb}
+use lib.ListN.{take, getD}
+use Rattle.ground.specs.Choice.{pick, both, either, implies}
+use Rattle.memory.specs.declared.BlockSize.{BlockSize}
+use Rattle.memory.specs.declared.BlockSize.the-variants.{Bits64, Bits16}
+use Rattle.memory.specs.declared.Block.{Block}
+use Rattle.sheet.specs.declared.Features.{Features}
+use Rattle.sheet.specs.declared.Key.{Key}
+use Rattle.sheet.specs.declared.Slot.{Slot}
+use Rattle.sheet.specs.declared.Setup.{Setup}
+use Rattle.sheet.specs.Setups.{noKey, noSlot}
+use Rattle.frames.specs.declared.Kind.{Kind}
+use Rattle.frames.specs.declared.Kind.the-variants.{Tam1, Tam2, Iam1, Iam2, Iam3, Mam1, Mam2, Unsupported}
+use Rattle.frames.specs.declared.Custom.{Custom}
+use Rattle.frames.specs.Asked.{blockAsked as wordsAsked}
+use Rattle.frames.specs.Lengths.{hasMac}
+
+-- The method, the step and the feature are there. TAM is always; IAM, IAM3 and MAM as the sheet says.
+unfoldable pub offered : Features → Kind → Bool
+offered f Tam1 = true
+offered f Tam2 = true
+offered f Iam1 = f .iam
+offered f Iam2 = f .iam
+offered f Iam3 = f .iam3
+offered f Mam1 = f .mam
+offered f Mam2 = f .mam
+offered f Unsupported = false
+
+-- 9.4.5: 64-bit blocks are always supported, 16-bit blocks as the sheet says.
+unfoldable pub sizeOffered : Features → BlockSize → Bool
+sizeOffered f Bits64 = true
+sizeOffered f Bits16 = f .blocksize1
+
+-- TAM2_Rev 1 or 0.
+unfoldable pub revOffered : Features → Bool → Bool
+revOffered f true = f .rev1
+revOffered f false = f .rev0
+
+-- The ProtMode is one of the sheet's.
+unfoldable pub modeOffered : Features → ℕ → Bool
+modeOffered f protmode =
+    pick (eqb protmode 0) (f .mode0)
+    (pick (eqb protmode 1) (f .mode1)
+    (pick (eqb protmode 2) (f .mode2)
+    (pick (eqb protmode 3) (f .mode3) false)))
+
+-- The same, and where it asks for a MAC the record has a key for it (9.2).
+unfoldable pub modeSupported : Features → Key → ℕ → Bool
+modeSupported f key protmode = both (modeOffered f protmode) (implies (hasMac protmode) (key .mac))
+
+-- Table 27: a record has the KeyID; and the record that has it, an empty one where none does.
+unfoldable pub hasKey : ℕ → List Key → Bool
+hasKey keyid [] = false
+hasKey keyid (k ∷ ks) = either (eqb (k .id) keyid) (hasKey keyid ks)
+
+unfoldable pub keyOf : ℕ → List Key → Key
+keyOf keyid [] = noKey
+keyOf keyid (k ∷ ks) = pick (eqb (k .id) keyid) k (keyOf keyid ks)
+
+-- The records in use.
+unfoldable pub keysOf : Setup → List Key
+keysOf setup = take (setup .keys .count) (setup .keys .table)
+
+abbrev pub keyPresent : Setup → ℕ → Bool
+keyPresent setup keyid = hasKey keyid (keysOf setup)
+
+abbrev pub keyNamed : Setup → ℕ → Key
+keyNamed setup keyid = keyOf keyid (keysOf setup)
+
+-- The slot of a profile's number.
+unfoldable pub slotNamed : Setup → ℕ → Slot
+slotNamed setup profile = getD (setup .profiles) profile noSlot
+
+-- 9.2: the words that a message asks for, in the profile of its number.
+unfoldable pub blockAsked : Setup → Custom → Block
+blockAsked setup c = wordsAsked (slotNamed setup (c .profile) .profile) c

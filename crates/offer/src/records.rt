@@ -1,0 +1,196 @@
+// What a setup offers, and the record, the slot and the words that a message names.
+use frames::Custom;
+use frames::Kind;
+use memory::Area;
+use memory::Block;
+use memory::BlockSize;
+use memory::Profile;
+use memory::Word;
+use sheet::Features;
+use sheet::Key;
+use sheet::Keys;
+use sheet::Setup;
+use sheet::Slot;
+ghost use mathlib.Core.Path.{_≡_};
+ghost use mathlib.Core.Bool.{false};
+ghost use lib.ListN.{take, getD};
+ghost use Rattle.frames.specs.Asked.{blockAsked as blockIn};
+ghost use Rattle.sheet.specs.Setups.{noKey, noSlot};
+ghost use Rattle.offer.specs.Records.{offered, sizeOffered, revOffered, modeOffered, modeSupported};
+ghost use Rattle.offer.specs.Records.{hasKey, keyOf, keyPresent, keyNamed, blockAsked};
+
+/// The record of a KeyID: whether there is one, and the record, all zero where there is none.
+pub struct Found {
+    pub present: bool,
+    pub key: Key,
+}
+
+/// Whether the tag has the message's method, step and feature.
+///
+/// Ruled out: IAM3 offered by the bit of IAM1 and IAM2; a message that is none of the seven offered.
+pub fn offered(f: Features, kind: Kind) -> bool
+    ensures { λ r. ⌜ r ≡ offered f kind ⌝ }
+{
+    match kind {
+        Kind::Tam1 => true,
+        Kind::Tam2 => true,
+        Kind::Iam1 => f.iam,
+        Kind::Iam2 => f.iam,
+        Kind::Iam3 => f.iam3,
+        Kind::Mam1 => f.mam,
+        Kind::Mam2 => f.mam,
+        Kind::Unsupported => false,
+    }
+}
+
+/// Whether the tag has blocks of this size (9.4.5).
+///
+/// Ruled out: 64-bit blocks refused; 16-bit blocks taken in every tag.
+pub fn size_offered(f: Features, size: BlockSize) -> bool
+    ensures { λ r. ⌜ r ≡ sizeOffered f size ⌝ }
+{
+    match size {
+        BlockSize::Bits64 => true,
+        BlockSize::Bits16 => f.blocksize1,
+    }
+}
+
+/// Whether the tag has this TAM2_Rev.
+///
+/// Ruled out: the two revisions exchanged; Rev 1 taken in every tag.
+pub fn rev_offered(f: Features, rev: bool) -> bool
+    ensures { λ r. ⌜ r ≡ revOffered f rev ⌝ }
+{
+    if rev {
+        return f.rev1;
+    }
+    f.rev0
+}
+
+// Whether the ProtMode is one of the sheet's.
+fn mode_offered(f: Features, protmode: u8) -> bool
+    ensures { λ r. ⌜ r ≡ modeOffered f protmode ⌝ }
+{
+    if protmode == 0 {
+        return f.mode0;
+    }
+    if protmode == 1 {
+        return f.mode1;
+    }
+    if protmode == 2 {
+        return f.mode2;
+    }
+    if protmode == 3 {
+        return f.mode3;
+    }
+    false
+}
+
+/// Whether the ProtMode is offered, and the record has the key for its MAC (9.2).
+///
+/// Ruled out: ProtMode 3 with a record that has no MAC key; ProtMode 4 taken for 0.
+pub fn mode_supported(f: Features, key: Key, protmode: u8) -> bool
+    ensures { λ r. ⌜ r ≡ modeSupported f key protmode ⌝ }
+{
+    if !mode_offered(f, protmode) {
+        return false;
+    }
+    if payload::has_mac(protmode) {
+        return key.mac;
+    }
+    true
+}
+
+// What is found where no record has the KeyID.
+fn absent() -> Found
+    ensures { λ r. ⌜ (r .present ≡ false) × (r .key ≡ noKey) ⌝ }
+{
+    Found {
+        present: false,
+        key: Key {
+            id: 0,
+            mac: false,
+            mpi: 0,
+            enc: [0u8; 16],
+            mackey: [0u8; 16],
+        },
+    }
+}
+
+// The first record in use that has the KeyID.
+fn look_up(keys: Keys, keyid: u8) -> Found
+    ensures { λ r. ⌜ (r .present ≡ hasKey keyid (take (keys .count) (keys .table)))
+        × (r .key ≡ keyOf keyid (take (keys .count) (keys .table))) ⌝ }
+{
+    let count = keys.count;
+    let table = keys.table;
+    let mut i = 0;
+    while i < 16 {
+        if count <= i {
+            return absent();
+        }
+        let key = table[i];
+        if key.id == keyid {
+            return Found { present: true, key };
+        }
+        i += 1;
+    }
+    absent()
+}
+
+/// The record that a message names, or that the tag holds.
+///
+/// Ruled out: an entry that no record filled, taken for KeyID 0; a last record that is never found.
+pub fn find(setup: Setup, keyid: u8) -> Found
+    ensures { λ r. ⌜ (r .present ≡ keyPresent setup keyid) × (r .key ≡ keyNamed setup keyid) ⌝ }
+{
+    let keys = setup.keys;
+    look_up(keys, keyid)
+}
+
+// The slot that no record filled.
+fn no_slot() -> Slot
+    ensures { λ r. ⌜ r ≡ noSlot ⌝ }
+{
+    Slot {
+        present: false,
+        profile: Profile {
+            area: Area::Identity,
+            base: Word(0),
+            words: 0,
+        },
+    }
+}
+
+/// The slot of a profile's number, an empty one for 16 and more.
+///
+/// Ruled out: a number taken modulo 16; the slot of the next number.
+pub fn slot(profiles: [Slot; 16], profile: u8) -> Slot
+    ensures { λ r. ⌜ r ≡ getD profiles profile noSlot ⌝ }
+{
+    if 16 <= profile {
+        return no_slot();
+    }
+    let i = profile as usize;
+    profiles[i]
+}
+
+/// The words that a message asks for in its slot (9.2).
+///
+/// Ruled out: the words of another slot; BlockCount taken for the number of blocks.
+pub fn block_asked(slot: Slot, custom: Custom) -> Block
+    ensures { λ r. ⌜ r ≡ blockIn (slot .profile) custom ⌝ }
+{
+    let profile = slot.profile;
+    frames::sizes::block_asked(profile, custom)
+}
+
+/// The words that a message asks for in the profile of its number (9.2).
+///
+/// Ruled out: the words of the next profile; an address that starts at the area and not at the profile.
+pub fn words_asked(setup: Setup, custom: Custom) -> Block
+    ensures { λ r. ⌜ r ≡ blockAsked setup custom ⌝ }
+{
+    let profiles = setup.profiles;
+    block_asked(slot(profiles, custom.profile), custom)
+}

@@ -1,0 +1,82 @@
+-- The replies are bytes, where the keys, the draws, the challenge and the words are.
+use mathlib.Core.Path.{_≡_, sym, subst}
+use mathlib.Core.Bool.{Bool, true, false}
+use mathlib.Core.List.{List, [], _∷_, _++_}
+use Prim.Native.Nat.{ℕ, zero, suc, _+_, _-_, _≤_, _<_}
+use native.Mathlib.Omega.{arith}
+use lib.ListN.{length, take, drop, replicate, length-append}
+use lib.Seq.{length-take-le}
+use Rattle.ground.specs.Choice.{pick}
+use Rattle.field.proofs.Block.{Bytes, Block}
+use Rattle.modes.specs.Cbc.{cbcEncAes}
+use Rattle.modes.specs.Cmac.{cmac96}
+use Rattle.modes.proofs.Whole.{bytes-take}
+use Rattle.modes.proofs.Results.{cbc-enc-aes-bytes}
+use Rattle.modes.proofs.MacBytes.{mac-bytes}
+use Rattle.sheet.specs.declared.Key.{Key}
+use Rattle.frames.specs.declared.Tam1.{Tam1}
+use Rattle.frames.specs.declared.Tam2.{Tam2}
+use Rattle.frames.specs.declared.Custom.{Custom}
+use Rattle.frames.specs.Blocks.{headerLength, blocksLength}
+use Rattle.frames.specs.Constants.{C-TAM1, C-TAM2-0, C-TAM2-1, C-TAM2-2, C-TAM2-3, tam2Constant, twoBytes}
+use Rattle.frames.specs.Fields.{customFits}
+use Rattle.frames.specs.Header.{headerStart, headerOf}
+use Rattle.frames.specs.Lengths.{hasMac}
+use Rattle.frames.proofs.Bounds.{by-mode-le}
+use Rattle.frames.proofs.Range.{custom-range, size-bit-lt}
+use Rattle.payload.proofs.Bytes.{joined-bytes}
+use Rattle.payload.specs.Data.{filled, carriedData}
+use Rattle.payload.specs.Protected.{encrypts, withMac}
+use Rattle.offer.proofs.Bytes.{Ten, none-bytes, zeros-bytes, pick-bytes, two-bytes, block-block}
+use Rattle.tam.specs.Replies.{tamBlock, tam1Reply, tam2Body, tam2Reply}
+
+-- ---- constants, header and data
+
+tam2-constant-le : (rev : Bool) (protmode : ℕ) → tam2Constant rev protmode ≤ 0xFFFF
+unfolding tam2Constant
+tam2-constant-le false protmode = omega arith
+tam2-constant-le true protmode = by-mode-le C-TAM2-0 C-TAM2-1 C-TAM2-2 C-TAM2-3 protmode 0xFFFF (omega arith) (omega arith) (omega arith) (omega arith)
+
+pub header-bytes : (c : Custom) → customFits c ≡ true → Bytes (headerOf c)
+unfolding headerOf headerStart
+header-bytes c fit zero =
+    let r = custom-range c fit in
+    let b = size-bit-lt (c .blocksize) in
+    omega arith
+header-bytes c fit (suc zero) = omega arith
+header-bytes c fit (suc (suc zero)) = let r = custom-range c fit in omega arith
+header-bytes c fit (suc (suc (suc i))) = zeros-bytes (headerLength (c .blocksize) - 3) i
+
+pub carried-bytes : (rev : Bool) (c : Custom) (words : List ℕ) → customFits c ≡ true → Bytes words → Bytes (carriedData rev c words)
+unfolding carriedData filled
+carried-bytes rev c words fit h =
+    let s = pick rev (headerOf c) [] ++ words in
+    joined-bytes s (replicate (blocksLength (c .blocksize) rev (c .blockcount) - length s) 0)
+    (joined-bytes (pick rev (headerOf c) []) words (pick-bytes rev (headerOf c) [] (header-bytes c fit) none-bytes) h)
+    (zeros-bytes (blocksLength (c .blocksize) rev (c .blockcount) - length s))
+
+-- ---- the replies
+
+module _ (draws : List ℕ) (d : Ten draws) where
+  pub tam-block-block : (enc ichallenge : List ℕ) (c : ℕ) → Bytes enc → c ≤ 0xFFFF → Ten ichallenge → Block (tamBlock enc (twoBytes c) draws ichallenge)
+  unfolding tamBlock
+  tam-block-block enc ichallenge c k l t =
+      block-block enc (take 4 draws) ichallenge c k l (length-take-le 4 draws (omega (arith, d .ten))) (bytes-take 4 draws (d .bytes)) t
+
+  module _ (key : Key) (enc : Bytes (key .enc)) where
+    pub tam1-bytes : (m : Tam1) → Ten (m .ichallenge) → Bytes (tam1Reply key m draws)
+    unfolding tam1Reply
+    tam1-bytes m t = tam-block-block (key .enc) (m .ichallenge) C-TAM1 enc (omega arith) t .bytes
+
+    pub tam2-bytes : (m : Tam2) (words : List ℕ) → Bytes (key .mackey) → Ten (m .ichallenge) → customFits (m .custom) ≡ true → Bytes words → Bytes (tam2Reply key m words draws)
+    unfolding tam2Reply withMac tam2Body
+    tam2-bytes m words mac t fit h =
+        let a = tamBlock (key .enc) (twoBytes (tam2Constant (m .rev) (m .protmode))) draws (m .ichallenge) in
+        let p = carriedData (m .rev) (m .custom) words in
+        let x = pick (encrypts (m .protmode)) (cbcEncAes a (key .enc) p) p in
+        let ha : Bytes a = tam-block-block (key .enc) (m .ichallenge) (tam2Constant (m .rev) (m .protmode)) enc (tam2-constant-le (m .rev) (m .protmode)) t .bytes in
+        let hp : Bytes p = carried-bytes (m .rev) (m .custom) words fit h in
+        let hs : Bytes (a ++ x) =
+        joined-bytes a x ha (pick-bytes (encrypts (m .protmode)) (cbcEncAes a (key .enc) p) p (cbc-enc-aes-bytes a (key .enc) p ha enc hp) hp) in
+        joined-bytes (a ++ x) (pick (hasMac (m .protmode)) (cmac96 (key .mackey) (a ++ x)) []) hs
+        (pick-bytes (hasMac (m .protmode)) (cmac96 (key .mackey) (a ++ x)) [] (mac-bytes (key .mackey) mac (a ++ x) hs) none-bytes)

@@ -1,0 +1,73 @@
+// The checks of TAM2 in their order, as 9.4.5 and the scope paper have them: the first that does not hold decides.
+use frames::Kind;
+use frames::Tam2;
+use frames::fields::tam2_of;
+use frames::sizes::length_fits;
+use memory::Block;
+use offer::Fault;
+use offer::Verdict;
+use offer::records;
+use sheet::Features;
+use sheet::Key;
+use sheet::Setup;
+use sheet::Slot;
+ghost use mathlib.Core.Path.{_≡_};
+ghost use Rattle.offer.specs.Checks.{judged};
+ghost use Rattle.tam.specs.Judged.{tam2BlockChecks, tam2FieldChecks, tam2Checks};
+
+// TAM2, the end of its line: profile, right, memory, ProtMode.
+fn tam2_block(features: Features, key: Key, f: Tam2, slot: Slot, block: Block) -> Verdict
+    ensures { λ r. ⌜ r ≡ judged (tam2BlockChecks features key f slot block) ⌝ }
+{
+    if !slot.present {
+        return Verdict::Wrong(Fault::NotSupported);
+    }
+    if !memory::permits(key.mpi, f.custom.profile) {
+        return Verdict::Wrong(Fault::NotSupported);
+    }
+    let profile = slot.profile;
+    if !memory::fits(profile, block) {
+        return Verdict::Wrong(Fault::MemoryOverrun);
+    }
+    if records::mode_supported(features, key, f.protmode) {
+        return Verdict::Fine;
+    }
+    Verdict::Wrong(Fault::NotSupported)
+}
+
+// TAM2, all but the length: BlockSize, Rev, RFU, key, and the block.
+fn tam2_fields(setup: Setup, f: Tam2) -> Verdict
+    ensures { λ r. ⌜ r ≡ judged (tam2FieldChecks setup f) ⌝ }
+{
+    let custom = f.custom;
+    let size = custom.blocksize;
+    let features = setup.features;
+    if !records::size_offered(features, size) {
+        return Verdict::Wrong(Fault::NotSupported);
+    }
+    if !records::rev_offered(features, f.rev) {
+        return Verdict::Wrong(Fault::NotSupported);
+    }
+    if f.rfu != 0 {
+        return Verdict::Wrong(Fault::NotSupported);
+    }
+    let found = records::find(setup, f.keyid);
+    if !found.present {
+        return Verdict::Wrong(Fault::NotSupported);
+    }
+    let key = found.key;
+    let profiles = setup.profiles;
+    let slot = records::slot(profiles, custom.profile);
+    tam2_block(features, key, f, slot, records::block_asked(slot, custom))
+}
+
+// TAM2: length, BlockSize, Rev, RFU, key, profile, right, memory, ProtMode.
+// Ruled out: a ProtMode told before a block past its profile; a record that may not use the profile.
+pub fn tam2(setup: Setup, m: &[u8]) -> Verdict
+    ensures { λ r. ⌜ r ≡ judged (tam2Checks setup (now (m .entry))) ⌝ }
+{
+    if !length_fits(Kind::Tam2, m) {
+        return Verdict::Wrong(Fault::OtherError);
+    }
+    tam2_fields(setup, tam2_of(m))
+}

@@ -1,0 +1,85 @@
+// TAM: checks and replies of TAM1 and TAM2 (9.4), for any message. A tag that offers nothing else needs no more than this.
+use frames::Kind;
+use frames::fields::tam1_of;
+use frames::fields::tam2_of;
+use offer::Fault;
+use offer::Outcome;
+use offer::Verdict;
+use offer::records;
+use sheet::Setup;
+ghost use mathlib.Core.Path.{_≡_};
+ghost use lib.ListN.{replicate};
+ghost use Rattle.frames.specs.Lengths.{replyRoom};
+ghost use Rattle.tam.specs.Given.{Gives, tam1Verdict, tam1Sent, tam2Verdict, tam2Sent};
+
+mod judged; // judged.rt: the checks of TAM2, in their order
+mod replies; // replies.rt: what the tag sends
+
+/// What a TAM message comes to: the outcome, and the reply, as many bytes as the outcome says with zeros behind them.
+pub struct Given {
+    pub outcome: Outcome,
+    pub reply: [u8; 172],
+}
+
+// A refusal sends nothing.
+fn refused(fault: Fault) -> Given
+    ensures { λ r. ⌜ (r .outcome ≡ Outcome.Refused fault) × (r .reply ≡ replicate replyRoom 0) ⌝ }
+{
+    Given {
+        outcome: Outcome::Refused(fault),
+        reply: [0u8; 172],
+    }
+}
+
+/// TAM1 (9.4.2, 9.4.3).
+///
+/// Ruled out: one fixed reply; a reply of another length.
+pub fn tam1(setup: Setup, message: &[u8], draws: [u8; 10]) -> Given
+    ensures { λ r. ⌜ Gives (tam1Verdict setup (now (message .entry)))
+        (tam1Sent setup (now (message .entry)) draws) r ⌝ }
+{
+    let f = tam1_of(message);
+    let verdict = offer::judged::opening(setup, Kind::Tam1, f.rfu, f.keyid, message);
+    if let Verdict::Wrong(fault) = verdict {
+        return refused(fault);
+    }
+    let found = records::find(setup, f.keyid);
+    let key = found.key;
+    let block = replies::tam1_reply(key, f, draws);
+    let mut reply = [0u8; 172];
+    bytes::copy(&block, &mut reply);
+    Given {
+        outcome: Outcome::Replied(16),
+        reply,
+    }
+}
+
+/// TAM2 (9.4.5, 9.4.6).
+///
+/// Ruled out: words of the other area; a made-up length.
+pub fn tam2<'a>(
+    setup: Setup,
+    message: &[u8],
+    draws: [u8; 10],
+    identity: &'a [u8],
+    user: &'a [u8],
+) -> Given
+    ensures { λ r. ⌜ Gives (tam2Verdict setup (now (message .entry)))
+        (tam2Sent setup (now (message .entry)) draws (now (identity .entry)) (now (user .entry))) r ⌝ }
+{
+    let verdict = judged::tam2(setup, message);
+    if let Verdict::Wrong(fault) = verdict {
+        return refused(fault);
+    }
+    let f = tam2_of(message);
+    let found = records::find(setup, f.keyid);
+    let key = found.key;
+    let custom = f.custom;
+    let words = memory::window(identity, user, records::words_asked(setup, custom));
+    let mut reply = [0u8; 172];
+    let n = replies::tam2_reply(key, f, words, draws, &mut reply);
+    Given {
+        outcome: Outcome::Replied(n),
+        reply,
+    }
+}
