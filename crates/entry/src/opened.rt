@@ -1,19 +1,21 @@
 // What the tag judges of what the reader sent (9.5.5, 9.5.8, 9.6.5), and the words that an IAM3 writes.
-use super::Fault;
-use super::Outcome;
+use super::Reacted;
 use super::Session;
+use super::let_in;
+use super::refused;
 use frames::Custom;
 use frames::Iam3;
 use frames::constants::iam3_constant;
 use frames::sizes::blocks_length;
 use memory::Area;
 use memory::Block;
+use offer::Fault;
 use sheet::Key;
 ghost use mathlib.Core.Path.{_≡_};
 ghost use mathlib.Core.Bool.{true};
 ghost use Prim.Native.Nat.{_+_, _*_, _/_, _%_, _≤_};
 ghost use lib.ListN.{length};
-ghost use Rattle.ground.specs.Choice.{pick, both};
+ghost use Rattle.ground.specs.Choice.{both};
 ghost use Rattle.aes.specs.AesEnc.{aesEnc};
 ghost use Rattle.modes.specs.Room.{over};
 ghost use Rattle.frames.specs.Blocks.{blocksLength};
@@ -21,7 +23,9 @@ ghost use Rattle.frames.specs.Constants.{iam3Constant};
 ghost use Rattle.frames.specs.Lengths.{iam3HeadLength};
 ghost use Rattle.frames.specs.Messages.{iam3Of};
 ghost use Rattle.memory.specs.Areas.{storedIn};
-ghost use Rattle.entry.specs.Opened.{iamProof, mamProof, purposeIn, purposeAllowed, sentBlock, openedData, sentMacFits, wordsIn, iam3Proof};
+ghost use Rattle.entry.specs.Opened.{iamProof, mamProof, iam3Proof, purposeIn, purposeAllowed, sentBlock};
+ghost use Rattle.entry.specs.Opened.{openedData, sentMacFits, wordsIn};
+ghost use Rattle.entry.specs.Decided.{ProofDecides};
 
 // The twelve bits that two bytes start with.
 fn constant_in(x: u8, y: u8) -> u16
@@ -54,7 +58,8 @@ fn both(a: bool, b: bool) -> bool
     false
 }
 
-// The proof of IAM2, and of IAM3's first block: the constant, the Purpose, and the challenge that the tag issued (9.5.5, 9.5.8).
+// The proof of IAM2, and of IAM3's first block: the constant, the Purpose, and the challenge that the tag issued
+// (9.5.5, 9.5.8).
 // Ruled out: a constant that is not looked at, and a challenge of which only the first bytes count.
 pub fn iam_proof(constant: u16, held: Session, b: [u8; 16]) -> bool
     ensures { λ r. ⌜ r ≡ iamProof constant held b ⌝ }
@@ -97,7 +102,8 @@ fn first_opened(key: Key, m: &[u8]) -> [u8; 16]
 // Header, data and filler of an IAM3 in the clear, over the first bytes of `out` (9.5.8.2 to 9.5.8.5).
 // Ruled out: the chain started at another block than A, and data that are opened in ProtMode 2.
 fn open_data(key: Key, f: Iam3, m: &[u8], out: &mut [u8])
-    requires { ⌜ (iam3HeadLength + blocksLength (f .custom .blocksize) true (f .custom .blockcount) ≤ length (now m)) × (blocksLength (f .custom .blocksize) true (f .custom .blockcount) ≤ length (now out)) ⌝ }
+    requires { ⌜ (iam3HeadLength + blocksLength (f .custom .blocksize) true (f .custom .blockcount) ≤ length (now m))
+        × (blocksLength (f .custom .blocksize) true (f .custom .blockcount) ≤ length (now out)) ⌝ }
     ensures { λ _. ⌜ now (out .exit) ≡ over (openedData key f (now (m .entry))) (now (out .entry)) ⌝ }
 {
     let custom = f.custom;
@@ -134,7 +140,8 @@ fn write(block: Block, c: Custom, p: &[u8], identity: &mut [u8], user: &mut [u8]
     memory::store(identity, user, block, payload::words_in(true, c, p));
 }
 
-// Everything of an IAM3 that a key proves, after its fields were judged: b is its first block opened, p its data in the clear.
+// Everything of an IAM3 that a key proves, after its fields were judged: b is its first block opened, p its data in the
+// clear.
 // Ruled out: a MAC that is not asked for in ProtModes 2 and 3, and a header that may name other words than the message.
 fn iam3_proof(key: Key, held: Session, f: Iam3, m: &[u8], b: [u8; 16], p: &[u8]) -> bool
     requires { ⌜ (iam3HeadLength + blocksLength (f .custom .blocksize) true (f .custom .blockcount) ≤ length (now m))
@@ -150,7 +157,8 @@ fn iam3_proof(key: Key, held: Session, f: Iam3, m: &[u8], b: [u8; 16], p: &[u8])
     both(first, both(mac, both(header, filler)))
 }
 
-// An IAM3 whose fields f were judged (9.5.8, 9.5.9): where the proof holds, the words are written and the reader is let in.
+// An IAM3 whose fields f were judged (9.5.8, 9.5.9): where the proof holds, the words are written and the reader is let
+// in.
 // Ruled out: words written before the MAC is judged, and a Purpose taken from another block.
 pub fn iam3(
     key: Key,
@@ -160,11 +168,11 @@ pub fn iam3(
     m: &[u8],
     identity: &mut [u8],
     user: &mut [u8],
-) -> Outcome
-    requires { ⌜ (f ≡ iam3Of (now m)) × (iam3HeadLength + blocksLength (f .custom .blocksize) true (f .custom .blockcount) ≤ length (now m)) ⌝ }
-    ensures { λ r. ⌜ (r ≡ pick (iam3Proof key held f (now (m .entry))) (Outcome.Entered (purposeIn (aesEnc (key .enc) (sentBlock (now (m .entry)))))) (Outcome.Refused Fault.ProofWrong))
-        × (now (identity .exit) ≡ pick (iam3Proof key held f (now (m .entry))) (storedIn Area.Identity block (wordsIn (f .custom) (openedData key f (now (m .entry)))) (now (identity .entry))) (now (identity .entry)))
-        × (now (user .exit) ≡ pick (iam3Proof key held f (now (m .entry))) (storedIn Area.User block (wordsIn (f .custom) (openedData key f (now (m .entry)))) (now (user .entry))) (now (user .entry))) ⌝ }
+) -> Reacted
+    requires { ⌜ (f ≡ iam3Of (now m))
+        × (iam3HeadLength + blocksLength (f .custom .blocksize) true (f .custom .blockcount) ≤ length (now m)) ⌝ }
+    ensures { λ r. ⌜ ProofDecides key held f block (now (m .entry)) (now (identity .entry)) (now (user .entry)) r
+        (now (identity .exit)) (now (user .exit)) ⌝ }
 {
     let b = first_opened(key, m);
     let mut room = [0u8; 144];
@@ -173,8 +181,8 @@ pub fn iam3(
     let size = custom.blocksize;
     let n = blocks_length(size, true, custom.blockcount);
     if !iam3_proof(key, held, f, m, b, &room[..n]) {
-        return Outcome::Refused(Fault::ProofWrong);
+        return refused(Fault::ProofWrong);
     }
     write(block, custom, &room[..n], identity, user);
-    Outcome::Entered(purpose(b))
+    let_in(purpose(b))
 }

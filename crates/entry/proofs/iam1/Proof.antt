@@ -1,6 +1,6 @@
 -- `entry::iam1` meets its contract.
 use Rattle.field.proofs.Arrays.{array-length}
-use Rattle.tam.proofs.Openings.{iam1-wrong, iam1-fine}
+use Rattle.entry.proofs.Challenging.{iam1-wrong, iam1-fine}
 use borrow.Author.Needs.{needs}
 use Rattle.entry.proofs.iam1.Statement.{statement}
 use Rattle.entry.proofs.iam1.Tie as tie
@@ -14,11 +14,18 @@ opening-requires c κs = search needs
 enum-known-verdict : tie.Need-enum-known-verdict
 enum-known-verdict c = search needs
 
-refused-requires : tie.Need-refused-requires
-refused-requires c κs = search needs
+unchallenged-requires : tie.Need-unchallenged-requires
+unchallenged-requires c κs = search needs
 
 returns : tie.Need-returns
-returns c = let a = c .before .before .before .before .before .before .before .before .args in λ i u. iam1-wrong (a .setup) (a .m .now) (a .t3) (a .room .now) _ i u _ (c .before .before .before .before .before .iam1-of .ensures) (c .before .before .before .before .opening .ensures) _ _ (c .before .before .verdict .given .1) (c .refused .ensures)
+returns c =
+    let c2 = c .before .before in
+    let c4 = c2 .before .before in
+    let c5 = c4 .before in
+    let c7 = c5 .before .before in
+    let a = c7 .args in
+    iam1-wrong (a .setup) (a .message .now) (a .t3) _ _ (c5 .iam1-of .ensures) (c4 .opening .ensures) _ _
+    (c2 .verdict .given .1) (c .unchallenged .ensures)
 
 enum-told : tie.Need-enum-told
 enum-told c = search needs
@@ -26,15 +33,22 @@ enum-told c = search needs
 slice-aggregate-copy : tie.Need-slice-aggregate-copy
 slice-aggregate-copy c = search needs
 
+slice-aggregate-copy-2 : tie.Need-slice-aggregate-copy-2
+slice-aggregate-copy-2 c = search needs
+
 copy-requires : tie.Need-copy-requires
 copy-requires c κs = search needs
 
-same-length : tie.Need-same-length
-same-length c = search needs
-
 returns-2 : tie.Need-returns-2
-returns-2 c = let a = c .before .before .before .before .before .before .before .before .before .before .before .args in λ i u.
-    iam1-fine (a .setup) (a .m .now) (a .t3) (a .room .now) _ i u _ (c .before .before .before .before .before .before .before .before .iam1-of .ensures) (c .before .before .before .before .before .before .before .opening .ensures) _ (array-length 10 (a .t3) _ (c .before .before .before .before .before .before .before .before .before .before .before .good .1 .1 .0)) (c .before .before .before .before .before .enum-told .given .1) (c .before .before .copy .ensures .1)
+returns-2 c =
+    let c1 = c .before in
+    let c4 = c1 .before .before .before in
+    let c6 = c4 .before .before in
+    let c7 = c6 .before in
+    let c9 = c7 .before .before in
+    let a = c9 .args in
+    iam1-fine (a .setup) (a .message .now) (a .t3) _ _ (c7 .iam1-of .ensures) (c6 .opening .ensures) _
+    (array-length 10 (a .t3) _ (c9 .good .1 .1 .0)) (c4 .enum-told .given .1) (c1 .copy .ensures .1)
 
 pub iam1-spec : {M : Type 1} → statement M
 iam1-spec =
@@ -43,10 +57,10 @@ iam1-spec =
     iam1-of-requires
     opening-requires
     enum-known-verdict
-    refused-requires
+    unchallenged-requires
     returns
     enum-told
     slice-aggregate-copy
+    slice-aggregate-copy-2
     copy-requires
-    same-length
     returns-2)

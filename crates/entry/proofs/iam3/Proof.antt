@@ -1,11 +1,11 @@
 -- `entry::iam3` meets its contract.
-use Rattle.entry.proofs.Closings.{iam3-refused, iam3-whole, iam3-settled}
+use Rattle.entry.proofs.Giving.{iam3-refused, iam3-whole, iam3-settled}
 use borrow.Author.Needs.{needs}
 use Rattle.entry.proofs.iam3.Statement.{statement}
 use Rattle.entry.proofs.iam3.Tie as tie
 
-key-named-requires : tie.Need-key-named-requires
-key-named-requires c κs = search needs
+find-requires : tie.Need-find-requires
+find-requires c κs = search needs
 
 iam3-fields-requires : tie.Need-iam3-fields-requires
 iam3-fields-requires c κs = search needs
@@ -17,7 +17,14 @@ refused-requires : tie.Need-refused-requires
 refused-requires c κs = search needs
 
 returns : tie.Need-returns
-returns c = let a = c .before .before .before .before .before .before .before .before .before .args in λ d room. iam3-refused (a .setup) (a .held) (a .m .now) _ (c .before .before .before .before .before .key-named .ensures) _ (c .before .before .before .before .iam3-fields .ensures) d room (a .identity .now) (a .user .now) _ _ (c .before .before .verdict .given .1) (c .refused .ensures)
+returns c =
+    let c2 = c .before .before in
+    let c4 = c2 .before .before in
+    let c6 = c4 .before .before in
+    let c10 = c6 .before .before .before .before in
+    let a = c10 .args in
+    iam3-refused (a .setup) (a .held) (a .message .now) _ (c6 .find .ensures .1) _ (c4 .iam3-fields .ensures)
+    (a .identity .now) (a .user .now) _ _ (c2 .verdict .given .1) (c .refused .ensures)
 
 enum-told : tie.Need-enum-told
 enum-told c = search needs
@@ -29,10 +36,15 @@ words-asked-requires : tie.Need-words-asked-requires
 words-asked-requires c κs = search needs
 
 iam3-requires : tie.Need-iam3-requires
-iam3-requires c κs = let a = c .before .before .before .before .before .before .before .before .before .before .before .before .args in (c .before .before .before .before .iam3-of .ensures, iam3-whole (a .setup) _ (a .m .now) _ _ (c .before .before .before .before .before .before .before .iam3-fields .ensures) (c .before .before .before .before .before .enum-told .given .1) (c .before .before .before .before .iam3-of .ensures))
-
-held-after-requires : tie.Need-held-after-requires
-held-after-requires c κs = search needs
+iam3-requires c κs =
+    let c4 = c .before .before .before .before in
+    let c5 = c4 .before in
+    let c7 = c5 .before .before in
+    let c13 = c7 .before .before .before .before .before .before in
+    let a = c13 .args in
+    let fine = c5 .enum-told .given .1 in
+    let fields = c4 .iam3-of .ensures in
+    (fields, iam3-whole (a .setup) _ (a .message .now) _ _ (c7 .iam3-fields .ensures) fine fields)
 
 same-length : tie.Need-same-length
 same-length c = search needs
@@ -41,14 +53,24 @@ same-length-2 : tie.Need-same-length-2
 same-length-2 c = search needs
 
 returns-2 : tie.Need-returns-2
-returns-2 c = let a = c .before .before .before .before .before .before .before .before .before .before .before .before .before .before .before .before .before .before .args in λ d room.
-    iam3-settled (a .setup) (a .held) (a .m .now) _ (c .before .before .before .before .before .before .before .before .before .before .before .before .before .before .key-named .ensures) _ (c .before .before .before .before .before .before .before .before .before .before .before .before .before .iam3-fields .ensures) d room (a .identity .now) (a .user .now) _ (c .before .before .before .before .before .before .before .before .before .before .iam3-of .ensures) _ (c .before .before .before .before .before .before .before .before .words-asked .ensures) _ _ _ _ (c .before .before .before .before .before .before .before .before .before .before .before .enum-told .given .1) (c .before .before .before .before .before .iam3 .ensures) (c .held-after .ensures)
+returns-2 c =
+    let c4 = c .before .before .before .before in
+    let c7 = c4 .before .before .before in
+    let c9 = c7 .before .before in
+    let c10 = c9 .before in
+    let c12 = c10 .before .before in
+    let c14 = c12 .before .before in
+    let c18 = c14 .before .before .before .before in
+    let a = c18 .args in
+    iam3-settled (a .setup) (a .held) (a .message .now) _ (c14 .find .ensures .1) _ (c12 .iam3-fields .ensures)
+    (a .identity .now) (a .user .now) _ (c9 .iam3-of .ensures) _ (c7 .words-asked .ensures) _ _ _
+    (c10 .enum-told .given .1) (c4 .iam3 .ensures)
 
 pub iam3-spec : {M : Type 1} → statement M
 iam3-spec =
     tie.close
     (tie.spec
-    key-named-requires
+    find-requires
     iam3-fields-requires
     enum-known-verdict
     refused-requires
@@ -57,7 +79,6 @@ iam3-spec =
     iam3-of-requires
     words-asked-requires
     iam3-requires
-    held-after-requires
     same-length
     same-length-2
     returns-2)

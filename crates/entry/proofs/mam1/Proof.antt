@@ -1,6 +1,6 @@
 -- `entry::mam1` meets its contract.
 use Rattle.field.proofs.Arrays.{array-length}
-use Rattle.tam.proofs.Openings.{mam1-wrong, mam1-fine}
+use Rattle.entry.proofs.Challenging.{mam1-wrong, mam1-fine}
 use borrow.Author.Needs.{needs}
 use Rattle.entry.proofs.mam1.Statement.{statement}
 use Rattle.entry.proofs.mam1.Tie as tie
@@ -14,26 +14,33 @@ opening-requires c κs = search needs
 enum-known-verdict : tie.Need-enum-known-verdict
 enum-known-verdict c = search needs
 
-refused-requires : tie.Need-refused-requires
-refused-requires c κs = search needs
+unchallenged-requires : tie.Need-unchallenged-requires
+unchallenged-requires c κs = search needs
 
 returns : tie.Need-returns
-returns c = let a = c .before .before .before .before .before .before .before .before .args in λ i u. mam1-wrong (a .setup) (a .m .now) (a .draws) (a .room .now) _ i u _ (c .before .before .before .before .before .mam1-of .ensures) (c .before .before .before .before .opening .ensures) _ _ (c .before .before .verdict .given .1) (c .refused .ensures)
+returns c =
+    let c2 = c .before .before in
+    let c4 = c2 .before .before in
+    let c5 = c4 .before in
+    let c7 = c5 .before .before in
+    let a = c7 .args in
+    mam1-wrong (a .setup) (a .message .now) (a .draws) _ _ (c5 .mam1-of .ensures) (c4 .opening .ensures) _ _
+    (c2 .verdict .given .1) (c .unchallenged .ensures)
 
 enum-told : tie.Need-enum-told
 enum-told c = search needs
 
-key-named-requires : tie.Need-key-named-requires
-key-named-requires c κs = search needs
+find-requires : tie.Need-find-requires
+find-requires c κs = search needs
 
 mam1-reply-requires : tie.Need-mam1-reply-requires
 mam1-reply-requires c κs = search needs
 
-slice-aggregate-copy : tie.Need-slice-aggregate-copy
-slice-aggregate-copy c = search needs
+array-read-t16 : tie.Need-array-read-t16
+array-read-t16 c = search needs
 
-copy-requires : tie.Need-copy-requires
-copy-requires c κs = search needs
+array-read-t19 : tie.Need-array-read-t19
+array-read-t19 c = search needs
 
 array-read-t22 : tie.Need-array-read-t22
 array-read-t22 c = search needs
@@ -41,18 +48,18 @@ array-read-t22 c = search needs
 array-read-t25 : tie.Need-array-read-t25
 array-read-t25 c = search needs
 
-array-read-t28 : tie.Need-array-read-t28
-array-read-t28 c = search needs
-
-array-read-t31 : tie.Need-array-read-t31
-array-read-t31 c = search needs
-
-same-length : tie.Need-same-length
-same-length c = search needs
-
 returns-2 : tie.Need-returns-2
-returns-2 c = let a = c .before .before .before .before .before .before .before .before .before .before .before .before .before .before .args in λ i u.
-    mam1-fine (a .setup) (a .m .now) (a .draws) (a .room .now) _ i u _ (c .before .before .before .before .before .before .before .before .before .before .before .mam1-of .ensures) (c .before .before .before .before .before .before .before .before .before .before .opening .ensures) _ _ _ (array-length 10 (a .draws) _ (c .before .before .before .before .before .before .before .before .before .before .before .before .before .before .good .1 .1 .0)) (c .before .before .before .before .before .before .before .before .enum-told .given .1) (c .before .before .before .before .before .before .before .key-named .ensures) (c .before .before .before .before .before .before .mam1-reply .ensures) (c .before .before .before .copy .ensures .1)
+returns-2 c =
+    let c1 = c .before in
+    let c3 = c1 .before .before in
+    let c4 = c3 .before in
+    let c6 = c4 .before .before in
+    let c7 = c6 .before in
+    let c9 = c7 .before .before in
+    let a = c9 .args in
+    mam1-fine (a .setup) (a .message .now) (a .draws) _ _ (c7 .mam1-of .ensures) (c6 .opening .ensures) _ _
+    (array-length 10 (a .draws) _ (c9 .good .1 .1 .0)) (c4 .enum-told .given .1) (c3 .find .ensures .1)
+    (c1 .mam1-reply .ensures)
 
 pub mam1-spec : {M : Type 1} → statement M
 mam1-spec =
@@ -61,16 +68,13 @@ mam1-spec =
     mam1-of-requires
     opening-requires
     enum-known-verdict
-    refused-requires
+    unchallenged-requires
     returns
     enum-told
-    key-named-requires
+    find-requires
     mam1-reply-requires
-    slice-aggregate-copy
-    copy-requires
+    array-read-t16
+    array-read-t19
     array-read-t22
     array-read-t25
-    array-read-t28
-    array-read-t31
-    same-length
     returns-2)

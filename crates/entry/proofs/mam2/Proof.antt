@@ -1,5 +1,5 @@
 -- `entry::mam2` meets its contract.
-use Rattle.entry.proofs.Closings.{mam2-wrong, mam2-fine}
+use Rattle.entry.proofs.Giving.{mam2-wrong, mam2-fine}
 use borrow.Author.Needs.{needs}
 use Rattle.entry.proofs.mam2.Statement.{statement}
 use Rattle.entry.proofs.mam2.Tie as tie
@@ -7,8 +7,8 @@ use Rattle.entry.proofs.mam2.Tie as tie
 mam2-of-requires : tie.Need-mam2-of-requires
 mam2-of-requires c κs = search needs
 
-key-named-requires : tie.Need-key-named-requires
-key-named-requires c κs = search needs
+find-requires : tie.Need-find-requires
+find-requires c κs = search needs
 
 encrypt-requires : tie.Need-encrypt-requires
 encrypt-requires c κs = search needs
@@ -26,7 +26,17 @@ refused-requires : tie.Need-refused-requires
 refused-requires c κs = search needs
 
 returns : tie.Need-returns
-returns c = let a = c .before .before .before .before .before .before .before .before .before .before .before .before .args in λ d room i u. mam2-wrong (a .setup) (a .held) (a .m .now) _ (c .before .before .before .before .before .before .before .before .before .key-named .ensures) _ _ _ d room i u _ (c .before .before .before .before .before .before .before .before .before .before .mam2-of .ensures) (c .before .before .before .before .before .before .encrypt .ensures) (c .before .before .before .before .before .mam-proof .ensures) (c .before .before .before .before .closing .ensures) _ _ (c .before .before .verdict .given .1) (c .refused .ensures)
+returns c =
+    let c2 = c .before .before in
+    let c4 = c2 .before .before in
+    let c5 = c4 .before in
+    let c6 = c5 .before in
+    let c10 = c6 .before .before .before .before in
+    let c11 = c10 .before in
+    let c13 = c11 .before .before in
+    let a = c13 .args in
+    mam2-wrong (a .setup) (a .held) (a .message .now) _ (c10 .find .ensures .1) _ _ _ _ (c11 .mam2-of .ensures)
+    (c6 .encrypt .ensures) (c5 .mam-proof .ensures) (c4 .closing .ensures) _ _ (c2 .verdict .given .1) (c .refused .ensures)
 
 enum-told : tie.Need-enum-told
 enum-told c = search needs
@@ -38,14 +48,26 @@ let-in-requires : tie.Need-let-in-requires
 let-in-requires c κs = search needs
 
 returns-2 : tie.Need-returns-2
-returns-2 c = let a = c .before .before .before .before .before .before .before .before .before .before .before .before .args in λ d room i u. mam2-fine (a .setup) (a .held) (a .m .now) _ (c .before .before .before .before .before .before .before .before .before .key-named .ensures) _ _ _ d room i u _ (c .before .before .before .before .before .before .before .before .before .before .mam2-of .ensures) (c .before .before .before .before .before .before .encrypt .ensures) (c .before .before .before .before .before .mam-proof .ensures) (c .before .before .before .before .closing .ensures) _ _ (c .before .before .enum-told .given .1) (c .before .purpose .ensures) (c .let-in .ensures)
+returns-2 c =
+    let c1 = c .before in
+    let c2 = c1 .before in
+    let c4 = c2 .before .before in
+    let c5 = c4 .before in
+    let c6 = c5 .before in
+    let c10 = c6 .before .before .before .before in
+    let c11 = c10 .before in
+    let c13 = c11 .before .before in
+    let a = c13 .args in
+    mam2-fine (a .setup) (a .held) (a .message .now) _ (c10 .find .ensures .1) _ _ _ _ (c11 .mam2-of .ensures)
+    (c6 .encrypt .ensures) (c5 .mam-proof .ensures) (c4 .closing .ensures) _ _ (c2 .enum-told .given .1)
+    (c1 .purpose .ensures) (c .let-in .ensures)
 
 pub mam2-spec : {M : Type 1} → statement M
 mam2-spec =
     tie.close
     (tie.spec
     mam2-of-requires
-    key-named-requires
+    find-requires
     encrypt-requires
     mam-proof-requires
     closing-requires

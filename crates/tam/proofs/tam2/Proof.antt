@@ -57,9 +57,9 @@ tam2-reply-requires c κs =
     let a = c13 .args in
     let f = c6 .tam2-of .result in
     let fit = tam2-custom-fits (a .message .now) (λ i. c12 .shared-slice-known .given i .fits) in (
-    ap (λ (g : Tam2). customFits (g .custom)) (c6 .tam2-of .ensures) ∙ fit,
-    words-fit (a .setup) (f .custom) (a .identity .now) (a .user .now) (c2 .words-asked .ensures) (c1 .window .ensures),
-    omega (arith, length-replicate {A = ℕ} 172 0),
+      ap (λ (g : Tam2). customFits (g .custom)) (c6 .tam2-of .ensures) ∙ fit,
+      words-fit (a .setup) (f .custom) (a .identity .now) (a .user .now) (c2 .words-asked .ensures) (c1 .window .ensures),
+      omega (arith, length-replicate {A = ℕ} 172 0),
     )
 
 returns-2 : tie.Need-returns-2

@@ -3,19 +3,16 @@ use mathlib.Core.Path.{ap}
 use mathlib.Core.Bool.{not}
 use borrow.Author.Tests.{not-true, not-false}
 use Rattle.offer.proofs.Lines.{said, yes, no, neither, second, passes, fails, ends}
-use Rattle.entry.specs.Judged.{iam3BlockChecks}
 use Rattle.entry.proofs.judged.iam3_block.Statement.{statement}
 use Rattle.entry.proofs.judged.iam3_block.Tie as tie
 
 returns : tie.Need-returns
-unfolding iam3BlockChecks
 returns c = fails _ _ (not-true _ (c .if1 .taken))
 
 permits-requires : tie.Need-permits-requires
 permits-requires c κs = tt
 
 returns-2 : tie.Need-returns-2
-unfolding iam3BlockChecks
 returns-2 c =
     passes _ _ (not-false _ (c .before .before .if1 .left))
     (fails _ _ (no (c .before .permits .ensures) (c .if2 .taken)))
@@ -24,7 +21,6 @@ size-offered-requires : tie.Need-size-offered-requires
 size-offered-requires c κs = tt
 
 returns-3 : tie.Need-returns-3
-unfolding iam3BlockChecks
 returns-3 c =
     passes _ _ (not-false _ (c .before .before .before .before .before .if1 .left))
     (passes _ _ (yes (c .before .before .before .before .permits .ensures) (c .before .before .before .if2 .left))
@@ -34,7 +30,6 @@ fits-requires : tie.Need-fits-requires
 fits-requires c κs = tt
 
 returns-4 : tie.Need-returns-4
-unfolding iam3BlockChecks
 returns-4 c =
     passes _ _ (not-false _ (c .before .before .before .before .before .before .before .before .if1 .left))
     (passes _ _ (yes (c .before .before .before .before .before .before .before .permits .ensures) (c .before .before .before .before .before .before .if2 .left))
@@ -44,7 +39,6 @@ locked-requires : tie.Need-locked-requires
 locked-requires c κs = tt
 
 returns-5 : tie.Need-returns-5
-unfolding iam3BlockChecks
 returns-5 c =
     passes _ _ (not-false _ (c .before .before .before .before .before .before .before .before .before .before .before .if1 .left))
     (passes _ _ (yes (c .before .before .before .before .before .before .before .before .before .before .permits .ensures) (c .before .before .before .before .before .before .before .before .before .if2 .left))
@@ -52,7 +46,6 @@ returns-5 c =
     (fails _ _ (ap not (said (c .before .locked .ensures) (c .if5 .taken))))))
 
 returns-6 : tie.Need-returns-6
-unfolding iam3BlockChecks
 returns-6 c =
     passes _ _ (not-false _ (c .before .before .before .before .before .before .before .before .before .before .before .if1 .left))
     (passes _ _ (yes (c .before .before .before .before .before .before .before .before .before .before .permits .ensures) (c .before .before .before .before .before .before .before .before .before .if2 .left))

@@ -1,7 +1,6 @@
 -- `entry::judged::iam3_middle` meets its contract.
 use borrow.Author.Tests.{eq-eqb, ne-eqb}
 use Rattle.offer.proofs.Lines.{yes, no, passes, fails}
-use Rattle.entry.specs.Judged.{iam3MiddleChecks}
 use Rattle.offer.specs.Records.{slotNamed, blockAsked}
 use Rattle.entry.proofs.judged.iam3_middle.Statement.{statement}
 use Rattle.entry.proofs.judged.iam3_middle.Tie as tie
@@ -10,11 +9,9 @@ mode-supported-requires : tie.Need-mode-supported-requires
 mode-supported-requires c κs = tt
 
 returns : tie.Need-returns
-unfolding iam3MiddleChecks
 returns c = fails _ _ (no (c .before .mode-supported .ensures) (c .if1 .taken))
 
 returns-2 : tie.Need-returns-2
-unfolding iam3MiddleChecks
 returns-2 c =
     passes _ _ (yes (c .before .before .before .mode-supported .ensures) (c .before .before .if1 .left))
     (fails _ _ (ne-eqb _ _ (c .if2 .taken)))
@@ -29,7 +26,7 @@ iam3-block-requires : tie.Need-iam3-block-requires
 iam3-block-requires c κs = tt
 
 returns-3 : tie.Need-returns-3
-unfolding iam3MiddleChecks slotNamed blockAsked
+unfolding slotNamed blockAsked
 returns-3 c =
     passes _ _ (yes (c .before .before .before .before .before .before .before .before .mode-supported .ensures) (c .before .before .before .before .before .before .before .if1 .left))
     (passes _ _ (eq-eqb _ _ (c .before .before .before .before .before .if2 .left))

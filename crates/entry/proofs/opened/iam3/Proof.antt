@@ -7,6 +7,7 @@ use native.Mathlib.Omega.{arith}
 use borrow.Author.Tests.{not-true, not-false}
 use lib.ListN.{replicate}
 use lib.Seq.{length-take-le}
+use Rattle.memory.specs.declared.Area.{Area}
 use Rattle.memory.specs.declared.Area.the-variants.{Identity, User}
 use Rattle.memory.specs.Areas.{storedIn}
 use Rattle.frames.specs.declared.Iam3.{Iam3}
@@ -58,10 +59,23 @@ iam3-proof-requires c κs = let s = c .before .before .before .before .before .b
       opened-front (a .key) (a .f) (a .m .now) (s .pre .1) (replicate 144 0) (o .last .1 .1 .1 .0) (c .before .blocks-length .result) (c .before .blocks-length .ensures) (o .ensures),
     )
 
+refused-requires : tie.Need-refused-requires
+refused-requires c κs = search needs
+
 returns : tie.Need-returns
-returns c = let a = c .before .before .before .before .before .before .before .before .before .before .before .before .args in
-    let e : iam3Proof (a .key) (a .held) (a .f) (a .m .now) ≡ false = sym (c .before .iam3-proof .ensures) ∙ not-true _ (c .if1 .taken) in
-    (rw e, rw e, rw e)
+returns c =
+    let c1 = c .before in
+    let c2 = c1 .before in
+    let c13 = c2 .before .before .before .before .before .before .before .before .before .before .before in
+    let a = c13 .args in
+    let e : iam3Proof (a .key) (a .held) (a .f) (a .m .now) ≡ false =
+    sym (c2 .iam3-proof .ensures) ∙ not-true _ (c1 .if1 .taken) in
+    record {
+      outcome = rw e (c .refused .ensures .0);
+      session = rw e (c .refused .ensures .1);
+      inIdentity = rw e;
+      inUser = rw e;
+    }
 
 array-share-prefix-room-2 : tie.Need-array-share-prefix-room-2
 array-share-prefix-room-2 c = let s = c .before .before .before .before .before .before .before .before .before .before .before .before in omega (arith, c .before .before .before .blocks-length .ensures, most (s .args .f) (s .args .m .now) (λ i. c .before .before .before .before .before .before .before .before .before .before .before .shared-slice-known .given i .fits) (s .pre .0))
@@ -76,6 +90,9 @@ write-requires c κs = search needs
 purpose-requires : tie.Need-purpose-requires
 purpose-requires c κs = search needs
 
+let-in-requires : tie.Need-let-in-requires
+let-in-requires c κs = search needs
+
 same-length : tie.Need-same-length
 same-length c = search needs
 
@@ -83,19 +100,34 @@ same-length-2 : tie.Need-same-length-2
 same-length-2 c = search needs
 
 returns-2 : tie.Need-returns-2
-returns-2 c = let t = c .before .before .before .before .before .before .before .before .before in
-    let s = t .before .before .before .before .before .before .before .before .before .before .before .before in
+returns-2 c =
+    let c1 = c .before in
+    let c6 = c1 .before .before .before .before .before in
+    let c10 = c6 .before .before .before .before in
+    let c11 = c10 .before in
+    let c13 = c11 .before .before in
+    let c16 = c13 .before .before .before in
+    let c18 = c16 .before .before in
+    let c22 = c18 .before .before .before .before in
+    let s = c22 in
     let a = s .args in
-    let b = t .before .before .before .blocks-length in
-    let o = t .before .before .before .before .before .before .open-data in
-    let w = c .before .before .before .before .before .write in
-    let e : iam3Proof (a .key) (a .held) (a .f) (a .m .now) ≡ true = sym (t .before .iam3-proof .ensures) ∙ not-false _ (t .if1 .left) in
-    let p = opened-front (a .key) (a .f) (a .m .now) (s .pre .1) (replicate 144 0) (o .last .1 .1 .1 .0) (b .result) (b .ensures) (o .ensures) in
-    let x = c .purpose .ensures ∙ ap purposeIn (t .before .before .before .before .before .before .before .before .first-opened .ensures) in (
-      rw e (ap Entered x),
-      rw e (w .ensures .0 ∙ ap (λ (l : List ℕ). storedIn Identity (a .block) (wordsIn (a .f .custom) l) (a .identity .now)) p),
-      rw e (w .ensures .1 ∙ ap (λ (l : List ℕ). storedIn User (a .block) (wordsIn (a .f .custom) l) (a .user .now)) p),
-    )
+    let b = c13 .blocks-length in
+    let o = c16 .open-data in
+    let w = c6 .write in
+    let e : iam3Proof (a .key) (a .held) (a .f) (a .m .now) ≡ true =
+    sym (c11 .iam3-proof .ensures) ∙ not-false _ (c10 .if1 .left) in
+    let p =
+    opened-front (a .key) (a .f) (a .m .now) (s .pre .1) (replicate 144 0) (o .last .1 .1 .1 .0) (b .result) (b .ensures)
+    (o .ensures) in
+    let x = c1 .purpose .ensures ∙ ap purposeIn (c18 .first-opened .ensures) in
+    let there : Area → List ℕ → List ℕ → List ℕ =
+    λ area l z. storedIn area (a .block) (wordsIn (a .f .custom) l) z in
+    record {
+      outcome = rw e (c .let-in .ensures .0 ∙ ap Entered x);
+      session = rw e (c .let-in .ensures .1);
+      inIdentity = rw e (w .ensures .0 ∙ ap (λ (l : List ℕ). there Identity l (a .identity .now)) p);
+      inUser = rw e (w .ensures .1 ∙ ap (λ (l : List ℕ). there User l (a .user .now)) p);
+    }
 
 pub iam3-spec : {M : Type 1} → statement M
 iam3-spec =
@@ -108,11 +140,13 @@ iam3-spec =
     array-share-prefix-room
     slice-aggregate-iam3-proof
     iam3-proof-requires
+    refused-requires
     returns
     array-share-prefix-room-2
     slice-aggregate-write
     write-requires
     purpose-requires
+    let-in-requires
     same-length
     same-length-2
     returns-2)

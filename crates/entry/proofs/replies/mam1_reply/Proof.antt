@@ -1,6 +1,6 @@
 -- `entry::replies::mam1_reply` meets its contract.
 use Rattle.field.proofs.Arrays.{array-length}
-use Rattle.entry.proofs.Listed.{mam1-made}
+use Rattle.entry.proofs.Mam1Reply.{mam1-made}
 use borrow.Author.Needs.{needs}
 use Rattle.entry.proofs.replies.mam1_reply.Statement.{statement}
 use Rattle.entry.proofs.replies.mam1_reply.Tie as tie

@@ -1,0 +1,7 @@
+pub mod Judging
+pub mod Sent
+pub mod Passed
+pub mod Mam1Reply
+pub mod Challenging
+pub mod Giving
+pub mod Fits
