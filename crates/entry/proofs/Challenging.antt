@@ -6,7 +6,6 @@ use lib.ListN.{length, getD, take, drop, replicate, length-replicate}
 use Rattle.modes.specs.Room.{over}
 use Rattle.modes.proofs.Rooms.{copied}
 use Rattle.sheet.specs.declared.Key.{Key}
-use Rattle.sheet.specs.declared.Setup.{Setup}
 use Rattle.frames.specs.declared.Kind.the-variants.{Iam1, Mam1}
 use Rattle.frames.specs.declared.Iam1.{Iam1 as Iam1Fields}
 use Rattle.frames.specs.declared.Mam1.{Mam1 as Mam1Fields}
@@ -53,14 +52,14 @@ module _ (v : Verdict) (bytes : List ℕ) (next : Session) (r : Challenged) wher
     reply = h ∙ ap (λ (w : Verdict). over (sent w bytes) zeros) (sym e);
   }
 
-module _ (setup : Setup) (m draws : List ℕ) (v : Verdict) where
+module _ (keys : List Key) (m draws : List ℕ) (v : Verdict) where
   -- IAM1
-  module _ (f : Iam1Fields) (e : f ≡ iam1Of m) (w : v ≡ judged (openingChecks Iam1 (f .rfu) (f .keyid) setup m)) where
-    iam1-judged : iam1Verdict setup m ≡ v
-    iam1-judged = sym (w ∙ (λ j. judged (openingChecks Iam1 (e j .rfu) (e j .keyid) setup m)))
+  module _ (f : Iam1Fields) (e : f ≡ iam1Of m) (w : v ≡ judged (openingChecks Iam1 (f .rfu) (f .keyid) keys m)) where
+    iam1-judged : iam1Verdict keys m ≡ v
+    iam1-judged = sym (w ∙ (λ j. judged (openingChecks Iam1 (e j .rfu) (e j .keyid) keys m)))
 
     pub iam1-wrong : (fault : Fault) (r : Challenged) → v ≡ Wrong fault → Silent r fault
-        → Challenges (iam1Verdict setup m) draws (iam1Held m draws) r
+        → Challenges (iam1Verdict keys m) draws (iam1Held m draws) r
     iam1-wrong fault r x t = refuses _ draws (iam1Held m draws) r fault (iam1-judged ∙ x) t
 
     abbrev iam1Session : Session
@@ -68,7 +67,7 @@ module _ (setup : Setup) (m draws : List ℕ) (v : Verdict) where
 
     pub iam1-fine : (after : List ℕ) → length draws ≡ 10 → v ≡ Fine
         → after ≡ take (length draws) draws ++ drop (length draws) zeros
-        → Challenges (iam1Verdict setup m) draws (iam1Held m draws)
+        → Challenges (iam1Verdict keys m) draws (iam1Held m draws)
         (record { outcome = Replied 10; session = iam1Session; reply = after })
     iam1-fine after ten x h =
         challenges _ draws (iam1Held m draws) _ (iam1-judged ∙ x) (ap Replied (sym ten))
@@ -76,13 +75,13 @@ module _ (setup : Setup) (m draws : List ℕ) (v : Verdict) where
         (copied draws zeros after h)
 
   -- MAM1
-  module _ (f : Mam1Fields) (e : f ≡ mam1Of m) (w : v ≡ judged (openingChecks Mam1 (f .rfu) (f .keyid) setup m)) where
-    mam1-judged : mam1Verdict setup m ≡ v
-    mam1-judged = sym (w ∙ (λ j. judged (openingChecks Mam1 (e j .rfu) (e j .keyid) setup m)))
+  module _ (f : Mam1Fields) (e : f ≡ mam1Of m) (w : v ≡ judged (openingChecks Mam1 (f .rfu) (f .keyid) keys m)) where
+    mam1-judged : mam1Verdict keys m ≡ v
+    mam1-judged = sym (w ∙ (λ j. judged (openingChecks Mam1 (e j .rfu) (e j .keyid) keys m)))
 
     pub mam1-wrong : (fault : Fault) (r : Challenged) → v ≡ Wrong fault → Silent r fault
-        → Challenges (mam1Verdict setup m) (mam1Sent setup m draws) (mam1Held m draws) r
-    mam1-wrong fault r x t = refuses _ (mam1Sent setup m draws) (mam1Held m draws) r fault (mam1-judged ∙ x) t
+        → Challenges (mam1Verdict keys m) (mam1Sent keys m draws) (mam1Held m draws) r
+    mam1-wrong fault r x t = refuses _ (mam1Sent keys m draws) (mam1Held m draws) r fault (mam1-judged ∙ x) t
 
     mam1-ten : length (mam1Of m .ichallenge) ≡ 10
     unfolding mam1Of
@@ -96,16 +95,16 @@ module _ (setup : Setup) (m draws : List ℕ) (v : Verdict) where
     abbrev mam1Session : Session
     mam1Session = record { state = MamInit; keyid = f .keyid; tchallenge = draws; ichallenge = kept f }
 
-    pub mam1-fine : (k : Key) (reply : List ℕ) → length draws ≡ 10 → v ≡ Fine → k ≡ keyNamed setup (f .keyid)
+    pub mam1-fine : (k : Key) (reply : List ℕ) → length draws ≡ 10 → v ≡ Fine → k ≡ keyNamed keys (f .keyid)
         → reply ≡ mam1Reply k f draws
-        → Challenges (mam1Verdict setup m) (mam1Sent setup m draws) (mam1Held m draws)
+        → Challenges (mam1Verdict keys m) (mam1Sent keys m draws) (mam1Held m draws)
         (record { outcome = Replied 22; session = mam1Session; reply = reply })
     mam1-fine k reply ten x ke re =
-        let full : k ≡ keyNamed setup (mam1Of m .keyid) = ke ∙ (λ j. keyNamed setup (e j .keyid)) in
-        let made : reply ≡ mam1Sent setup m draws = re ∙ (λ j. mam1Reply (full j) (e j) draws) in
-        let long : length (mam1Sent setup m draws) ≡ 22 = mam1-long _ (mam1Of m) draws ten in
+        let full : k ≡ keyNamed keys (mam1Of m .keyid) = ke ∙ (λ j. keyNamed keys (e j .keyid)) in
+        let made : reply ≡ mam1Sent keys m draws = re ∙ (λ j. mam1Reply (full j) (e j) draws) in
+        let long : length (mam1Sent keys m draws) ≡ 22 = mam1-long _ (mam1Of m) draws ten in
         let last : kept f ≡ drop 6 (mam1Of m .ichallenge) =
         (λ j. kept (e j)) ∙ last-four (mam1Of m .ichallenge) mam1-ten in
-        challenges _ (mam1Sent setup m draws) (mam1Held m draws) _ (mam1-judged ∙ x) (ap Replied (sym long))
+        challenges _ (mam1Sent keys m draws) (mam1Held m draws) _ (mam1-judged ∙ x) (ap Replied (sym long))
         (λ j. record { state = MamInit; keyid = e j .keyid; tchallenge = draws; ichallenge = last j })
-        (made ∙ sym (over-all (mam1Sent setup m draws) zeros (long ∙ sym (length-replicate {A = ℕ} 22 0))))
+        (made ∙ sym (over-all (mam1Sent keys m draws) zeros (long ∙ sym (length-replicate {A = ℕ} 22 0))))

@@ -38,10 +38,10 @@ challenged-one v bytes next x y p q = λ j. record {
   reply = one (p .reply) (q .reply) j;
 }
 
-pub iam1-one : OneAnswer 1 iam1-kinds.ps iam1-kinds.r iam1.Post Challenged (λ κs r s. r)
+pub iam1-one : OneAnswer 2 iam1-kinds.ps iam1-kinds.r iam1.Post Challenged (λ κs r s. r)
 iam1-one κs a x y s t p q = challenged-one _ _ _ x y p q
 
-pub mam1-one : OneAnswer 1 mam1-kinds.ps mam1-kinds.r mam1.Post Challenged (λ κs r s. r)
+pub mam1-one : OneAnswer 2 mam1-kinds.ps mam1-kinds.r mam1.Post Challenged (λ κs r s. r)
 mam1-one κs a x y s t p q = challenged-one _ _ _ x y p q
 
 reacted-one : (v : Verdict) (purpose : ℕ) (x y : Reacted) → LetsIn v purpose x → LetsIn v purpose y → x ≡ y
@@ -50,14 +50,14 @@ reacted-one v purpose x y p q = λ j. record {
   session = one (p .session) (q .session) j;
 }
 
-pub iam2-one : OneAnswer 1 iam2-kinds.ps iam2-kinds.r iam2.Post Reacted (λ κs r s. r)
+pub iam2-one : OneAnswer 2 iam2-kinds.ps iam2-kinds.r iam2.Post Reacted (λ κs r s. r)
 iam2-one κs a x y s t p q = reacted-one _ _ x y p q
 
-pub mam2-one : OneAnswer 1 mam2-kinds.ps mam2-kinds.r mam2.Post Reacted (λ κs r s. r)
+pub mam2-one : OneAnswer 2 mam2-kinds.ps mam2-kinds.r mam2.Post Reacted (λ κs r s. r)
 mam2-one κs a x y s t p q = reacted-one _ _ x y p q
 
-pub iam3-one : OneAnswer 3 iam3-kinds.ps iam3-kinds.r iam3.Post (Reacted × List ℕ × List ℕ)
-    (λ κs r s. (r, now (s .1 .1 .1 .0), now (s .1 .1 .1 .1 .0)))
+pub iam3-one : OneAnswer 4 iam3-kinds.ps iam3-kinds.r iam3.Post (Reacted × List ℕ × List ℕ)
+    (λ κs r s. (r, now (s .1 .1 .1 .1 .0), now (s .1 .1 .1 .1 .1 .0)))
 iam3-one κs a x y s t p q =
     λ j.
     (reacted-one _ _ x y (p .letsIn) (q .letsIn) j, one (p .inIdentity) (q .inIdentity) j, one (p .inUser) (q .inUser) j)

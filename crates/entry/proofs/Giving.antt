@@ -12,7 +12,8 @@ use Rattle.memory.specs.declared.Block.{Block}
 use Rattle.memory.specs.declared.Area.{Area}
 use Rattle.memory.specs.declared.Area.the-variants.{Identity, User}
 use Rattle.sheet.specs.declared.Key.{Key}
-use Rattle.sheet.specs.declared.Setup.{Setup}
+use Rattle.sheet.specs.declared.Terms.{Terms}
+use Rattle.sheet.specs.Setups.{Setup, termsOf}
 use Rattle.frames.specs.declared.Kind.{Kind}
 use Rattle.frames.specs.declared.Kind.the-variants.{Iam2, Mam2}
 use Rattle.frames.specs.declared.Iam2.{Iam2 as Iam2Fields}
@@ -71,60 +72,60 @@ closing P kind m enc enc′ x x′ b rfu rfu′ proof v e f g h p w =
     let told : proof ≡ P (aesEnc enc′ x′) = p ∙ ap P opened in
     sym (w ∙ (λ j. judged (closingChecks (told j) (g j) kind m)))
 
-module _ (setup : Setup) (held : Session) (m : List ℕ) (k : Key) (ke : k ≡ keyNamed setup (held .keyid))
+module _ (keys : List Key) (held : Session) (m : List ℕ) (k : Key) (ke : k ≡ keyNamed keys (held .keyid))
     (b : List ℕ) (proof : Bool) (v : Verdict)
   where
     -- IAM2
     module _ (f : Iam2Fields) (e : f ≡ iam2Of m) (be : b ≡ aesEnc (k .enc) (f .iresponse))
         (pe : proof ≡ iamProof C-IAM2 held b) (w : v ≡ judged (closingChecks proof (f .rfu) Iam2 m))
       where
-        iam2-judged : iam2Verdict setup held m ≡ v
+        iam2-judged : iam2Verdict keys held m ≡ v
         unfolding iam2Checks
         iam2-judged =
             closing (iamProof C-IAM2 held) Iam2 m (k .enc) _ (f .iresponse) _ b (f .rfu) _ proof v (λ j. ke j .enc)
             (λ j. e j .iresponse) (λ j. e j .rfu) be pe w
 
         pub iam2-wrong : (fault : Fault) (r : Reacted) → v ≡ Wrong fault → Turned r fault
-            → LetsIn (iam2Verdict setup held m) (iam2Purpose setup held m) r
-        iam2-wrong fault r x t = turns-away _ (iam2Purpose setup held m) r fault (iam2-judged ∙ x) t
+            → LetsIn (iam2Verdict keys held m) (iam2Purpose keys held m) r
+        iam2-wrong fault r x t = turns-away _ (iam2Purpose keys held m) r fault (iam2-judged ∙ x) t
 
         pub iam2-fine : (purpose : ℕ) (r : Reacted) → v ≡ Fine → purpose ≡ purposeIn b → Entering r purpose
-            → LetsIn (iam2Verdict setup held m) (iam2Purpose setup held m) r
+            → LetsIn (iam2Verdict keys held m) (iam2Purpose keys held m) r
         iam2-fine purpose r x q t =
-            let told : purpose ≡ iam2Purpose setup held m =
+            let told : purpose ≡ iam2Purpose keys held m =
             q ∙ ap purposeIn (be ∙ (λ j. aesEnc (ke j .enc) (e j .iresponse))) in
-            lets-in _ (iam2Purpose setup held m) r (iam2-judged ∙ x) (t .0 ∙ ap Entered told, t .1)
+            lets-in _ (iam2Purpose keys held m) r (iam2-judged ∙ x) (t .0 ∙ ap Entered told, t .1)
 
     -- MAM2
     module _ (f : Mam2Fields) (e : f ≡ mam2Of m) (be : b ≡ aesEnc (k .enc) (f .iresponse))
         (pe : proof ≡ mamProof held b) (w : v ≡ judged (closingChecks proof (f .rfu) Mam2 m))
       where
-        mam2-judged : mam2Verdict setup held m ≡ v
+        mam2-judged : mam2Verdict keys held m ≡ v
         unfolding mam2Checks
         mam2-judged =
             closing (mamProof held) Mam2 m (k .enc) _ (f .iresponse) _ b (f .rfu) _ proof v (λ j. ke j .enc)
             (λ j. e j .iresponse) (λ j. e j .rfu) be pe w
 
         pub mam2-wrong : (fault : Fault) (r : Reacted) → v ≡ Wrong fault → Turned r fault
-            → LetsIn (mam2Verdict setup held m) (mam2Purpose setup held m) r
-        mam2-wrong fault r x t = turns-away _ (mam2Purpose setup held m) r fault (mam2-judged ∙ x) t
+            → LetsIn (mam2Verdict keys held m) (mam2Purpose keys held m) r
+        mam2-wrong fault r x t = turns-away _ (mam2Purpose keys held m) r fault (mam2-judged ∙ x) t
 
         pub mam2-fine : (purpose : ℕ) (r : Reacted) → v ≡ Fine → purpose ≡ purposeIn b → Entering r purpose
-            → LetsIn (mam2Verdict setup held m) (mam2Purpose setup held m) r
+            → LetsIn (mam2Verdict keys held m) (mam2Purpose keys held m) r
         mam2-fine purpose r x q t =
-            let told : purpose ≡ mam2Purpose setup held m =
+            let told : purpose ≡ mam2Purpose keys held m =
             q ∙ ap purposeIn (be ∙ (λ j. aesEnc (ke j .enc) (e j .iresponse))) in
-            lets-in _ (mam2Purpose setup held m) r (mam2-judged ∙ x) (t .0 ∙ ap Entered told, t .1)
+            lets-in _ (mam2Purpose keys held m) r (mam2-judged ∙ x) (t .0 ∙ ap Entered told, t .1)
 
 -- ---- IAM3
 
 -- its blocks are there once its fields were judged
-pub iam3-whole : (setup : Setup) (k : Key) (m : List ℕ) (f : Iam3Fields) (v : Verdict)
-    → v ≡ judged (iam3FieldChecks setup k m) → v ≡ Fine → f ≡ iam3Of m
+pub iam3-whole : (terms : Terms) (k : Key) (m : List ℕ) (f : Iam3Fields) (v : Verdict)
+    → v ≡ judged (iam3FieldChecks terms k m) → v ≡ Fine → f ≡ iam3Of m
     → iam3HeadLength + blocksLength (f .custom .blocksize) true (f .custom .blockcount) ≤ length m
 unfolding iam3Length iam3MacAt
-iam3-whole setup k m f v w x e =
-    let l = iam3-length setup k m (sym w ∙ x) in
+iam3-whole terms k m f v w x e =
+    let l = iam3-length terms k m (sym w ∙ x) in
     let Whole : Iam3Fields → Type 0 =
     λ g. iam3HeadLength + blocksLength (g .custom .blocksize) true (g .custom .blockcount) ≤ length m in
     subst Whole (sym e) (omega (arith, l))
@@ -139,14 +140,14 @@ by-proof true purpose stored i u r i′ u′ o s p q =
 by-proof false purpose stored i u r i′ u′ o s p q =
     record { letsIn = record { outcome = o; session = s }; inIdentity = p; inUser = q }
 
-module _ (setup : Setup) (held : Session) (m : List ℕ) (k : Key) (ke : k ≡ keyNamed setup (held .keyid)) (v : Verdict)
-    (w : v ≡ judged (iam3FieldChecks setup k m)) (i u : List ℕ)
+module _ (setup : Setup) (held : Session) (m : List ℕ) (k : Key) (ke : k ≡ keyNamed (setup .keys) (held .keyid))
+    (v : Verdict) (w : v ≡ judged (iam3FieldChecks (termsOf setup) k m)) (i u : List ℕ)
   where
     abbrev named : Key
-    named = keyNamed setup (held .keyid)
+    named = keyNamed (setup .keys) (held .keyid)
 
-    fields-judged : judged (iam3FieldChecks setup named m) ≡ v
-    fields-judged = sym (w ∙ (λ j. judged (iam3FieldChecks setup (ke j) m)))
+    fields-judged : judged (iam3FieldChecks (termsOf setup) named m) ≡ v
+    fields-judged = sym (w ∙ (λ j. judged (iam3FieldChecks (termsOf setup) (ke j) m)))
 
     abbrev Written : Reacted → List ℕ → List ℕ → Type 0
     Written = Writes (iam3Verdict setup held m) (iam3Purpose setup held m) (iam3Stored setup held m) i u
@@ -156,16 +157,16 @@ module _ (setup : Setup) (held : Session) (m : List ℕ) (k : Key) (ke : k ≡ k
     unfolding iam3Checks
     iam3-refused fault r x t =
         let wrong : iam3Verdict setup held m ≡ Wrong fault =
-        then-wrong _ fault (iam3FieldChecks setup named m) (fields-judged ∙ x) in
+        then-wrong _ fault (iam3FieldChecks (termsOf setup) named m) (fields-judged ∙ x) in
         record {
           letsIn = turns-away _ (iam3Purpose setup held m) r fault wrong t;
           inIdentity = ap (λ (y : Verdict). settled y (iam3Stored setup held m Identity i) (λ f. i)) (sym wrong);
           inUser = ap (λ (y : Verdict). settled y (iam3Stored setup held m User u) (λ f. u)) (sym wrong);
         }
 
-    module _ (f : Iam3Fields) (e : f ≡ iam3Of m) (b : Block) (be : b ≡ blockAsked setup (f .custom)) where
-      abbrev asked : b ≡ blockAsked setup (iam3Of m .custom)
-      asked = be ∙ (λ j. blockAsked setup (e j .custom))
+    module _ (f : Iam3Fields) (e : f ≡ iam3Of m) (b : Block) (be : b ≡ blockAsked (setup .profiles) (f .custom)) where
+      abbrev asked : b ≡ blockAsked (setup .profiles) (iam3Of m .custom)
+      asked = be ∙ (λ j. blockAsked (setup .profiles) (e j .custom))
 
       abbrev proof : Bool
       proof = iam3Proof named held (iam3Of m) m
@@ -184,4 +185,4 @@ module _ (setup : Setup) (held : Session) (m : List ℕ) (k : Key) (ke : k ≡ k
           → Written r i′ u′
       unfolding iam3Checks judgedTo
       iam3-settled r i′ u′ x h =
-          decides (then-fine ((proof else ProofWrong) ∷ []) (iam3FieldChecks setup named m) (fields-judged ∙ x)) x r i′ u′ h
+          decides (then-fine ((proof else ProofWrong) ∷ []) (iam3FieldChecks (termsOf setup) named m) (fields-judged ∙ x)) x r i′ u′ h

@@ -9,7 +9,7 @@ use lib.ListN.{length}
 use borrow.Author.Tests.{eqb-true, le-ltb, not-true}
 use Rattle.memory.specs.Address.{overruns}
 use Rattle.sheet.specs.declared.Key.{Key}
-use Rattle.sheet.specs.declared.Setup.{Setup}
+use Rattle.sheet.specs.declared.Terms.{Terms}
 use Rattle.frames.specs.declared.Kind.the-variants.{Iam3}
 use Rattle.frames.specs.Messages.{iam3Of}
 use Rattle.frames.specs.Lengths.{iam3FieldsLength, iam3Length, lengthFits, iam3LengthFits}
@@ -20,19 +20,20 @@ use Rattle.offer.proofs.Lines.{first-holds, others-hold}
 use Rattle.offer.proofs.Passed.{both-second, mode-below}
 use Rattle.entry.specs.Judged.{iam3FieldChecks}
 
-module _ (setup : Setup) (key : Key) (m : List ℕ) (h : judged (iam3FieldChecks setup key m) ≡ Fine) where
-  pub iam3-mode : modeSupported (setup .features) key (iam3Of m .protmode) ≡ true
+module _ (terms : Terms) (key : Key) (m : List ℕ) (h : judged (iam3FieldChecks terms key m) ≡ Fine) where
+  pub iam3-mode : modeSupported (terms .features) key (iam3Of m .protmode) ≡ true
   iam3-mode = first-holds _ _ (others-hold _ _ h)
 
   pub iam3-length : length m ≡ iam3Length (iam3Of m .custom .blocksize) (iam3Of m .custom .blockcount) (iam3Of m .protmode)
   unfolding lengthFits iam3LengthFits
   iam3-length =
-      let p = mode-below (setup .features) key (iam3Of m .protmode) iam3-mode in
+      let p = mode-below (terms .features) key (iam3Of m .protmode) iam3-mode in
       let n : iam3Of m .protmode ≤ 3 = omega arith in
       let w : lengthFits Iam3 m ≡ true = first-holds _ _ h in
       eqb-true _ _ (both-second (leb iam3FieldsLength (length m)) _ (simp (le-ltb 3 (iam3Of m .protmode) n) at w))
 
-  pub iam3-inside : overruns (slotNamed setup (iam3Of m .custom .profile) .profile) (blockAsked setup (iam3Of m .custom)) ≡ false
+  pub iam3-inside : overruns (slotNamed (terms .profiles) (iam3Of m .custom .profile) .profile)
+      (blockAsked (terms .profiles) (iam3Of m .custom)) ≡ false
   iam3-inside =
       let k = others-hold _ _ (others-hold _ _ (others-hold _ _ h)) in
-      not-true _ (both-second (sizeOffered (setup .features) (iam3Of m .custom .blocksize)) _ (first-holds _ _ (others-hold _ _ (others-hold _ _ k))))
+      not-true _ (both-second (sizeOffered (terms .features) (iam3Of m .custom .blocksize)) _ (first-holds _ _ (others-hold _ _ (others-hold _ _ k))))

@@ -8,7 +8,8 @@ use Rattle.modes.specs.Room.{over}
 use Rattle.memory.specs.declared.Area.{Area}
 use Rattle.memory.specs.declared.Area.the-variants.{Identity, User}
 use Rattle.memory.specs.Areas.{storedIn}
-use Rattle.sheet.specs.declared.Setup.{Setup}
+use Rattle.sheet.specs.declared.Key.{Key}
+use Rattle.sheet.specs.Setups.{Setup}
 use Rattle.frames.specs.declared.Kind.the-variants.{Iam1, Mam1}
 use Rattle.frames.specs.Messages.{iam1Of, iam2Of, iam3Of, mam1Of, mam2Of}
 use Rattle.offer.specs.declared.Outcome.the-variants.{Entered, Refused}
@@ -27,8 +28,8 @@ use Rattle.entry.specs.Opened.{purposeIn, openedData, wordsIn, sentBlock
 use Rattle.entry.specs.Judged.{iam2Checks, iam3Checks, mam2Checks}
 
 -- 9.5.2, 9.5.3: the challenge is the ten draws, and is kept with the KeyID.
-abbrev pub iam1Verdict : Setup → List ℕ → Verdict
-iam1Verdict setup m = let f = iam1Of m in judged (openingChecks Iam1 (f .rfu) (f .keyid) setup m)
+abbrev pub iam1Verdict : List Key → List ℕ → Verdict
+iam1Verdict keys m = let f = iam1Of m in judged (openingChecks Iam1 (f .rfu) (f .keyid) keys m)
 
 abbrev pub iam1Held : List ℕ → List ℕ → Session
 iam1Held m draws = record {
@@ -39,11 +40,11 @@ iam1Held m draws = record {
 }
 
 -- 9.6.2, 9.6.3: also the last 32 bits of the reader's challenge are kept.
-abbrev pub mam1Verdict : Setup → List ℕ → Verdict
-mam1Verdict setup m = let f = mam1Of m in judged (openingChecks Mam1 (f .rfu) (f .keyid) setup m)
+abbrev pub mam1Verdict : List Key → List ℕ → Verdict
+mam1Verdict keys m = let f = mam1Of m in judged (openingChecks Mam1 (f .rfu) (f .keyid) keys m)
 
-abbrev pub mam1Sent : Setup → List ℕ → List ℕ → List ℕ
-mam1Sent setup m draws = let f = mam1Of m in mam1Reply (keyNamed setup (f .keyid)) f draws
+abbrev pub mam1Sent : List Key → List ℕ → List ℕ → List ℕ
+mam1Sent keys m draws = let f = mam1Of m in mam1Reply (keyNamed keys (f .keyid)) f draws
 
 abbrev pub mam1Held : List ℕ → List ℕ → Session
 mam1Held m draws = record {
@@ -53,32 +54,34 @@ mam1Held m draws = record {
   ichallenge = drop 6 (mam1Of m .ichallenge);
 }
 
-module _ (setup : Setup) (held : Session) (m : List ℕ) where
+module _ (keys : List Key) (held : Session) (m : List ℕ) where
   -- 9.5.5, 9.5.6
   abbrev pub iam2Verdict : Verdict
-  iam2Verdict = judged (iam2Checks setup held m)
+  iam2Verdict = judged (iam2Checks keys held m)
 
   abbrev pub iam2Purpose : ℕ
-  iam2Purpose = purposeIn (aesEnc (keyNamed setup (held .keyid) .enc) (iam2Of m .iresponse))
+  iam2Purpose = purposeIn (aesEnc (keyNamed keys (held .keyid) .enc) (iam2Of m .iresponse))
 
   -- 9.6.5, 9.6.6
   abbrev pub mam2Verdict : Verdict
-  mam2Verdict = judged (mam2Checks setup held m)
+  mam2Verdict = judged (mam2Checks keys held m)
 
   abbrev pub mam2Purpose : ℕ
-  mam2Purpose = purposeIn (aesEnc (keyNamed setup (held .keyid) .enc) (mam2Of m .iresponse))
+  mam2Purpose = purposeIn (aesEnc (keyNamed keys (held .keyid) .enc) (mam2Of m .iresponse))
 
+module _ (setup : Setup) (held : Session) (m : List ℕ) where
   -- 9.5.8, 9.5.9: after everything was judged the words of the block are written, and no others.
   abbrev pub iam3Verdict : Verdict
   iam3Verdict = judged (iam3Checks setup held m)
 
   abbrev pub iam3Purpose : ℕ
-  iam3Purpose = purposeIn (aesEnc (keyNamed setup (held .keyid) .enc) (sentBlock m))
+  iam3Purpose = purposeIn (aesEnc (keyNamed (setup .keys) (held .keyid) .enc) (sentBlock m))
 
   abbrev pub iam3Stored : Area → List ℕ → List ℕ
   iam3Stored area s =
       let f = iam3Of m in
-      storedIn area (blockAsked setup (f .custom)) (wordsIn (f .custom) (openedData (keyNamed setup (held .keyid)) f m)) s
+      let words = wordsIn (f .custom) (openedData (keyNamed (setup .keys) (held .keyid)) f m) in
+      storedIn area (blockAsked (setup .profiles) (f .custom)) words s
 
 -- The bytes that a reply to IAM1 or MAM1 has at most.
 abbrev pub challengeRoom : ℕ

@@ -12,7 +12,8 @@ use Rattle.memory.specs.Rights.{permitted, someLocked}
 use Rattle.memory.specs.declared.Block.{Block}
 use Rattle.sheet.specs.declared.Key.{Key}
 use Rattle.sheet.specs.declared.Slot.{Slot}
-use Rattle.sheet.specs.declared.Setup.{Setup}
+use Rattle.sheet.specs.declared.Terms.{Terms}
+use Rattle.sheet.specs.Setups.{Setup, termsOf}
 use Rattle.frames.specs.declared.Kind.{Kind}
 use Rattle.frames.specs.declared.Kind.the-variants.{Iam2, Iam3, Mam2}
 use Rattle.frames.specs.declared.Iam3.{Iam3 as Iam3Fields}
@@ -34,41 +35,42 @@ closingChecks proof rfu kind m =
     ∷ []
 
 -- 9.5.5
-unfoldable pub iam2Checks : Setup → Session → List ℕ → List (Check Fault)
-iam2Checks setup held m =
-    closingChecks (iamProof C-IAM2 held (aesEnc (keyNamed setup (held .keyid) .enc) (iam2Of m .iresponse)))
+unfoldable pub iam2Checks : List Key → Session → List ℕ → List (Check Fault)
+iam2Checks keys held m =
+    closingChecks (iamProof C-IAM2 held (aesEnc (keyNamed keys (held .keyid) .enc) (iam2Of m .iresponse)))
     (iam2Of m .rfu) Iam2 m
 
 -- 9.6.5
-unfoldable pub mam2Checks : Setup → Session → List ℕ → List (Check Fault)
-mam2Checks setup held m =
-    closingChecks (mamProof held (aesEnc (keyNamed setup (held .keyid) .enc) (mam2Of m .iresponse)))
+unfoldable pub mam2Checks : List Key → Session → List ℕ → List (Check Fault)
+mam2Checks keys held m =
+    closingChecks (mamProof held (aesEnc (keyNamed keys (held .keyid) .enc) (mam2Of m .iresponse)))
     (mam2Of m .rfu) Mam2 m
 
 -- IAM3, with the slot and the block that it names: profile, right, memory, lock. A block size that is not supported is a
 -- block that is not supported: Memory Overrun.
-abbrev pub iam3BlockChecks : Setup → Key → Iam3Fields → Slot → Block → List (Check Fault)
-iam3BlockChecks setup key f slot block =
-    let offers = sizeOffered (setup .features) (f .custom .blocksize) in
+abbrev pub iam3BlockChecks : Terms → Key → Iam3Fields → Slot → Block → List (Check Fault)
+iam3BlockChecks terms key f slot block =
+    let offers = sizeOffered (terms .features) (f .custom .blocksize) in
     (slot .present else NotSupported)
     ∷ (permitted (key .mpi) (f .custom .profile) else NotSupported)
     ∷ (both offers (not (overruns (slot .profile) block)) else MemoryOverrun)
-    ∷ (not (someLocked (setup .locks .table) (setup .locks .count) block) else MemoryWriteError)
+    ∷ (not (someLocked (terms .locks .table) (terms .locks .count) block) else MemoryWriteError)
     ∷ []
 
 -- All between the length and the proof, with the record that is held: ProtMode, RFU, and the block.
-abbrev pub iam3MiddleChecks : Setup → Key → Iam3Fields → List (Check Fault)
-iam3MiddleChecks setup key f =
-    (modeSupported (setup .features) key (f .protmode) else NotSupported)
+abbrev pub iam3MiddleChecks : Terms → Key → Iam3Fields → List (Check Fault)
+iam3MiddleChecks terms key f =
+    (modeSupported (terms .features) key (f .protmode) else NotSupported)
     ∷ (eqb (f .rfu) 0 else NotSupported)
-    ∷ iam3BlockChecks setup key f (slotNamed setup (f .custom .profile)) (blockAsked setup (f .custom))
+    ∷ iam3BlockChecks terms key f (slotNamed (terms .profiles) (f .custom .profile))
+    (blockAsked (terms .profiles) (f .custom))
 
 -- All but the proof.
-abbrev pub iam3FieldChecks : Setup → Key → List ℕ → List (Check Fault)
-iam3FieldChecks setup key m = (lengthFits Iam3 m else OtherError) ∷ iam3MiddleChecks setup key (iam3Of m)
+abbrev pub iam3FieldChecks : Terms → Key → List ℕ → List (Check Fault)
+iam3FieldChecks terms key m = (lengthFits Iam3 m else OtherError) ∷ iam3MiddleChecks terms key (iam3Of m)
 
 -- 9.5.8
 unfoldable pub iam3Checks : Setup → Session → List ℕ → List (Check Fault)
 iam3Checks setup held m =
-    let key = keyNamed setup (held .keyid) in
-    iam3FieldChecks setup key m ++ ((iam3Proof key held (iam3Of m) m else ProofWrong) ∷ [])
+    let key = keyNamed (setup .keys) (held .keyid) in
+    iam3FieldChecks (termsOf setup) key m ++ ((iam3Proof key held (iam3Of m) m else ProofWrong) ∷ [])

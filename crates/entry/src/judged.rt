@@ -9,8 +9,8 @@ use offer::Fault;
 use offer::Verdict;
 use offer::records;
 use sheet::Key;
-use sheet::Setup;
 use sheet::Slot;
+use sheet::Terms;
 ghost use mathlib.Core.Path.{_≡_};
 ghost use Rattle.offer.specs.Checks.{judged};
 ghost use Rattle.entry.specs.Judged.{closingChecks, iam3BlockChecks, iam3MiddleChecks, iam3FieldChecks};
@@ -34,8 +34,8 @@ pub fn closing(proof: bool, rfu: u8, kind: Kind, m: &[u8]) -> Verdict
 }
 
 // IAM3: profile, right, memory, lock. A block size that is not offered counts as memory.
-fn iam3_block(setup: Setup, key: Key, f: Iam3, slot: Slot, block: Block) -> Verdict
-    ensures { λ r. ⌜ r ≡ judged (iam3BlockChecks setup key f slot block) ⌝ }
+fn iam3_block(terms: Terms, key: Key, f: Iam3, slot: Slot, block: Block) -> Verdict
+    ensures { λ r. ⌜ r ≡ judged (iam3BlockChecks terms key f slot block) ⌝ }
 {
     let custom = f.custom;
     if !slot.present {
@@ -44,7 +44,7 @@ fn iam3_block(setup: Setup, key: Key, f: Iam3, slot: Slot, block: Block) -> Verd
     if !memory::permits(key.mpi, custom.profile) {
         return Verdict::Wrong(Fault::NotSupported);
     }
-    let features = setup.features;
+    let features = terms.features;
     let size = custom.blocksize;
     if !records::size_offered(features, size) {
         return Verdict::Wrong(Fault::MemoryOverrun);
@@ -53,18 +53,18 @@ fn iam3_block(setup: Setup, key: Key, f: Iam3, slot: Slot, block: Block) -> Verd
     if !memory::fits(profile, block) {
         return Verdict::Wrong(Fault::MemoryOverrun);
     }
-    let locks = setup.locks.table;
-    if memory::locked(locks, setup.locks.count, block) {
+    let locks = terms.locks.table;
+    if memory::locked(locks, terms.locks.count, block) {
         return Verdict::Wrong(Fault::MemoryWriteError);
     }
     Verdict::Fine
 }
 
 // IAM3, all between the length and the proof: ProtMode, RFU, and the block.
-fn iam3_middle(setup: Setup, key: Key, f: Iam3) -> Verdict
-    ensures { λ r. ⌜ r ≡ judged (iam3MiddleChecks setup key f) ⌝ }
+fn iam3_middle(terms: Terms, key: Key, f: Iam3) -> Verdict
+    ensures { λ r. ⌜ r ≡ judged (iam3MiddleChecks terms key f) ⌝ }
 {
-    let features = setup.features;
+    let features = terms.features;
     if !records::mode_supported(features, key, f.protmode) {
         return Verdict::Wrong(Fault::NotSupported);
     }
@@ -72,19 +72,19 @@ fn iam3_middle(setup: Setup, key: Key, f: Iam3) -> Verdict
         return Verdict::Wrong(Fault::NotSupported);
     }
     let custom = f.custom;
-    let profiles = setup.profiles;
+    let profiles = terms.profiles;
     let slot = records::slot(profiles, custom.profile);
-    iam3_block(setup, key, f, slot, records::block_asked(slot, custom))
+    iam3_block(terms, key, f, slot, records::block_asked(slot, custom))
 }
 
 /// IAM3, all but its proof, with the record that is held: length, ProtMode, RFU, profile, right, memory, lock.
 ///
 /// Ruled out: a locked word told before a block past its profile; ProtMode 4 refused for its length.
-pub fn iam3_fields(setup: Setup, key: Key, m: &[u8]) -> Verdict
-    ensures { λ r. ⌜ r ≡ judged (iam3FieldChecks setup key (now (m .entry))) ⌝ }
+pub fn iam3_fields(terms: Terms, key: Key, m: &[u8]) -> Verdict
+    ensures { λ r. ⌜ r ≡ judged (iam3FieldChecks terms key (now (m .entry))) ⌝ }
 {
     if !length_fits(Kind::Iam3, m) {
         return Verdict::Wrong(Fault::OtherError);
     }
-    iam3_middle(setup, key, iam3_of(m))
+    iam3_middle(terms, key, iam3_of(m))
 }

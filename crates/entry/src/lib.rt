@@ -10,9 +10,11 @@ use offer::Fault;
 use offer::Outcome;
 use offer::Verdict;
 use offer::records;
-use sheet::Setup;
+use sheet::Terms;
 ghost use mathlib.Core.Path.{_≡_};
 ghost use lib.ListN.{replicate};
+ghost use Rattle.sheet.specs.KeyTable.{keysIn};
+ghost use Rattle.sheet.specs.Setups.{setupOf};
 ghost use Rattle.entry.specs.Sessions.{cleared, entered};
 ghost use Rattle.entry.specs.Given.{Challenges, challengeRoom, LetsIn, Writes};
 ghost use Rattle.entry.specs.Given.{iam1Verdict, iam1Held, iam2Verdict, iam2Purpose, iam3Verdict, iam3Purpose};
@@ -115,12 +117,12 @@ fn unchallenged(fault: Fault) -> Challenged
 /// IAM1 (9.5.2, 9.5.3).
 ///
 /// Ruled out: a challenge that is sent and not kept; a KeyID that is not kept.
-pub fn iam1(setup: Setup, message: &[u8], draws: [u8; 10]) -> Challenged
-    ensures { λ r. ⌜ Challenges (iam1Verdict setup (now (message .entry))) draws
+pub fn iam1(keys: &[u8], message: &[u8], draws: [u8; 10]) -> Challenged
+    ensures { λ r. ⌜ Challenges (iam1Verdict (keysIn (now (keys .entry))) (now (message .entry))) draws
         (iam1Held (now (message .entry)) draws) r ⌝ }
 {
     let f = iam1_of(message);
-    let verdict = offer::judged::opening(setup, Kind::Iam1, f.rfu, f.keyid, message);
+    let verdict = offer::judged::opening(keys, Kind::Iam1, f.rfu, f.keyid, message);
     if let Verdict::Wrong(fault) = verdict {
         return unchallenged(fault);
     }
@@ -141,16 +143,16 @@ pub fn iam1(setup: Setup, message: &[u8], draws: [u8; 10]) -> Challenged
 /// MAM1 (9.6.2, 9.6.3).
 ///
 /// Ruled out: the first 32 bits of the reader's challenge kept; the state of IAM1.
-pub fn mam1(setup: Setup, message: &[u8], draws: [u8; 10]) -> Challenged
-    ensures { λ r. ⌜ Challenges (mam1Verdict setup (now (message .entry)))
-        (mam1Sent setup (now (message .entry)) draws) (mam1Held (now (message .entry)) draws) r ⌝ }
+pub fn mam1(keys: &[u8], message: &[u8], draws: [u8; 10]) -> Challenged
+    ensures { λ r. ⌜ Challenges (mam1Verdict (keysIn (now (keys .entry))) (now (message .entry)))
+        (mam1Sent (keysIn (now (keys .entry))) (now (message .entry)) draws) (mam1Held (now (message .entry)) draws) r ⌝ }
 {
     let f = mam1_of(message);
-    let verdict = offer::judged::opening(setup, Kind::Mam1, f.rfu, f.keyid, message);
+    let verdict = offer::judged::opening(keys, Kind::Mam1, f.rfu, f.keyid, message);
     if let Verdict::Wrong(fault) = verdict {
         return unchallenged(fault);
     }
-    let found = records::find(setup, f.keyid);
+    let found = keytable::find(keys, f.keyid);
     let key = found.key;
     let reply = replies::mam1_reply(key, f, draws);
     let c = f.ichallenge;
@@ -169,12 +171,12 @@ pub fn mam1(setup: Setup, message: &[u8], draws: [u8; 10]) -> Challenged
 /// IAM2 (9.5.5, 9.5.6).
 ///
 /// Ruled out: AES-DEC at the tag; a Purpose that is not handed on.
-pub fn iam2(setup: Setup, held: Session, message: &[u8]) -> Reacted
-    ensures { λ r. ⌜ LetsIn (iam2Verdict setup held (now (message .entry)))
-        (iam2Purpose setup held (now (message .entry))) r ⌝ }
+pub fn iam2(keys: &[u8], held: Session, message: &[u8]) -> Reacted
+    ensures { λ r. ⌜ LetsIn (iam2Verdict (keysIn (now (keys .entry))) held (now (message .entry)))
+        (iam2Purpose (keysIn (now (keys .entry))) held (now (message .entry))) r ⌝ }
 {
     let f = iam2_of(message);
-    let found = records::find(setup, held.keyid);
+    let found = keytable::find(keys, held.keyid);
     let key = found.key;
     let enc = key.enc;
     let iresponse = f.iresponse;
@@ -190,12 +192,12 @@ pub fn iam2(setup: Setup, held: Session, message: &[u8]) -> Reacted
 /// MAM2 (9.6.5, 9.6.6).
 ///
 /// Ruled out: the last 32 bits of the reader's challenge not looked at; three RFU bits of four.
-pub fn mam2(setup: Setup, held: Session, message: &[u8]) -> Reacted
-    ensures { λ r. ⌜ LetsIn (mam2Verdict setup held (now (message .entry)))
-        (mam2Purpose setup held (now (message .entry))) r ⌝ }
+pub fn mam2(keys: &[u8], held: Session, message: &[u8]) -> Reacted
+    ensures { λ r. ⌜ LetsIn (mam2Verdict (keysIn (now (keys .entry))) held (now (message .entry)))
+        (mam2Purpose (keysIn (now (keys .entry))) held (now (message .entry))) r ⌝ }
 {
     let f = mam2_of(message);
-    let found = records::find(setup, held.keyid);
+    let found = keytable::find(keys, held.keyid);
     let key = found.key;
     let enc = key.enc;
     let iresponse = f.iresponse;
@@ -212,29 +214,31 @@ pub fn mam2(setup: Setup, held: Session, message: &[u8]) -> Reacted
 ///
 /// Ruled out: words written before all is judged; words that are never written.
 pub fn iam3(
-    setup: Setup,
+    terms: Terms,
+    keys: &[u8],
     held: Session,
     message: &[u8],
     identity: &mut [u8],
     user: &mut [u8],
 ) -> Reacted
-    ensures { λ r. ⌜ Writes (iam3Verdict setup held (now (message .entry)))
-        (iam3Purpose setup held (now (message .entry))) (iam3Stored setup held (now (message .entry)))
+    ensures { λ r. ⌜ Writes (iam3Verdict (setupOf terms (now (keys .entry))) held (now (message .entry)))
+        (iam3Purpose (setupOf terms (now (keys .entry))) held (now (message .entry))) (iam3Stored (setupOf terms (now (keys .entry))) held (now (message .entry)))
         (now (identity .entry)) (now (user .entry)) r (now (identity .exit)) (now (user .exit)) ⌝ }
 {
-    let found = records::find(setup, held.keyid);
+    let found = keytable::find(keys, held.keyid);
     let key = found.key;
-    let verdict = judged::iam3_fields(setup, key, message);
+    let verdict = judged::iam3_fields(terms, key, message);
     if let Verdict::Wrong(fault) = verdict {
         return refused(fault);
     }
     let f = iam3_of(message);
     let custom = f.custom;
+    let profiles = terms.profiles;
     opened::iam3(
         key,
         held,
         f,
-        records::words_asked(setup, custom),
+        records::words_asked(profiles, custom),
         message,
         identity,
         user,

@@ -4,7 +4,6 @@ use Prim.Native.Nat.{ℕ}
 use Rattle.ground.specs.OneAnswer.{OneAnswer, one}
 use Rattle.memory.specs.declared.Block.{Block}
 use Rattle.sheet.specs.declared.Slot.{Slot}
-use Rattle.offer.specs.declared.records.Found.{Found}
 use Rattle.offer.specs.declared.Verdict.{Verdict}
 use Rattle.offer.proofs.number.Reads as number
 use Rattle.offer.proofs.number.Kinds as number-kinds
@@ -18,8 +17,6 @@ use Rattle.offer.proofs.records.rev_offered.Reads as rev-offered
 use Rattle.offer.proofs.records.rev_offered.Kinds as rev-offered-kinds
 use Rattle.offer.proofs.records.mode_supported.Reads as mode-supported
 use Rattle.offer.proofs.records.mode_supported.Kinds as mode-supported-kinds
-use Rattle.offer.proofs.records.find.Reads as find
-use Rattle.offer.proofs.records.find.Kinds as find-kinds
 use Rattle.offer.proofs.records.slot.Reads as slot
 use Rattle.offer.proofs.records.slot.Kinds as slot-kinds
 use Rattle.offer.proofs.records.block_asked.Reads as block-asked
@@ -50,9 +47,6 @@ pub mode-supported-one : OneAnswer 0 mode-supported-kinds.ps mode-supported-kind
     (λ κs r s. r)
 mode-supported-one κs a x y s t p q = one p q
 
-pub find-one : OneAnswer 0 find-kinds.ps find-kinds.r find.Post Found (λ κs r s. r)
-find-one κs a x y s t p q = λ j. record { present = one (p .0) (q .0) j; key = one (p .1) (q .1) j }
-
 pub slot-one : OneAnswer 0 slot-kinds.ps slot-kinds.r slot.Post Slot (λ κs r s. r)
 slot-one κs a x y s t p q = one p q
 
@@ -65,5 +59,5 @@ words-asked-one κs a x y s t p q = one p q
 pub bench-one : OneAnswer 0 bench-kinds.ps bench-kinds.r bench.Post Verdict (λ κs r s. r)
 bench-one κs a x y s t p q = one p q
 
-pub opening-one : OneAnswer 1 opening-kinds.ps opening-kinds.r opening.Post Verdict (λ κs r s. r)
+pub opening-one : OneAnswer 2 opening-kinds.ps opening-kinds.r opening.Post Verdict (λ κs r s. r)
 opening-one κs a x y s t p q = one p q

@@ -1,4 +1,3 @@
-pub mod KeySearch
 pub mod Lines
 pub mod Named
 pub mod Passed

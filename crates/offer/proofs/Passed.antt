@@ -9,7 +9,7 @@ use borrow.Author.Tests.{eqb-true, leb-true, ltb-true, ltb-false, ne-eqb}
 use Rattle.ground.specs.Choice.{both}
 use Rattle.sheet.specs.declared.Features.{Features}
 use Rattle.sheet.specs.declared.Key.{Key}
-use Rattle.sheet.specs.declared.Setup.{Setup}
+use Rattle.sheet.specs.declared.Sizes.{Sizes}
 use Rattle.frames.specs.declared.Kind.{Kind}
 use Rattle.frames.specs.Lengths.{lengthFits, replyRoom}
 use Rattle.offer.specs.declared.Verdict.the-variants.{Fine}
@@ -35,7 +35,8 @@ module _ (f : Features) (key : Key) (p : ℕ) (h : modeSupported f key p ≡ tru
   mode-below = tested (ltb p 4) refl
 
 -- The bench: the draws and the room.
-module _ (setup : Setup) (draws room identity user : ℕ) (h : judged (benchChecks setup draws room identity user) ≡ Fine) where
+module _ (sizes : Sizes) (draws room identity user : ℕ)
+    (h : judged (benchChecks sizes draws room identity user) ≡ Fine) where
   pub bench-draws : draws ≡ drawBytes
   unfolding benchChecks
   bench-draws = eqb-true _ _ (first-holds _ _ h)
@@ -45,11 +46,12 @@ module _ (setup : Setup) (draws room identity user : ℕ) (h : judged (benchChec
   bench-room = leb-true _ _ (first-holds _ _ (others-hold _ _ h))
 
 -- TAM1, IAM1, MAM1: the length and the record.
-module _ (kind : Kind) (rfu keyid : ℕ) (setup : Setup) (m : List ℕ) (h : judged (openingChecks kind rfu keyid setup m) ≡ Fine) where
+module _ (kind : Kind) (rfu keyid : ℕ) (keys : List Key) (m : List ℕ)
+    (h : judged (openingChecks kind rfu keyid keys m) ≡ Fine) where
   pub opening-length : lengthFits kind m ≡ true
   unfolding openingChecks
   opening-length = first-holds _ _ h
 
-  pub opening-key : keyPresent setup keyid ≡ true
+  pub opening-key : keyPresent keys keyid ≡ true
   unfolding openingChecks
   opening-key = first-holds _ _ (others-hold _ _ (others-hold _ _ h))

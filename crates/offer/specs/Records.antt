@@ -11,7 +11,7 @@ use Rattle.memory.specs.declared.Block.{Block}
 use Rattle.sheet.specs.declared.Features.{Features}
 use Rattle.sheet.specs.declared.Key.{Key}
 use Rattle.sheet.specs.declared.Slot.{Slot}
-use Rattle.sheet.specs.declared.Setup.{Setup}
+use Rattle.sheet.specs.Setups.{Setup}
 use Rattle.sheet.specs.Setups.{noKey, noSlot}
 use Rattle.frames.specs.declared.Kind.{Kind}
 use Rattle.frames.specs.declared.Kind.the-variants.{Tam1, Tam2, Iam1, Iam2, Iam3, Mam1, Mam2, Unsupported}
@@ -52,29 +52,10 @@ modeOffered f protmode =
 unfoldable pub modeSupported : Features → Key → ℕ → Bool
 modeSupported f key protmode = both (modeOffered f protmode) (implies (hasMac protmode) (key .mac))
 
--- Table 27: a record has the KeyID; and the record that has it, an empty one where none does.
-unfoldable pub hasKey : ℕ → List Key → Bool
-hasKey keyid [] = false
-hasKey keyid (k ∷ ks) = either (eqb (k .id) keyid) (hasKey keyid ks)
-
-unfoldable pub keyOf : ℕ → List Key → Key
-keyOf keyid [] = noKey
-keyOf keyid (k ∷ ks) = pick (eqb (k .id) keyid) k (keyOf keyid ks)
-
--- The records in use.
-unfoldable pub keysOf : Setup → List Key
-keysOf setup = take (setup .keys .count) (setup .keys .table)
-
-abbrev pub keyPresent : Setup → ℕ → Bool
-keyPresent setup keyid = hasKey keyid (keysOf setup)
-
-abbrev pub keyNamed : Setup → ℕ → Key
-keyNamed setup keyid = keyOf keyid (keysOf setup)
-
 -- The slot of a profile's number.
-unfoldable pub slotNamed : Setup → ℕ → Slot
-slotNamed setup profile = getD (setup .profiles) profile noSlot
+unfoldable pub slotNamed : List Slot → ℕ → Slot
+slotNamed profiles profile = getD profiles profile noSlot
 
 -- 9.2: the words that a message asks for, in the profile of its number.
-unfoldable pub blockAsked : Setup → Custom → Block
-blockAsked setup c = wordsAsked (slotNamed setup (c .profile) .profile) c
+unfoldable pub blockAsked : List Slot → Custom → Block
+blockAsked profiles c = wordsAsked (slotNamed profiles (c .profile) .profile) c

@@ -8,22 +8,13 @@ use memory::Profile;
 use memory::Word;
 use sheet::Features;
 use sheet::Key;
-use sheet::Keys;
-use sheet::Setup;
 use sheet::Slot;
 ghost use mathlib.Core.Path.{_≡_};
-ghost use mathlib.Core.Bool.{false};
-ghost use lib.ListN.{take, getD};
+ghost use lib.ListN.{getD};
 ghost use Rattle.frames.specs.Asked.{blockAsked as blockIn};
-ghost use Rattle.sheet.specs.Setups.{noKey, noSlot};
+ghost use Rattle.sheet.specs.Setups.{noSlot};
 ghost use Rattle.offer.specs.Records.{offered, sizeOffered, revOffered, modeOffered, modeSupported};
-ghost use Rattle.offer.specs.Records.{hasKey, keyOf, keyPresent, keyNamed, blockAsked};
-
-/// The record of a KeyID: whether there is one, and the record, all zero where there is none.
-pub struct Found {
-    pub present: bool,
-    pub key: Key,
-}
+ghost use Rattle.offer.specs.Records.{blockAsked};
 
 /// Whether the tag has the message's method, step and feature.
 ///
@@ -101,53 +92,6 @@ pub fn mode_supported(f: Features, key: Key, protmode: u8) -> bool
     true
 }
 
-// What is found where no record has the KeyID.
-fn absent() -> Found
-    ensures { λ r. ⌜ (r .present ≡ false) × (r .key ≡ noKey) ⌝ }
-{
-    Found {
-        present: false,
-        key: Key {
-            id: 0,
-            mac: false,
-            mpi: 0,
-            enc: [0u8; 16],
-            mackey: [0u8; 16],
-        },
-    }
-}
-
-// The first record in use that has the KeyID.
-fn look_up(keys: Keys, keyid: u8) -> Found
-    ensures { λ r. ⌜ (r .present ≡ hasKey keyid (take (keys .count) (keys .table)))
-        × (r .key ≡ keyOf keyid (take (keys .count) (keys .table))) ⌝ }
-{
-    let count = keys.count;
-    let table = keys.table;
-    let mut i = 0;
-    while i < 16 {
-        if count <= i {
-            return absent();
-        }
-        let key = table[i];
-        if key.id == keyid {
-            return Found { present: true, key };
-        }
-        i += 1;
-    }
-    absent()
-}
-
-/// The record that a message names, or that the tag holds.
-///
-/// Ruled out: an entry that no record filled, taken for KeyID 0; a last record that is never found.
-pub fn find(setup: Setup, keyid: u8) -> Found
-    ensures { λ r. ⌜ (r .present ≡ keyPresent setup keyid) × (r .key ≡ keyNamed setup keyid) ⌝ }
-{
-    let keys = setup.keys;
-    look_up(keys, keyid)
-}
-
 // The slot that no record filled.
 fn no_slot() -> Slot
     ensures { λ r. ⌜ r ≡ noSlot ⌝ }
@@ -188,9 +132,8 @@ pub fn block_asked(slot: Slot, custom: Custom) -> Block
 /// The words that a message asks for in the profile of its number (9.2).
 ///
 /// Ruled out: the words of the next profile; an address that starts at the area and not at the profile.
-pub fn words_asked(setup: Setup, custom: Custom) -> Block
-    ensures { λ r. ⌜ r ≡ blockAsked setup custom ⌝ }
+pub fn words_asked(profiles: [Slot; 16], custom: Custom) -> Block
+    ensures { λ r. ⌜ r ≡ blockAsked profiles custom ⌝ }
 {
-    let profiles = setup.profiles;
     block_asked(slot(profiles, custom.profile), custom)
 }

@@ -8,7 +8,7 @@ use Rattle.modes.proofs.Rooms.{copied}
 use Rattle.memory.specs.declared.Block.{Block}
 use Rattle.memory.specs.Areas.{windowOf}
 use Rattle.sheet.specs.declared.Key.{Key}
-use Rattle.sheet.specs.declared.Setup.{Setup}
+use Rattle.sheet.specs.Setups.{Setup}
 use Rattle.frames.specs.declared.Kind.the-variants.{Tam1}
 use Rattle.frames.specs.declared.Tam1.{Tam1 as Tam1Fields}
 use Rattle.frames.specs.declared.Tam2.{Tam2 as Tam2Fields}
@@ -45,25 +45,26 @@ module _ (v : Verdict) (reply : List ℕ) (g : Given) where
     reply = h ∙ ap (λ (w : Verdict). over (sent w reply) zeros) (sym e);
   }
 
-module _ (setup : Setup) (m draws : List ℕ) (v : Verdict) where
+module _ (keys : List Key) (m draws : List ℕ) (v : Verdict) where
   -- TAM1
-  module _ (f : Tam1Fields) (e : f ≡ tam1Of m) (w : v ≡ judged (openingChecks Tam1 (f .rfu) (f .keyid) setup m)) where
-    tam1-judged : tam1Verdict setup m ≡ v
-    tam1-judged = sym (w ∙ (λ j. judged (openingChecks Tam1 (e j .rfu) (e j .keyid) setup m)))
+  module _ (f : Tam1Fields) (e : f ≡ tam1Of m) (w : v ≡ judged (openingChecks Tam1 (f .rfu) (f .keyid) keys m)) where
+    tam1-judged : tam1Verdict keys m ≡ v
+    tam1-judged = sym (w ∙ (λ j. judged (openingChecks Tam1 (e j .rfu) (e j .keyid) keys m)))
 
     pub tam1-wrong : (fault : Fault) (g : Given) → v ≡ Wrong fault → (g .outcome ≡ Refused fault) × (g .reply ≡ zeros)
-        → Gives (tam1Verdict setup m) (tam1Sent setup m draws) g
+        → Gives (tam1Verdict keys m) (tam1Sent keys m draws) g
     tam1-wrong fault g x t = refuses _ _ g fault (tam1-judged ∙ x) t
 
-    pub tam1-fine : (k : Key) (block after : List ℕ) → v ≡ Fine → k ≡ keyNamed setup (f .keyid)
+    pub tam1-fine : (k : Key) (block after : List ℕ) → v ≡ Fine → k ≡ keyNamed keys (f .keyid)
         → block ≡ tam1Reply k f draws → after ≡ take (length block) block ++ drop (length block) zeros
-        → Gives (tam1Verdict setup m) (tam1Sent setup m draws) (record { outcome = Replied 16; reply = after })
+        → Gives (tam1Verdict keys m) (tam1Sent keys m draws) (record { outcome = Replied 16; reply = after })
     tam1-fine k block after x ke re h =
-        let full : k ≡ keyNamed setup (tam1Of m .keyid) = ke ∙ (λ j. keyNamed setup (e j .keyid)) in
-        let made : block ≡ tam1Sent setup m draws = re ∙ (λ j. tam1Reply (full j) (e j) draws) in
+        let full : k ≡ keyNamed keys (tam1Of m .keyid) = ke ∙ (λ j. keyNamed keys (e j .keyid)) in
+        let made : block ≡ tam1Sent keys m draws = re ∙ (λ j. tam1Reply (full j) (e j) draws) in
         gives _ _ _ (tam1-judged ∙ x) (ap Replied (sym (tam1-long _ (tam1Of m) draws)))
         (copied block zeros after h ∙ ap (λ (l : List ℕ). over l zeros) made)
 
+module _ (setup : Setup) (m draws : List ℕ) (v : Verdict) where
   -- TAM2
   module _ (i u : List ℕ) (w : v ≡ tam2Verdict setup m) where
     pub tam2-wrong : (fault : Fault) (g : Given) → v ≡ Wrong fault → (g .outcome ≡ Refused fault) × (g .reply ≡ zeros)
@@ -71,13 +72,13 @@ module _ (setup : Setup) (m draws : List ℕ) (v : Verdict) where
     tam2-wrong fault g x t = refuses _ _ g fault (sym w ∙ x) t
 
     pub tam2-fine : (f : Tam2Fields) (k : Key) (b : Block) (words after : List ℕ) (n : ℕ) → v ≡ Fine → f ≡ tam2Of m
-        → k ≡ keyNamed setup (f .keyid) → b ≡ blockAsked setup (f .custom) → words ≡ windowOf i u b
+        → k ≡ keyNamed (setup .keys) (f .keyid) → b ≡ blockAsked (setup .profiles) (f .custom) → words ≡ windowOf i u b
         → n ≡ length (tam2Reply k f words draws) → after ≡ over (tam2Reply k f words draws) zeros
         → Gives (tam2Verdict setup m) (tam2Sent setup m draws i u) (record { outcome = Replied n; reply = after })
     tam2-fine f k b words after n x e ke be we ne h =
-        let full : k ≡ keyNamed setup (tam2Of m .keyid) = ke ∙ (λ j. keyNamed setup (e j .keyid)) in
-        let block : b ≡ blockAsked setup (tam2Of m .custom) = be ∙ (λ j. blockAsked setup (e j .custom)) in
-        let asked : words ≡ windowOf i u (blockAsked setup (tam2Of m .custom)) = we ∙ ap (windowOf i u) block in
+        let full : k ≡ keyNamed (setup .keys) (tam2Of m .keyid) = ke ∙ (λ j. keyNamed (setup .keys) (e j .keyid)) in
+        let block : b ≡ blockAsked (setup .profiles) (tam2Of m .custom) = be ∙ (λ j. blockAsked (setup .profiles) (e j .custom)) in
+        let asked : words ≡ windowOf i u (blockAsked (setup .profiles) (tam2Of m .custom)) = we ∙ ap (windowOf i u) block in
         let made : tam2Reply k f words draws ≡ tam2Sent setup m draws i u =
         λ j. tam2Reply (full j) (e j) (asked j) draws in
         gives _ _ _ (sym w ∙ x) (ap Replied (ne ∙ ap length made)) (h ∙ ap (λ (l : List ℕ). over l zeros) made)

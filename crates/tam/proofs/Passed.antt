@@ -6,7 +6,7 @@ use mathlib.Core.List.{List}
 use lib.ListN.{length}
 use borrow.Author.Tests.{eqb-true, not-true}
 use Rattle.memory.specs.Address.{overruns}
-use Rattle.sheet.specs.declared.Setup.{Setup}
+use Rattle.sheet.specs.Setups.{Setup}
 use Rattle.frames.specs.Messages.{tam2Of}
 use Rattle.frames.specs.Lengths.{tam2Length, lengthFits}
 use Rattle.offer.specs.declared.Verdict.the-variants.{Fine}
@@ -20,17 +20,17 @@ module _ (setup : Setup) (m : List ℕ) (h : judged (tam2Checks setup m) ≡ Fin
   unfolding tam2Checks lengthFits
   tam2-length = eqb-true _ _ (first-holds _ _ h)
 
-  pub tam2-key : keyPresent setup (tam2Of m .keyid) ≡ true
+  pub tam2-key : keyPresent (setup .keys) (tam2Of m .keyid) ≡ true
   unfolding tam2Checks
   tam2-key = first-holds _ _ (others-hold _ _ (others-hold _ _ (others-hold _ _ (others-hold _ _ h))))
 
-  pub tam2-inside : overruns (slotNamed setup (tam2Of m .custom .profile) .profile) (blockAsked setup (tam2Of m .custom)) ≡ false
+  pub tam2-inside : overruns (slotNamed (setup .profiles) (tam2Of m .custom .profile) .profile) (blockAsked (setup .profiles) (tam2Of m .custom)) ≡ false
   unfolding tam2Checks
   tam2-inside =
       let k = others-hold _ _ (others-hold _ _ (others-hold _ _ (others-hold _ _ h))) in
       not-true _ (first-holds _ _ (others-hold _ _ (others-hold _ _ (others-hold _ _ k))))
 
-  pub tam2-mode : modeSupported (setup .features) (keyNamed setup (tam2Of m .keyid)) (tam2Of m .protmode) ≡ true
+  pub tam2-mode : modeSupported (setup .features) (keyNamed (setup .keys) (tam2Of m .keyid)) (tam2Of m .protmode) ≡ true
   unfolding tam2Checks
   tam2-mode =
       let k = others-hold _ _ (others-hold _ _ (others-hold _ _ (others-hold _ _ h))) in

@@ -12,7 +12,7 @@ use Rattle.memory.specs.declared.Area.the-variants.{Identity, User}
 use Rattle.memory.specs.declared.Block.{Block}
 use Rattle.memory.specs.Areas.{byteCount, firstByte, areaOf, within, partOf, windowOf}
 use Rattle.modes.proofs.Whole.{bytes-take}
-use Rattle.sheet.specs.declared.Setup.{Setup}
+use Rattle.sheet.specs.declared.Slot.{Slot}
 use Rattle.frames.specs.declared.Custom.{Custom}
 use Rattle.frames.specs.Blocks.{dataLength}
 use Rattle.frames.specs.Fields.{byte, sizeOf, customFits}
@@ -50,12 +50,12 @@ window-most identity user b =
     let area = areaOf (b .area) identity user in
     cond-most (within b area) (take (byteCount b) (drop (firstByte b) area)) (byteCount b) (take-most (byteCount b) (drop (firstByte b) area))
 
-pub asked-bytes : (setup : Setup) (c : Custom) → byteCount (blockAsked setup c) ≡ dataLength (c .blocksize) (c .blockcount)
+pub asked-bytes : (profiles : List Slot) (c : Custom) → byteCount (blockAsked profiles c) ≡ dataLength (c .blocksize) (c .blockcount)
 unfolding blockAsked
-asked-bytes setup c = sym (words-bytes-asked (slotNamed setup (c .profile) .profile) c)
+asked-bytes profiles c = sym (words-bytes-asked (slotNamed profiles (c .profile) .profile) c)
 
-pub words-most : (setup : Setup) (c : Custom) (identity user : List ℕ) → length (windowOf identity user (blockAsked setup c)) ≤ dataLength (c .blocksize) (c .blockcount)
-words-most setup c identity user = omega (arith, window-most identity user (blockAsked setup c), asked-bytes setup c)
+pub words-most : (profiles : List Slot) (c : Custom) (identity user : List ℕ) → length (windowOf identity user (blockAsked profiles c)) ≤ dataLength (c .blocksize) (c .blockcount)
+words-most profiles c identity user = omega (arith, window-most identity user (blockAsked profiles c), asked-bytes profiles c)
 
 cond-bytes : (b : Bool) (s : List ℕ) → Bytes s → Bytes (cond b s [])
 cond-bytes true s h = h
@@ -74,6 +74,6 @@ words-bytes b identity user h k =
     (bytes-take (byteCount b) (drop (firstByte b) area) (drop-bytes (firstByte b) area (area-bytes (b .area) identity user h k)))
 
 -- the same of the words that the code has
-pub words-fit : (setup : Setup) (c : Custom) (identity user : List ℕ) {b : Block} {words : List ℕ} → b ≡ blockAsked setup c → words ≡ windowOf identity user b
+pub words-fit : (profiles : List Slot) (c : Custom) (identity user : List ℕ) {b : Block} {words : List ℕ} → b ≡ blockAsked profiles c → words ≡ windowOf identity user b
     → length words ≤ dataLength (c .blocksize) (c .blockcount)
-words-fit setup c identity user e w = subst (λ (l : List ℕ). length l ≤ dataLength (c .blocksize) (c .blockcount)) (sym (w ∙ ap (windowOf identity user) e)) (words-most setup c identity user)
+words-fit profiles c identity user e w = subst (λ (l : List ℕ). length l ≤ dataLength (c .blocksize) (c .blockcount)) (sym (w ∙ ap (windowOf identity user) e)) (words-most profiles c identity user)

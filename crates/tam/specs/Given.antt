@@ -5,7 +5,8 @@ use mathlib.Core.List.{List}
 use lib.ListN.{replicate}
 use Rattle.modes.specs.Room.{over}
 use Rattle.memory.specs.Areas.{windowOf}
-use Rattle.sheet.specs.declared.Setup.{Setup}
+use Rattle.sheet.specs.declared.Key.{Key}
+use Rattle.sheet.specs.Setups.{Setup}
 use Rattle.frames.specs.declared.Kind.the-variants.{Tam1}
 use Rattle.frames.specs.Lengths.{replyRoom}
 use Rattle.frames.specs.Messages.{tam1Of, tam2Of}
@@ -19,11 +20,11 @@ use Rattle.tam.specs.Judged.{tam2Checks}
 use Rattle.tam.specs.Replies.{tam1Reply, tam2Reply}
 
 -- 9.4.2, 9.4.3
-abbrev pub tam1Verdict : Setup → List ℕ → Verdict
-tam1Verdict setup m = let f = tam1Of m in judged (openingChecks Tam1 (f .rfu) (f .keyid) setup m)
+abbrev pub tam1Verdict : List Key → List ℕ → Verdict
+tam1Verdict keys m = let f = tam1Of m in judged (openingChecks Tam1 (f .rfu) (f .keyid) keys m)
 
-abbrev pub tam1Sent : Setup → List ℕ → List ℕ → List ℕ
-tam1Sent setup m draws = let f = tam1Of m in tam1Reply (keyNamed setup (f .keyid)) f draws
+abbrev pub tam1Sent : List Key → List ℕ → List ℕ → List ℕ
+tam1Sent keys m draws = let f = tam1Of m in tam1Reply (keyNamed keys (f .keyid)) f draws
 
 -- 9.4.5, 9.4.6: the words are those of the block that the message names.
 abbrev pub tam2Verdict : Setup → List ℕ → Verdict
@@ -32,7 +33,7 @@ tam2Verdict setup m = judged (tam2Checks setup m)
 abbrev pub tam2Sent : Setup → List ℕ → List ℕ → List ℕ → List ℕ → List ℕ
 tam2Sent setup m draws identity user =
     let f = tam2Of m in
-    tam2Reply (keyNamed setup (f .keyid)) f (windowOf identity user (blockAsked setup (f .custom))) draws
+    tam2Reply (keyNamed (setup .keys) (f .keyid)) f (windowOf identity user (blockAsked (setup .profiles) (f .custom))) draws
 
 -- What is given: the outcome, and the bytes that are sent over zeros.
 pub record Gives (v : Verdict) (bytes : List ℕ) (g : Given) : Type 0 where

@@ -11,7 +11,7 @@ use Rattle.memory.specs.declared.Block.{Block}
 use Rattle.sheet.specs.declared.Features.{Features}
 use Rattle.sheet.specs.declared.Key.{Key}
 use Rattle.sheet.specs.declared.Slot.{Slot}
-use Rattle.sheet.specs.declared.Setup.{Setup}
+use Rattle.sheet.specs.Setups.{Setup}
 use Rattle.frames.specs.declared.Kind.the-variants.{Tam2}
 use Rattle.frames.specs.declared.Tam2.{Tam2 as Tam2Fields}
 use Rattle.frames.specs.Lengths.{lengthFits}
@@ -35,9 +35,9 @@ tam2FieldChecks setup f =
     (sizeOffered (setup .features) (f .custom .blocksize) else NotSupported)
     ∷ (revOffered (setup .features) (f .rev) else NotSupported)
     ∷ (eqb (f .rfu) 0 else NotSupported)
-    ∷ (keyPresent setup (f .keyid) else NotSupported)
-    ∷ tam2BlockChecks (setup .features) (keyNamed setup (f .keyid)) f (slotNamed setup (f .custom .profile))
-    (blockAsked setup (f .custom))
+    ∷ (keyPresent (setup .keys) (f .keyid) else NotSupported)
+    ∷ tam2BlockChecks (setup .features) (keyNamed (setup .keys) (f .keyid)) f (slotNamed (setup .profiles) (f .custom .profile))
+    (blockAsked (setup .profiles) (f .custom))
 
 unfoldable pub tam2Checks : Setup → List ℕ → List (Check Fault)
 tam2Checks setup m = (lengthFits Tam2 m else OtherError) ∷ tam2FieldChecks setup (tam2Of m)

@@ -9,9 +9,10 @@ use offer::Verdict;
 use offer::records;
 use sheet::Features;
 use sheet::Key;
-use sheet::Setup;
 use sheet::Slot;
+use sheet::Terms;
 ghost use mathlib.Core.Path.{_≡_};
+ghost use Rattle.sheet.specs.Setups.{setupOf};
 ghost use Rattle.offer.specs.Checks.{judged};
 ghost use Rattle.tam.specs.Judged.{tam2BlockChecks, tam2FieldChecks, tam2Checks};
 
@@ -36,12 +37,12 @@ fn tam2_block(features: Features, key: Key, f: Tam2, slot: Slot, block: Block) -
 }
 
 // TAM2, all but the length: BlockSize, Rev, RFU, key, and the block.
-fn tam2_fields(setup: Setup, f: Tam2) -> Verdict
-    ensures { λ r. ⌜ r ≡ judged (tam2FieldChecks setup f) ⌝ }
+fn tam2_fields(terms: Terms, keys: &[u8], f: Tam2) -> Verdict
+    ensures { λ r. ⌜ r ≡ judged (tam2FieldChecks (setupOf terms (now (keys .entry))) f) ⌝ }
 {
     let custom = f.custom;
     let size = custom.blocksize;
-    let features = setup.features;
+    let features = terms.features;
     if !records::size_offered(features, size) {
         return Verdict::Wrong(Fault::NotSupported);
     }
@@ -51,23 +52,23 @@ fn tam2_fields(setup: Setup, f: Tam2) -> Verdict
     if f.rfu != 0 {
         return Verdict::Wrong(Fault::NotSupported);
     }
-    let found = records::find(setup, f.keyid);
+    let found = keytable::find(keys, f.keyid);
     if !found.present {
         return Verdict::Wrong(Fault::NotSupported);
     }
     let key = found.key;
-    let profiles = setup.profiles;
+    let profiles = terms.profiles;
     let slot = records::slot(profiles, custom.profile);
     tam2_block(features, key, f, slot, records::block_asked(slot, custom))
 }
 
 // TAM2: length, BlockSize, Rev, RFU, key, profile, right, memory, ProtMode.
 // Ruled out: a ProtMode told before a block past its profile; a record that may not use the profile.
-pub fn tam2(setup: Setup, m: &[u8]) -> Verdict
-    ensures { λ r. ⌜ r ≡ judged (tam2Checks setup (now (m .entry))) ⌝ }
+pub fn tam2(terms: Terms, keys: &[u8], m: &[u8]) -> Verdict
+    ensures { λ r. ⌜ r ≡ judged (tam2Checks (setupOf terms (now (keys .entry))) (now (m .entry))) ⌝ }
 {
     if !length_fits(Kind::Tam2, m) {
         return Verdict::Wrong(Fault::OtherError);
     }
-    tam2_fields(setup, tam2_of(m))
+    tam2_fields(terms, keys, tam2_of(m))
 }

@@ -6,9 +6,11 @@ use offer::Fault;
 use offer::Outcome;
 use offer::Verdict;
 use offer::records;
-use sheet::Setup;
+use sheet::Terms;
 ghost use mathlib.Core.Path.{_≡_};
 ghost use lib.ListN.{replicate};
+ghost use Rattle.sheet.specs.KeyTable.{keysIn};
+ghost use Rattle.sheet.specs.Setups.{setupOf};
 ghost use Rattle.frames.specs.Lengths.{replyRoom};
 ghost use Rattle.tam.specs.Given.{Gives, tam1Verdict, tam1Sent, tam2Verdict, tam2Sent};
 
@@ -34,16 +36,16 @@ fn refused(fault: Fault) -> Given
 /// TAM1 (9.4.2, 9.4.3).
 ///
 /// Ruled out: one fixed reply; a reply of another length.
-pub fn tam1(setup: Setup, message: &[u8], draws: [u8; 10]) -> Given
-    ensures { λ r. ⌜ Gives (tam1Verdict setup (now (message .entry)))
-        (tam1Sent setup (now (message .entry)) draws) r ⌝ }
+pub fn tam1(keys: &[u8], message: &[u8], draws: [u8; 10]) -> Given
+    ensures { λ r. ⌜ Gives (tam1Verdict (keysIn (now (keys .entry))) (now (message .entry)))
+        (tam1Sent (keysIn (now (keys .entry))) (now (message .entry)) draws) r ⌝ }
 {
     let f = tam1_of(message);
-    let verdict = offer::judged::opening(setup, Kind::Tam1, f.rfu, f.keyid, message);
+    let verdict = offer::judged::opening(keys, Kind::Tam1, f.rfu, f.keyid, message);
     if let Verdict::Wrong(fault) = verdict {
         return refused(fault);
     }
-    let found = records::find(setup, f.keyid);
+    let found = keytable::find(keys, f.keyid);
     let key = found.key;
     let block = replies::tam1_reply(key, f, draws);
     let mut reply = [0u8; 172];
@@ -58,24 +60,26 @@ pub fn tam1(setup: Setup, message: &[u8], draws: [u8; 10]) -> Given
 ///
 /// Ruled out: words of the other area; a made-up length.
 pub fn tam2<'a>(
-    setup: Setup,
+    terms: Terms,
+    keys: &[u8],
     message: &[u8],
     draws: [u8; 10],
     identity: &'a [u8],
     user: &'a [u8],
 ) -> Given
-    ensures { λ r. ⌜ Gives (tam2Verdict setup (now (message .entry)))
-        (tam2Sent setup (now (message .entry)) draws (now (identity .entry)) (now (user .entry))) r ⌝ }
+    ensures { λ r. ⌜ Gives (tam2Verdict (setupOf terms (now (keys .entry))) (now (message .entry)))
+        (tam2Sent (setupOf terms (now (keys .entry))) (now (message .entry)) draws (now (identity .entry)) (now (user .entry))) r ⌝ }
 {
-    let verdict = judged::tam2(setup, message);
+    let verdict = judged::tam2(terms, keys, message);
     if let Verdict::Wrong(fault) = verdict {
         return refused(fault);
     }
     let f = tam2_of(message);
-    let found = records::find(setup, f.keyid);
+    let found = keytable::find(keys, f.keyid);
     let key = found.key;
     let custom = f.custom;
-    let words = memory::window(identity, user, records::words_asked(setup, custom));
+    let profiles = terms.profiles;
+    let words = memory::window(identity, user, records::words_asked(profiles, custom));
     let mut reply = [0u8; 172];
     let n = replies::tam2_reply(key, f, words, draws, &mut reply);
     Given {

@@ -1,6 +1,7 @@
 -- `entry::iam1` meets its contract.
 use Rattle.field.proofs.Arrays.{array-length}
 use Rattle.entry.proofs.Challenging.{iam1-wrong, iam1-fine}
+use Rattle.sheet.specs.KeyTable.{keysIn}
 use borrow.Author.Needs.{needs}
 use Rattle.entry.proofs.iam1.Statement.{statement}
 use Rattle.entry.proofs.iam1.Tie as tie
@@ -24,7 +25,7 @@ returns c =
     let c5 = c4 .before in
     let c7 = c5 .before .before in
     let a = c7 .args in
-    iam1-wrong (a .setup) (a .message .now) (a .t3) _ _ (c5 .iam1-of .ensures) (c4 .opening .ensures) _ _
+    iam1-wrong (keysIn (a .keys .now)) (a .message .now) (a .t3) _ _ (c5 .iam1-of .ensures) (c4 .opening .ensures) _ _
     (c2 .verdict .given .1) (c .unchallenged .ensures)
 
 enum-told : tie.Need-enum-told
@@ -47,7 +48,7 @@ returns-2 c =
     let c7 = c6 .before in
     let c9 = c7 .before .before in
     let a = c9 .args in
-    iam1-fine (a .setup) (a .message .now) (a .t3) _ _ (c7 .iam1-of .ensures) (c6 .opening .ensures) _
+    iam1-fine (keysIn (a .keys .now)) (a .message .now) (a .t3) _ _ (c7 .iam1-of .ensures) (c6 .opening .ensures) _
     (array-length 10 (a .t3) _ (c9 .good .1 .1 .0)) (c4 .enum-told .given .1) (c1 .copy .ensures .1)
 
 pub iam1-spec : {M : Type 1} → statement M

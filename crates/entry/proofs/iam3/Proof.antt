@@ -1,5 +1,6 @@
 -- `entry::iam3` meets its contract.
 use Rattle.entry.proofs.Giving.{iam3-refused, iam3-whole, iam3-settled}
+use Rattle.sheet.specs.Setups.{setupOf}
 use borrow.Author.Needs.{needs}
 use Rattle.entry.proofs.iam3.Statement.{statement}
 use Rattle.entry.proofs.iam3.Tie as tie
@@ -23,7 +24,7 @@ returns c =
     let c6 = c4 .before .before in
     let c10 = c6 .before .before .before .before in
     let a = c10 .args in
-    iam3-refused (a .setup) (a .held) (a .message .now) _ (c6 .find .ensures .1) _ (c4 .iam3-fields .ensures)
+    iam3-refused (setupOf (a .terms) (a .keys .now)) (a .held) (a .message .now) _ (c6 .find .ensures .1) _ (c4 .iam3-fields .ensures)
     (a .identity .now) (a .user .now) _ _ (c2 .verdict .given .1) (c .refused .ensures)
 
 enum-told : tie.Need-enum-told
@@ -44,7 +45,7 @@ iam3-requires c κs =
     let a = c13 .args in
     let fine = c5 .enum-told .given .1 in
     let fields = c4 .iam3-of .ensures in
-    (fields, iam3-whole (a .setup) _ (a .message .now) _ _ (c7 .iam3-fields .ensures) fine fields)
+    (fields, iam3-whole (a .terms) _ (a .message .now) _ _ (c7 .iam3-fields .ensures) fine fields)
 
 same-length : tie.Need-same-length
 same-length c = search needs
@@ -62,7 +63,7 @@ returns-2 c =
     let c14 = c12 .before .before in
     let c18 = c14 .before .before .before .before in
     let a = c18 .args in
-    iam3-settled (a .setup) (a .held) (a .message .now) _ (c14 .find .ensures .1) _ (c12 .iam3-fields .ensures)
+    iam3-settled (setupOf (a .terms) (a .keys .now)) (a .held) (a .message .now) _ (c14 .find .ensures .1) _ (c12 .iam3-fields .ensures)
     (a .identity .now) (a .user .now) _ (c9 .iam3-of .ensures) _ (c7 .words-asked .ensures) _ _ _
     (c10 .enum-told .given .1) (c4 .iam3 .ensures)
 

@@ -1,6 +1,7 @@
 -- `entry::mam1` meets its contract.
 use Rattle.field.proofs.Arrays.{array-length}
 use Rattle.entry.proofs.Challenging.{mam1-wrong, mam1-fine}
+use Rattle.sheet.specs.KeyTable.{keysIn}
 use borrow.Author.Needs.{needs}
 use Rattle.entry.proofs.mam1.Statement.{statement}
 use Rattle.entry.proofs.mam1.Tie as tie
@@ -24,7 +25,7 @@ returns c =
     let c5 = c4 .before in
     let c7 = c5 .before .before in
     let a = c7 .args in
-    mam1-wrong (a .setup) (a .message .now) (a .draws) _ _ (c5 .mam1-of .ensures) (c4 .opening .ensures) _ _
+    mam1-wrong (keysIn (a .keys .now)) (a .message .now) (a .draws) _ _ (c5 .mam1-of .ensures) (c4 .opening .ensures) _ _
     (c2 .verdict .given .1) (c .unchallenged .ensures)
 
 enum-told : tie.Need-enum-told
@@ -57,7 +58,7 @@ returns-2 c =
     let c7 = c6 .before in
     let c9 = c7 .before .before in
     let a = c9 .args in
-    mam1-fine (a .setup) (a .message .now) (a .draws) _ _ (c7 .mam1-of .ensures) (c6 .opening .ensures) _ _
+    mam1-fine (keysIn (a .keys .now)) (a .message .now) (a .draws) _ _ (c7 .mam1-of .ensures) (c6 .opening .ensures) _ _
     (array-length 10 (a .draws) _ (c9 .good .1 .1 .0)) (c4 .enum-told .given .1) (c3 .find .ensures .1)
     (c1 .mam1-reply .ensures)
 

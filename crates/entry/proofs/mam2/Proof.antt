@@ -1,5 +1,6 @@
 -- `entry::mam2` meets its contract.
 use Rattle.entry.proofs.Giving.{mam2-wrong, mam2-fine}
+use Rattle.sheet.specs.KeyTable.{keysIn}
 use borrow.Author.Needs.{needs}
 use Rattle.entry.proofs.mam2.Statement.{statement}
 use Rattle.entry.proofs.mam2.Tie as tie
@@ -35,7 +36,7 @@ returns c =
     let c11 = c10 .before in
     let c13 = c11 .before .before in
     let a = c13 .args in
-    mam2-wrong (a .setup) (a .held) (a .message .now) _ (c10 .find .ensures .1) _ _ _ _ (c11 .mam2-of .ensures)
+    mam2-wrong (keysIn (a .keys .now)) (a .held) (a .message .now) _ (c10 .find .ensures .1) _ _ _ _ (c11 .mam2-of .ensures)
     (c6 .encrypt .ensures) (c5 .mam-proof .ensures) (c4 .closing .ensures) _ _ (c2 .verdict .given .1) (c .refused .ensures)
 
 enum-told : tie.Need-enum-told
@@ -58,7 +59,7 @@ returns-2 c =
     let c11 = c10 .before in
     let c13 = c11 .before .before in
     let a = c13 .args in
-    mam2-fine (a .setup) (a .held) (a .message .now) _ (c10 .find .ensures .1) _ _ _ _ (c11 .mam2-of .ensures)
+    mam2-fine (keysIn (a .keys .now)) (a .held) (a .message .now) _ (c10 .find .ensures .1) _ _ _ _ (c11 .mam2-of .ensures)
     (c6 .encrypt .ensures) (c5 .mam-proof .ensures) (c4 .closing .ensures) _ _ (c2 .enum-told .given .1)
     (c1 .purpose .ensures) (c .let-in .ensures)
 

@@ -7,6 +7,7 @@ use Rattle.frames.specs.declared.Tam2.{Tam2}
 use Rattle.frames.specs.Fields.{customFits}
 use Rattle.tam.proofs.Tam2Asked.{tam2-custom-fits, words-fit}
 use Rattle.tam.proofs.Giving.{tam2-wrong, tam2-fine}
+use Rattle.sheet.specs.Setups.{setupOf}
 use borrow.Author.Needs.{needs}
 use Rattle.tam.proofs.tam2.Statement.{statement}
 use Rattle.tam.proofs.tam2.Tie as tie
@@ -26,7 +27,7 @@ returns c =
     let c4 = c2 .before .before in
     let c8 = c4 .before .before .before .before in
     let a = c8 .args in
-    tam2-wrong (a .setup) (a .message .now) (a .draws) _ (a .identity .now) (a .user .now) (c4 .tam2 .ensures) _ _
+    tam2-wrong (setupOf (a .terms) (a .keys .now)) (a .message .now) (a .draws) _ (a .identity .now) (a .user .now) (c4 .tam2 .ensures) _ _
     (c2 .verdict .given .1) (c .refused .ensures)
 
 enum-told : tie.Need-enum-told
@@ -58,7 +59,7 @@ tam2-reply-requires c κs =
     let f = c6 .tam2-of .result in
     let fit = tam2-custom-fits (a .message .now) (λ i. c12 .shared-slice-known .given i .fits) in (
       ap (λ (g : Tam2). customFits (g .custom)) (c6 .tam2-of .ensures) ∙ fit,
-      words-fit (a .setup) (f .custom) (a .identity .now) (a .user .now) (c2 .words-asked .ensures) (c1 .window .ensures),
+      words-fit (a .terms .profiles) (f .custom) (a .identity .now) (a .user .now) (c2 .words-asked .ensures) (c1 .window .ensures),
       omega (arith, length-replicate {A = ℕ} 172 0),
     )
 
@@ -73,7 +74,7 @@ returns-2 c =
     let c11 = c9 .before .before in
     let c15 = c11 .before .before .before .before in
     let a = c15 .args in
-    tam2-fine (a .setup) (a .message .now) (a .draws) _ (a .identity .now) (a .user .now) (c11 .tam2 .ensures) _ _ _ _ _ _
+    tam2-fine (setupOf (a .terms) (a .keys .now)) (a .message .now) (a .draws) _ (a .identity .now) (a .user .now) (c11 .tam2 .ensures) _ _ _ _ _ _
     (c9 .enum-told .given .1) (c8 .tam2-of .ensures) (c7 .find .ensures .1) (c4 .words-asked .ensures)
     (c3 .window .ensures) (c1 .tam2-reply .ensures .0) (c1 .tam2-reply .ensures .1)
 
