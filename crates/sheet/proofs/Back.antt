@@ -16,8 +16,10 @@ use Rattle.memory.specs.declared.Lock.{Lock}
 use Rattle.memory.specs.declared.Profile.{Profile}
 use Rattle.ground.specs.Choice.{implies}
 use Rattle.sheet.specs.Limits.{profileLimit, wordLimit}
-use Rattle.sheet.specs.Records.{allZero, areaOf, inside, featuresRule, featuresOf, sizesRule, sizesOf, keyRule, keyOf, profileRule, slotOf, lockRule, lockOf}
-use Rattle.sheet.specs.Writer.{bitOf, byteOf, areaByte, featuresBody, sizesBody, keyBody, profileBody, lockBody}
+use Rattle.ground.specs.Bytes.{bitOf}
+use Rattle.sheet.specs.Records.{allZero, areaOf, inside, featuresRule, featuresOf, sizesRule, sizesOf}
+use Rattle.sheet.specs.Records.{keyRule, keyOf, profileRule, slotOf, lockRule, lockOf}
+use Rattle.sheet.specs.Writer.{byteOf, areaByte, featuresBody, sizesBody, keyBody, profileBody, lockBody}
 use Rattle.sheet.specs.Within.{KeyFine, LockFine}
 use Rattle.sheet.proofs.Bits.{bit-small, bit-back, bit-at, byte-low, two-back}
 use Rattle.sheet.specs.declared.Features.{Features}
@@ -66,7 +68,8 @@ sizes-back z = λ i. record { identity = two-back (z .identity) i; user = two-ba
 
 pub sizes-fine : (z : Sizes) → z .identity ≤ wordLimit → z .user ≤ wordLimit → sizesRule (sizesBody z) ≡ true
 unfolding sizesRule sizesBody
-sizes-fine z a b = rw (two-back (z .identity), two-back (z .user), le-leb (z .identity) wordLimit a, le-leb (z .user) wordLimit b)
+sizes-fine z a b =
+    rw (two-back (z .identity), two-back (z .user), le-leb (z .identity) wordLimit a, le-leb (z .user) wordLimit b)
 
 -- areas
 pub area-back : (a : Area) → areaOf (areaByte a) ≡ a
@@ -101,7 +104,13 @@ module _ (k : Key) (h : KeyFine k) where
 
   pub key-back : keyOf (keyBody k) ≡ k
   unfolding keyOf keyBody
-  key-back = λ i. record { id = k .id; mac = bit-back (k .mac) i; mpi = two-back (k .mpi) i; enc = enc-part i; mackey = mac-part i }
+  key-back = λ i. record {
+    id = k .id;
+    mac = bit-back (k .mac) i;
+    mpi = two-back (k .mpi) i;
+    enc = enc-part i;
+    mackey = mac-part i;
+  }
 
   mac-zero : (m : Bool) → k .mac ≡ m → implies (eqb (bitOf m) 0) (allZero (k .mackey)) ≡ true
   mac-zero true e = refl
@@ -109,7 +118,8 @@ module _ (k : Key) (h : KeyFine k) where
 
   pub key-fine : (id : ℕ) → id ≤ k .id → keyRule id (keyBody k) ≡ true
   unfolding keyRule keyBody
-  key-fine id l = rw (le-leb id (k .id) l, le-leb (bitOf (k .mac)) 1 (bit-small (k .mac)), mac-part) (mac-zero (k .mac) refl)
+  key-fine id l =
+      rw (le-leb id (k .id) l, le-leb (bitOf (k .mac)) 1 (bit-small (k .mac)), mac-part) (mac-zero (k .mac) refl)
 
 -- 04
 pub profile-length : (n : ℕ) (p : Profile) → length (profileBody n p) ≡ 6
@@ -118,12 +128,20 @@ profile-length n p = refl
 
 pub profile-back : (n : ℕ) (s : Slot) → s .present ≡ true → slotOf (profileBody n (s .profile)) ≡ s
 unfolding slotOf profileBody
-profile-back n s e = λ i. record { present = sym e i; profile = record { area = area-back (s .profile .area) i; base = record { 0 = two-back (s .profile .base .0) i }; words = two-back (s .profile .words) i } }
+profile-back n s e = λ i. record {
+  present = sym e i;
+  profile = record {
+    area = area-back (s .profile .area) i;
+    base = record { 0 = two-back (s .profile .base .0) i };
+    words = two-back (s .profile .words) i;
+  };
+}
 
 pub profile-fine : (number n : ℕ) (z : Sizes) (p : Profile) → number ≤ n → n < profileLimit
     → inside z (areaByte (p .area)) (p .base .0) (p .words) ≡ true → profileRule number z (profileBody n p) ≡ true
 unfolding profileRule profileBody
-profile-fine number n z p l h e = rw (le-leb number n l, lt-ltb n profileLimit h, two-back (p .base .0), two-back (p .words)) e
+profile-fine number n z p l h e =
+    rw (le-leb number n l, lt-ltb n profileLimit h, two-back (p .base .0), two-back (p .words)) e
 
 -- 05
 pub lock-length : (l : Lock) → length (lockBody l) ≡ 5
@@ -132,13 +150,19 @@ lock-length l = refl
 
 pub lock-back : (l : Lock) → lockOf (lockBody l) ≡ l
 unfolding lockOf lockBody
-lock-back l = λ i. record { area = area-back (l .area) i; first = record { 0 = two-back (l .first .0) i }; words = two-back (l .words) i }
+lock-back l = λ i. record {
+  area = area-back (l .area) i;
+  first = record { 0 = two-back (l .first .0) i };
+  words = two-back (l .words) i;
+}
 
-starts : (a area word first : ℕ) (t : Bool) → eqb a area ≡ t → (a ≡ area → word ≤ first) → implies t (leb word first) ≡ true
+starts : (a area word first : ℕ) (t : Bool) → eqb a area ≡ t → (a ≡ area → word ≤ first)
+    → implies t (leb word first) ≡ true
 starts a area word first true e h = le-leb word first (h (eqb-true a area e))
 starts a area word first false e h = refl
 
-pub lock-fine : (area word : ℕ) (z : Sizes) (l : Lock) → LockFine area word z l → lockRule area word z (lockBody l) ≡ true
+pub lock-fine : (area word : ℕ) (z : Sizes) (l : Lock) → LockFine area word z l
+    → lockRule area word z (lockBody l) ≡ true
 unfolding lockRule lockBody
 lock-fine area word z l h =
     rw (two-back (l .first .0), two-back (l .words), h .within, le-leb area (areaByte (l .area)) (h .rises))

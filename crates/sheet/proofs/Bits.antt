@@ -7,8 +7,9 @@ use native.Mathlib.Omega.{arith}
 use native.Mathlib.Nat.{pow-succ', zero-div, div-div-eq-div-mul}
 use lib.ListN.{length, getD}
 use lib.Dec.{eqb}
-use Rattle.sheet.specs.Records.{bit}
-use Rattle.sheet.specs.Writer.{bitOf, byteOf}
+use Rattle.ground.specs.Bytes.{bitOf}
+use Rattle.sheet.specs.Records.{feature}
+use Rattle.sheet.specs.Writer.{byteOf}
 
 pub bit-small : (b : Bool) → bitOf b ≤ 1
 bit-small true = omega arith
@@ -18,15 +19,19 @@ pub bit-back : (b : Bool) → eqb (bitOf b) 1 ≡ b
 bit-back true = refl
 bit-back false = refl
 
-pub bit-at : (bs : List Bool) (i : ℕ) → bit i (byteOf bs) ≡ getD bs i false
+halved : (n i : ℕ) → n / 2 ^ suc i ≡ n / 2 / 2 ^ i
+halved n i = ap (λ (m : ℕ). n / m) (pow-succ' 2 i) ∙ sym (div-div-eq-div-mul n 2 (2 ^ i))
+
+pub bit-at : (bs : List Bool) (i : ℕ) → feature i (byteOf bs) ≡ getD bs i false
 bit-at [] zero = refl
 bit-at [] (suc i) = ap (λ (n : ℕ). eqb (n % 2) 1) (zero-div (2 ^ suc i))
 bit-at (b ∷ bs) zero =
-    ap (λ (n : ℕ). eqb n 1) (let e : (bitOf b + 2 * byteOf bs) / 1 % 2 ≡ bitOf b = omega (arith, bit-small b) in e) ∙ bit-back b
+    let e : (bitOf b + 2 * byteOf bs) / 1 % 2 ≡ bitOf b = omega (arith, bit-small b) in
+    ap (λ (n : ℕ). eqb n 1) e ∙ bit-back b
 bit-at (b ∷ bs) (suc i) =
-    let h : (bitOf b + 2 * byteOf bs) / 2 ≡ byteOf bs = omega (arith, bit-small b) in
-    let p : (bitOf b + 2 * byteOf bs) / 2 ^ suc i ≡ byteOf bs / 2 ^ i =
-    ap (λ (n : ℕ). (bitOf b + 2 * byteOf bs) / n) (pow-succ' 2 i) ∙ sym (div-div-eq-div-mul (bitOf b + 2 * byteOf bs) 2 (2 ^ i)) ∙ ap (λ (n : ℕ). n / 2 ^ i) h in
+    let x = bitOf b + 2 * byteOf bs in
+    let h : x / 2 ≡ byteOf bs = omega (arith, bit-small b) in
+    let p : x / 2 ^ suc i ≡ byteOf bs / 2 ^ i = halved x i ∙ ap (λ (n : ℕ). n / 2 ^ i) h in
     ap (λ (n : ℕ). eqb (n % 2) 1) p ∙ bit-at bs i
 
 pub byte-low : (bs : List Bool) → byteOf bs < 2 ^ length bs
@@ -44,13 +49,14 @@ bit-forth (suc zero) h = refl
 bit-forth (suc (suc n)) h = absurd (omega arith)
 
 -- a number below 2 ^ k is the byte of its first k bits
-pub bits-forth : (k n : ℕ) → n < 2 ^ k → byteOf (tab (λ (i : ℕ). bit i n) k) ≡ n
+pub bits-forth : (k n : ℕ) → n < 2 ^ k → byteOf (tab (λ (i : ℕ). feature i n) k) ≡ n
 bits-forth zero n h = omega (arith, h)
 bits-forth (suc k) n h =
     let l : n / 2 < 2 ^ k = let p = rw (pow-succ' 2 k) at h in omega arith in
-    let p : (i : ℕ) → bit (suc i) n ≡ bit i (n / 2) = λ i. ap (λ (m : ℕ). eqb (m % 2) 1) (ap (λ (m : ℕ). n / m) (pow-succ' 2 i) ∙ sym (div-div-eq-div-mul n 2 (2 ^ i))) in
-    let q : byteOf (tab (λ (i : ℕ). bit (suc i) n) k) ≡ n / 2 = ap (λ (g : ℕ → Bool). byteOf (tab g k)) (fun-ext p) ∙ bits-forth k (n / 2) l in
-    let b : bitOf (bit 0 n) ≡ n / 1 % 2 = bit-forth (n / 1 % 2) (omega arith) in
+    let p : (i : ℕ) → feature (suc i) n ≡ feature i (n / 2) = λ i. ap (λ (m : ℕ). eqb (m % 2) 1) (halved n i) in
+    let q : byteOf (tab (λ (i : ℕ). feature (suc i) n) k) ≡ n / 2 =
+    ap (λ (g : ℕ → Bool). byteOf (tab g k)) (fun-ext p) ∙ bits-forth k (n / 2) l in
+    let b : bitOf (feature 0 n) ≡ n / 1 % 2 = bit-forth (n / 1 % 2) (omega arith) in
     omega (arith, q, b)
 
 pub two-back : (n : ℕ) → n / 256 * 256 + n % 256 ≡ n

@@ -1,5 +1,7 @@
 -- No second answer fits the contract of an exported function, as the checker reads it from the source.
 use Prim.Native.Nat.{ℕ}
+use mathlib.Core.List.{List}
+use denote.Ref.{now}
 use Rattle.sheet.specs.declared.Kept.{Kept}
 use Rattle.sheet.specs.declared.Judged.{Judged}
 use Rattle.sheet.specs.declared.Reading.{Reading}
@@ -18,6 +20,8 @@ use Rattle.sheet.proofs.places.read_from.Reads as read-from
 use Rattle.sheet.proofs.places.read_from.Kinds as read-from-kinds
 use Rattle.sheet.proofs.read.Reads as read
 use Rattle.sheet.proofs.read.Kinds as read-kinds
+use Rattle.sheet.proofs.key_table.Reads as key-table
+use Rattle.sheet.proofs.key_table.Kinds as key-table-kinds
 
 pub number-one : OneAnswer 0 number-kinds.ps number-kinds.r number.Post ℕ (λ κs r s. r)
 number-one κs a x y s t p q = one p q
@@ -39,3 +43,6 @@ further-one κs a x y s t p q = one p q
 
 pub read-from-one : OneAnswer 1 read-from-kinds.ps read-from-kinds.r read-from.Post Reading (λ κs r s. r)
 read-from-one κs a x y s t p q = one (p .0) (q .0)
+
+pub key-table-one : OneAnswer 1 key-table-kinds.ps key-table-kinds.r key-table.Post (List ℕ) (λ κs r s. now r)
+key-table-one κs a x y s t p q = one p q

@@ -18,8 +18,9 @@ pub further-end : (s : List ℕ) (at n : ℕ) → length s < at + n → length s
 further-end s at n h = rw (lt-leb (at + n) (length s) h)
 
 -- the two ways to the record at a place: it lies in the sheet, or behind its end
-pub judged-at : (s : List ℕ) (at : ℕ) (k : Kept) (j : Judged) → j ≡ judgedOf (take (length s - at) (drop at s)) k → j ≡ judgedOf (drop at s) k
-judged-at s at k j e = e ∙ ap (λ (t : List ℕ). judgedOf t k) (rest s at)
+module _ (limit : ℕ) (s : List ℕ) (at : ℕ) (k : Kept) (j : Judged) where
+  pub judged-at : j ≡ judgedOf limit (take (length s - at) (drop at s)) k → j ≡ judgedOf limit (drop at s) k
+  judged-at e = e ∙ ap (λ (t : List ℕ). judgedOf limit t k) (rest s at)
 
-pub judged-behind : (s : List ℕ) (at : ℕ) (k : Kept) (j : Judged) → length s < at → j ≡ judgedOf [] k → j ≡ judgedOf (drop at s) k
-judged-behind s at k j h e = e ∙ ap (λ (t : List ℕ). judgedOf t k) (sym (drop-of-length-le s {i = at} (omega arith)))
+  pub judged-behind : length s < at → j ≡ judgedOf limit [] k → j ≡ judgedOf limit (drop at s) k
+  judged-behind h e = e ∙ ap (λ (t : List ℕ). judgedOf limit t k) (sym (drop-of-length-le s {i = at} (omega arith)))

@@ -1,6 +1,5 @@
 pub mod Numbers
-pub mod Arrays
-pub mod Copies
+pub mod Zeros
 pub mod Openings
 pub mod Rules
 pub mod Judgements
@@ -13,6 +12,7 @@ pub mod Bits
 pub mod Back
 pub mod Tables
 pub mod States
+pub mod KeyTables
 pub mod RoundTrip
 pub mod Runs
 pub mod Forth

@@ -9,7 +9,8 @@ use lib.ListN.{length, replicate, length-append, length-replicate}
 use Rattle.memory.specs.declared.Lock.{Lock}
 use Rattle.ground.specs.Choice.{pick}
 use Rattle.sheet.specs.Setups.{noSlot}
-use Rattle.sheet.specs.Writer.{areaByte, keyBody, profileBody, lockBody, keysWritten, profilesWritten, locksWritten}
+use Rattle.sheet.specs.Writer.{areaByte, keyBody, profileBody, lockBody}
+use Rattle.sheet.specs.Writer.{keysWritten, profilesWritten, locksWritten}
 use Rattle.sheet.specs.Within.{KeyFine, KeysRise, SlotFine, SlotsFine, LockFine, LocksRise}
 use Rattle.sheet.specs.declared.Sizes.{Sizes}
 use Rattle.sheet.specs.declared.Key.{Key}
@@ -21,7 +22,8 @@ abbrev pub nextKey : ℕ → List Key → ℕ
 nextKey id [] = id
 nextKey id (k ∷ ks) = nextKey (k .id + 1) ks
 
-pub keys-more : (id : ℕ) (ks : List Key) (x : Key) → KeysRise id ks → nextKey id ks ≤ x .id → KeyFine x → KeysRise id (ks ++ x ∷ [])
+pub keys-more : (id : ℕ) (ks : List Key) (x : Key) → KeysRise id ks → nextKey id ks ≤ x .id → KeyFine x
+    → KeysRise id (ks ++ x ∷ [])
 keys-more id [] x h l w = (l, w, tt)
 keys-more id (k ∷ ks) x h l w = (h .0, h .1, keys-more (k .id + 1) ks x (h .2) l w)
 
@@ -32,7 +34,8 @@ next-key id (k ∷ ks) x = next-key (k .id + 1) ks x
 pub keys-written : (ks : List Key) (x : Key) → keysWritten (ks ++ x ∷ []) ≡ keysWritten ks ++ (3 ∷ keyBody x)
 unfolding keysWritten
 keys-written [] x = append-nil (3 ∷ keyBody x)
-keys-written (k ∷ ks) x = rw (keys-written ks x) (sym (append-assoc (3 ∷ keyBody k) (keysWritten ks) (3 ∷ keyBody x)))
+keys-written (k ∷ ks) x =
+    rw (keys-written ks x) (sym (append-assoc (3 ∷ keyBody k) (keysWritten ks) (3 ∷ keyBody x)))
 
 -- locks
 abbrev pub nextArea : ℕ → List Lock → ℕ
@@ -43,9 +46,11 @@ abbrev pub nextWord : ℕ → List Lock → ℕ
 nextWord word [] = word
 nextWord word (l ∷ ls) = nextWord (l .first .0 + l .words) ls
 
-pub locks-more : (area word : ℕ) (z : Sizes) (ls : List Lock) (x : Lock) → LocksRise area word z ls → LockFine (nextArea area ls) (nextWord word ls) z x → LocksRise area word z (ls ++ x ∷ [])
+pub locks-more : (area word : ℕ) (z : Sizes) (ls : List Lock) (x : Lock) → LocksRise area word z ls
+    → LockFine (nextArea area ls) (nextWord word ls) z x → LocksRise area word z (ls ++ x ∷ [])
 locks-more area word z [] x h w = (w, tt)
-locks-more area word z (l ∷ ls) x h w = (h .0, locks-more (areaByte (l .area)) (l .first .0 + l .words) z ls x (h .1) w)
+locks-more area word z (l ∷ ls) x h w =
+    (h .0, locks-more (areaByte (l .area)) (l .first .0 + l .words) z ls x (h .1) w)
 
 pub next-area : (area : ℕ) (ls : List Lock) (x : Lock) → nextArea area (ls ++ x ∷ []) ≡ areaByte (x .area)
 next-area area [] x = refl
@@ -58,7 +63,8 @@ next-word word (l ∷ ls) x = next-word (l .first .0 + l .words) ls x
 pub locks-written : (ls : List Lock) (x : Lock) → locksWritten (ls ++ x ∷ []) ≡ locksWritten ls ++ (5 ∷ lockBody x)
 unfolding locksWritten
 locks-written [] x = append-nil (5 ∷ lockBody x)
-locks-written (l ∷ ls) x = rw (locks-written ls x) (sym (append-assoc (5 ∷ lockBody l) (locksWritten ls) (5 ∷ lockBody x)))
+locks-written (l ∷ ls) x =
+    rw (locks-written ls x) (sym (append-assoc (5 ∷ lockBody l) (locksWritten ls) (5 ∷ lockBody x)))
 
 -- slots
 pub slots-join : (z : Sizes) (xs ys : List Slot) → SlotsFine z xs → SlotsFine z ys → SlotsFine z (xs ++ ys)
@@ -74,24 +80,40 @@ unfolding profilesWritten noSlot
 written-absent n zero = refl
 written-absent n (suc d) = written-absent (n + 1) d
 
-pub written-join : (n : ℕ) (xs ys : List Slot) → profilesWritten n (xs ++ ys) ≡ profilesWritten n xs ++ profilesWritten (n + length xs) ys
+pub written-join : (n : ℕ) (xs ys : List Slot)
+    → profilesWritten n (xs ++ ys) ≡ profilesWritten n xs ++ profilesWritten (n + length xs) ys
 unfolding profilesWritten
 written-join n [] ys = ap (λ (m : ℕ). profilesWritten m ys) (let e : n ≡ n + 0 = omega arith in e)
 written-join n (x ∷ xs) ys =
     let e : n + 1 + length xs ≡ n + suc (length xs) = omega arith in
-    rw (written-join (n + 1) xs ys, e) (sym (append-assoc (pick (x .present) (4 ∷ profileBody n (x .profile)) []) (profilesWritten (n + 1) xs) (profilesWritten (n + suc (length xs)) ys)))
+    let one = pick (x .present) (4 ∷ profileBody n (x .profile)) [] in
+    rw (written-join (n + 1) xs ys, e)
+    (sym (append-assoc one (profilesWritten (n + 1) xs) (profilesWritten (n + suc (length xs)) ys)))
 
 -- a profile at a number above those before it
 pub up-length : (ss : List Slot) (p : ℕ) (x : Slot) → length ss ≤ p → length (up-to ss p x) ≡ p + 1
 up-length ss p x h =
-    rw (length-append ss (replicate (p - length ss) noSlot ++ x ∷ []), length-append (replicate (p - length ss) noSlot) (x ∷ []), length-replicate (p - length ss) noSlot) (omega arith)
+    let gap = replicate (p - length ss) noSlot in
+    rw (length-append ss (gap ++ x ∷ []), length-append gap (x ∷ []), length-replicate (p - length ss) noSlot)
+    (omega arith)
 
-pub up-fine : (z : Sizes) (ss : List Slot) (p : ℕ) (x : Slot) → SlotsFine z ss → SlotFine z x → SlotsFine z (up-to ss p x)
-up-fine z ss p x h w = slots-join z ss _ h (slots-join z (replicate (p - length ss) noSlot) (x ∷ []) (slots-absent z (p - length ss)) (w, tt))
+pub up-fine : (z : Sizes) (ss : List Slot) (p : ℕ) (x : Slot) → SlotsFine z ss → SlotFine z x
+    → SlotsFine z (up-to ss p x)
+up-fine z ss p x h w =
+    let d = p - length ss in
+    slots-join z ss _ h (slots-join z (replicate d noSlot) (x ∷ []) (slots-absent z d) (w, tt))
 
-pub up-written : (ss : List Slot) (p : ℕ) (x : Slot) → length ss ≤ p → x .present ≡ true → profilesWritten 0 (up-to ss p x) ≡ profilesWritten 0 ss ++ (4 ∷ profileBody p (x .profile))
+pub up-written : (ss : List Slot) (p : ℕ) (x : Slot) → length ss ≤ p → x .present ≡ true
+    → profilesWritten 0 (up-to ss p x) ≡ profilesWritten 0 ss ++ (4 ∷ profileBody p (x .profile))
 unfolding profilesWritten
 up-written ss p x h e =
     let d = p - length ss in
     let n : 0 + length ss + length (replicate d noSlot) ≡ p = rw (length-replicate d noSlot) (omega arith) in
-    rw (written-join 0 ss (replicate d noSlot ++ x ∷ []), written-join (0 + length ss) (replicate d noSlot) (x ∷ []), written-absent (0 + length ss) d, n, e, append-nil (profileBody p (x .profile)))
+    rw (
+      written-join 0 ss (replicate d noSlot ++ x ∷ []),
+      written-join (0 + length ss) (replicate d noSlot) (x ∷ []),
+      written-absent (0 + length ss) d,
+      n,
+      e,
+      append-nil (profileBody p (x .profile)),
+    )

@@ -13,46 +13,48 @@ use Rattle.sheet.specs.declared.Opened.the-variants.{Open, Shut}
 use Rattle.sheet.specs.declared.Kept.{Kept}
 
 -- q, u, o, m and n are what the calls on the way gave
-module _ (b left : ℕ) (k : Kept) (q : Kind) (e : q ≡ kindOf b) (u : Bool) (known : u ≡ isUnknown q) where
-  pub shut-unknown : u ≡ true → Shut Unknown ≡ openedOf b left k
+module _ (limit b left : ℕ) (k : Kept) (q : Kind) (e : q ≡ kindOf b) (u : Bool) (known : u ≡ isUnknown q) where
+  pub shut-unknown : u ≡ true → Shut Unknown ≡ openedOf limit b left k
   unfolding openedOf
   shut-unknown h = rw (← e, ← known, h)
 
   module _ (hu : u ≡ false) (o : Bool) (order : o ≡ inOrder (k .marks .last) b) where
-    pub shut-order : not o ≡ true → Shut Order ≡ openedOf b left k
+    pub shut-order : not o ≡ true → Shut Order ≡ openedOf limit b left k
     unfolding openedOf
     shut-order h = rw (← e, ← known, hu, ← order, h)
 
-    module _ (ho : not o ≡ false) (m : Bool) (many : m ≡ tooMany q k) where
-      pub shut-many : m ≡ true → Shut Many ≡ openedOf b left k
+    module _ (ho : not o ≡ false) (m : Bool) (many : m ≡ tooMany limit q k) where
+      pub shut-many : m ≡ true → Shut Many ≡ openedOf limit b left k
       unfolding openedOf
       shut-many h = rw (← e, ← known, hu, ← order, ho, ← many, h)
 
       module _ (hm : m ≡ false) (n : ℕ) (long : n ≡ bodyLength q) where
-        pub shut-cut : left < n → Shut Cut ≡ openedOf b left k
+        pub shut-cut : left < n → Shut Cut ≡ openedOf limit b left k
         unfolding openedOf
         shut-cut h = rw (← e, ← known, hu, ← order, ho, ← many, hm, ← long, lt-ltb left n h)
 
-        pub opens : n ≤ left → Open ≡ openedOf b left k
+        pub opens : n ≤ left → Open ≡ openedOf limit b left k
         unfolding openedOf
         opens h = rw (← e, ← known, hu, ← order, ho, ← many, hm, ← long, le-ltb left n h)
 
 -- what an opened record has passed
-pub record Passed (b left : ℕ) (k : Kept) : Type 0 where
+pub record Passed (limit b left : ℕ) (k : Kept) : Type 0 where
   pub known : isUnknown (kindOf b) ≡ false
   pub ordered : inOrder (k .marks .last) b ≡ true
-  pub few : tooMany (kindOf b) k ≡ false
+  pub few : tooMany limit (kindOf b) k ≡ false
   pub whole : bodyLength (kindOf b) ≤ left
 
-all-open : (u o m c : Bool) → shutIf u Unknown (shutIf (not o) Order (shutIf m Many (shutIf c Cut Open))) ≡ Open → (u ≡ false) × (o ≡ true) × (m ≡ false) × (c ≡ false)
+all-open : (u o m c : Bool) → shutIf u Unknown (shutIf (not o) Order (shutIf m Many (shutIf c Cut Open))) ≡ Open
+    → (u ≡ false) × (o ≡ true) × (m ≡ false) × (c ≡ false)
 all-open true o m c e = let z : _≡_ {A = ℕ} 0 1 = cc in absurd (omega arith)
 all-open false false m c e = let z : _≡_ {A = ℕ} 0 1 = cc in absurd (omega arith)
 all-open false true true c e = let z : _≡_ {A = ℕ} 0 1 = cc in absurd (omega arith)
 all-open false true false true e = let z : _≡_ {A = ℕ} 0 1 = cc in absurd (omega arith)
 all-open false true false false e = (refl, refl, refl, refl)
 
-pub passed : (b left : ℕ) (k : Kept) → openedOf b left k ≡ Open → Passed b left k
+pub passed : (limit b left : ℕ) (k : Kept) → openedOf limit b left k ≡ Open → Passed limit b left k
 unfolding openedOf
-passed b left k e =
-    let h = all-open (isUnknown (kindOf b)) (inOrder (k .marks .last) b) (tooMany (kindOf b) k) (ltb left (bodyLength (kindOf b))) e in
-    record { known = h .0; ordered = h .1; few = h .2; whole = ltb-false left (bodyLength (kindOf b)) (h .3) }
+passed limit b left k e =
+    let n = bodyLength (kindOf b) in
+    let h = all-open (isUnknown (kindOf b)) (inOrder (k .marks .last) b) (tooMany limit (kindOf b) k) (ltb left n) e in
+    record { known = h .0; ordered = h .1; few = h .2; whole = ltb-false left n (h .3) }

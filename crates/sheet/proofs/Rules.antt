@@ -8,7 +8,8 @@ use lib.Dec.{leb, ltb}
 use borrow.Author.Tests.{lt-leb, le-leb, ltb-true, eq-eqb, ne-eqb, not-true, not-false}
 use Rattle.ground.specs.Choice.{both}
 use Rattle.sheet.specs.Limits.{profileLimit}
-use Rattle.sheet.specs.Records.{byteAt, wordAt, inside, profileRule, lockRule}
+use Rattle.ground.specs.Bytes.{byteAt, wordAt}
+use Rattle.sheet.specs.Records.{inside, profileRule, lockRule}
 use Rattle.sheet.specs.declared.Sizes.{Sizes}
 
 pub both-true : (s t : Bool) → both s t ≡ true → (s ≡ true) × (t ≡ true)
@@ -16,15 +17,18 @@ both-true true t e = (refl, e)
 both-true false t e = let z : _≡_ {A = ℕ} 0 1 = cc in absurd (omega arith)
 
 -- 04: the number that is taken is a place of the table
-pub profile-place : (number : ℕ) (z : Sizes) (b : List ℕ) → profileRule number z b ≡ true → byteAt b 0 < profileLimit
+pub profile-place : (number : ℕ) (z : Sizes) (b : List ℕ) → profileRule number z b ≡ true
+    → byteAt b 0 < profileLimit
 unfolding profileRule
 profile-place number z b e =
     let within = inside z (byteAt b 1) (wordAt b 2) (wordAt b 4) in
     let low = ltb (byteAt b 0) profileLimit in
-    ltb-true (byteAt b 0) profileLimit (both-true low within (both-true (leb number (byteAt b 0)) (both low within) e .1) .0)
+    let h = both-true (leb number (byteAt b 0)) (both low within) e in
+    ltb-true (byteAt b 0) profileLimit (both-true low within (h .1) .0)
 
 -- 05
-module _ (area word : ℕ) (z : Sizes) (b : List ℕ) (f n : ℕ) (t : Bool) (ef : f ≡ wordAt b 1) (en : n ≡ wordAt b 3) (et : t ≡ inside z (byteAt b 0) f n) where
+module _ (area word : ℕ) (z : Sizes) (b : List ℕ) (f n : ℕ) (t : Bool)
+    (ef : f ≡ wordAt b 1) (en : n ≡ wordAt b 3) (et : t ≡ inside z (byteAt b 0) f n) where
   pub lock-outside : not t ≡ true → false ≡ lockRule area word z b
   unfolding lockRule
   lock-outside h = rw (← ef, ← en, ← et, not-true t h)
@@ -36,7 +40,8 @@ module _ (area word : ℕ) (z : Sizes) (b : List ℕ) (f n : ℕ) (t : Bool) (ef
 
     pub lock-same : (w : ℕ) → w ≡ f → area ≤ byteAt b 0 → byteAt b 0 ≡ area → leb word w ≡ lockRule area word z b
     unfolding lockRule
-    lock-same w ew l e = rw (ew, ← ef, ← en, ← et, not-false t h, le-leb area (byteAt b 0) l, eq-eqb (byteAt b 0) area e)
+    lock-same w ew l e =
+        rw (ew, ← ef, ← en, ← et, not-false t h, le-leb area (byteAt b 0) l, eq-eqb (byteAt b 0) area e)
 
     pub lock-rises : area ≤ byteAt b 0 → (byteAt b 0 ≡ area → ⊥) → true ≡ lockRule area word z b
     unfolding lockRule

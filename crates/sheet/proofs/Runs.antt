@@ -12,21 +12,24 @@ use Rattle.ground.specs.Choice.{pick}
 use Rattle.sheet.specs.Kinds.{kindOf, isUnknown, bodyLength, inOrder}
 use Rattle.sheet.specs.Setups.{nothingKept}
 use Rattle.sheet.specs.Records.{featuresRule, sizesRule, keyRule, profileRule, lockRule}
-use Rattle.sheet.specs.Judgement.{openedOf, onlyIf, taken, refused, withFeatures, withSizes, withKey, withProfile, withLock, recordOf, judgedOf}
-use Rattle.sheet.specs.Sheet.{whole, walk, readOf, refusedAt}
+use Rattle.sheet.specs.Judgement.{openedOf, onlyIf, takenIf, recordOf, judgedOf}
+use Rattle.sheet.specs.Judgement.{withFeatures, withSizes, withKey, withProfile, withLock}
+use Rattle.sheet.specs.Sheet.{walk, readOf, refusedAt, ends}
 use Rattle.sheet.specs.declared.Kind.{Kind}
-use Rattle.sheet.specs.declared.Kind.the-variants.{FeatureRecord, SizeRecord, KeyRecord, ProfileRecord, LockRecord, EndRecord, NoRecord}
+use Rattle.sheet.specs.declared.Kind.the-variants.{FeatureRecord, SizeRecord, KeyRecord, ProfileRecord}
+use Rattle.sheet.specs.declared.Kind.the-variants.{LockRecord, EndRecord, NoRecord}
 use Rattle.sheet.specs.declared.Fault.{Fault}
-use Rattle.sheet.specs.declared.Fault.the-variants.{Value, Cut, Tail}
+use Rattle.sheet.specs.declared.Fault.the-variants.{Cut, Tail}
 use Rattle.sheet.specs.declared.Finding.{Finding}
 use Rattle.sheet.specs.declared.Finding.the-variants.{Taken, Ended, Faulty}
 use Rattle.sheet.specs.declared.Opened.{Opened}
 use Rattle.sheet.specs.declared.Opened.the-variants.{Open, Shut}
-use Rattle.sheet.specs.declared.Setup.{Setup}
+use Rattle.sheet.specs.declared.Verdict.{Verdict}
+use Rattle.sheet.specs.declared.Verdict.the-variants.{Whole}
 use Rattle.sheet.specs.declared.Kept.{Kept}
 use Rattle.sheet.specs.declared.Reading.{Reading}
 use Rattle.sheet.proofs.Openings.{passed}
-use Rattle.sheet.proofs.Walks.{Step, step, walk-faulty, walk-tail, walk-whole, walk-taken}
+use Rattle.sheet.proofs.Walks.{Step, step, ahead, walk-faulty, walk-tail, walk-whole, walk-taken}
 
 -- the byte of a kind
 abbrev pub codeOf : Kind → ℕ
@@ -39,9 +42,17 @@ codeOf EndRecord = 6
 codeOf NoRecord = 0
 
 abbrev chosen : Bool → Bool → Bool → Bool → Bool → Bool → Kind
-chosen a b c d e f = pick a FeatureRecord (pick b SizeRecord (pick c KeyRecord (pick d ProfileRecord (pick e LockRecord (pick f EndRecord NoRecord)))))
+chosen a b c d e f =
+    pick a FeatureRecord
+    (pick b SizeRecord
+    (pick c KeyRecord
+    (pick d ProfileRecord
+    (pick e LockRecord
+    (pick f EndRecord
+    NoRecord)))))
 
-code-is : (x : ℕ) (a b c d e f : Bool) → eqb x 1 ≡ a → eqb x 2 ≡ b → eqb x 3 ≡ c → eqb x 4 ≡ d → eqb x 5 ≡ e → eqb x 6 ≡ f
+code-is : (x : ℕ) (a b c d e f : Bool)
+    → eqb x 1 ≡ a → eqb x 2 ≡ b → eqb x 3 ≡ c → eqb x 4 ≡ d → eqb x 5 ≡ e → eqb x 6 ≡ f
     → isUnknown (chosen a b c d e f) ≡ false → x ≡ codeOf (chosen a b c d e f)
 code-is x true b c d e f p1 p2 p3 p4 p5 p6 h = eqb-true x 1 p1
 code-is x false true c d e f p1 p2 p3 p4 p5 p6 h = eqb-true x 2 p2
@@ -49,89 +60,123 @@ code-is x false false true d e f p1 p2 p3 p4 p5 p6 h = eqb-true x 3 p3
 code-is x false false false true e f p1 p2 p3 p4 p5 p6 h = eqb-true x 4 p4
 code-is x false false false false true f p1 p2 p3 p4 p5 p6 h = eqb-true x 5 p5
 code-is x false false false false false true p1 p2 p3 p4 p5 p6 h = eqb-true x 6 p6
-code-is x false false false false false false p1 p2 p3 p4 p5 p6 h = let z : _≡_ {A = ℕ} 0 1 = cc in absurd (omega arith)
+code-is x false false false false false false p1 p2 p3 p4 p5 p6 h =
+    let z : _≡_ {A = ℕ} 0 1 = cc in
+    absurd (omega arith)
 
 pub kind-code : (x : ℕ) → isUnknown (kindOf x) ≡ false → x ≡ codeOf (kindOf x)
 unfolding kindOf
-kind-code x h = code-is x (eqb x 1) (eqb x 2) (eqb x 3) (eqb x 4) (eqb x 5) (eqb x 6) refl refl refl refl refl refl h
+kind-code x h =
+    code-is x (eqb x 1) (eqb x 2) (eqb x 3) (eqb x 4) (eqb x 5) (eqb x 6) refl refl refl refl refl refl h
 
 -- the end record leaves what was kept
-pick-end : (q : Kind) (k k′ : Kept) (r : Bool) → pick r (taken q k′) (refused Value k) .finding ≡ Ended → ⊥
+pick-end : (q : Kind) (k k′ : Kept) (r : Bool) → takenIf r q k k′ .finding ≡ Ended → ⊥
 pick-end q k k′ true e = let z : _≡_ {A = ℕ} 0 1 = cc in omega arith
 pick-end q k k′ false e = let z : _≡_ {A = ℕ} 0 1 = cc in omega arith
 
-record-end : (q : Kind) (b : List ℕ) (k : Kept) → recordOf q b k .finding ≡ Ended → (q ≡ EndRecord) × (recordOf q b k .kept ≡ k)
+record-end : (q : Kind) (b : List ℕ) (k : Kept) → recordOf q b k .finding ≡ Ended
+    → (q ≡ EndRecord) × (recordOf q b k .kept ≡ k)
 unfolding recordOf
 record-end FeatureRecord b k e = absurd (pick-end FeatureRecord k (withFeatures k b) (featuresRule b) e)
 record-end SizeRecord b k e = absurd (pick-end SizeRecord k (withSizes k b) (sizesRule b) e)
 record-end KeyRecord b k e = absurd (pick-end KeyRecord k (withKey k b) (keyRule (k .marks .id) b) e)
-record-end ProfileRecord b k e = absurd (pick-end ProfileRecord k (withProfile k b) (profileRule (k .marks .number) (k .setup .sizes) b) e)
-record-end LockRecord b k e = absurd (pick-end LockRecord k (withLock k b) (lockRule (k .marks .area) (k .marks .word) (k .setup .sizes) b) e)
+record-end ProfileRecord b k e =
+    let fits = profileRule (k .marks .number) (k .terms .sizes) b in
+    absurd (pick-end ProfileRecord k (withProfile k b) fits e)
+record-end LockRecord b k e =
+    let fits = lockRule (k .marks .area) (k .marks .word) (k .terms .sizes) b in
+    absurd (pick-end LockRecord k (withLock k b) fits e)
 record-end EndRecord b k e = (refl, refl)
 record-end NoRecord b k e = let z : _≡_ {A = ℕ} 0 1 = cc in absurd (omega arith)
 
 -- the record that ends a sheet
-pub record End (b : ℕ) (t : List ℕ) (k : Kept) : Type 0 where
+pub record End (limit b : ℕ) (t : List ℕ) (k : Kept) : Type 0 where
   pub byte : b ≡ 6
   pub ordered : inOrder (k .marks .last) 6 ≡ true
-  pub same : judgedOf (b ∷ t) k .kept ≡ k
+  pub same : judgedOf limit (b ∷ t) k .kept ≡ k
 
-ended : (b : ℕ) (t : List ℕ) (k : Kept) (o : Opened) → openedOf b (length t) k ≡ o
-    → onlyIf o k (recordOf (kindOf b) (take (bodyLength (kindOf b)) t) k) .finding ≡ Ended
-    → (b ≡ 6) × (inOrder (k .marks .last) 6 ≡ true) × (onlyIf o k (recordOf (kindOf b) (take (bodyLength (kindOf b)) t) k) .kept ≡ k)
-ended b t k Open o e =
+ended : (limit b : ℕ) (t : List ℕ) (k : Kept) (o : Opened) → openedOf limit b (length t) k ≡ o
+    → onlyIf o k (ahead (kindOf b) t k) .finding ≡ Ended
+    → (b ≡ 6) × (inOrder (k .marks .last) 6 ≡ true) × (onlyIf o k (ahead (kindOf b) t k) .kept ≡ k)
+ended limit b t k Open o e =
     let h = record-end (kindOf b) (take (bodyLength (kindOf b)) t) k e in
-    let p = passed b (length t) k o in
+    let p = passed limit b (length t) k o in
     let six = kind-code b (p .known) ∙ ap codeOf (h .0) in
     (six, rw six at (p .ordered), h .1)
-ended b t k (Shut f) o e = let z : _≡_ {A = ℕ} 0 1 = cc in absurd (omega arith)
+ended limit b t k (Shut f) o e = let z : _≡_ {A = ℕ} 0 1 = cc in absurd (omega arith)
 
-pub end : (b : ℕ) (t : List ℕ) (k : Kept) → judgedOf (b ∷ t) k .finding ≡ Ended → End b t k
+pub end : (limit b : ℕ) (t : List ℕ) (k : Kept) → judgedOf limit (b ∷ t) k .finding ≡ Ended → End limit b t k
 unfolding judgedOf
-end b t k e = let h = ended b t k (openedOf b (length t) k) refl e in record { byte = h .0; ordered = h .1; same = h .2 }
+end limit b t k e =
+    let h = ended limit b t k (openedOf limit b (length t) k) refl e in
+    record { byte = h .0; ordered = h .1; same = h .2 }
 
-no-refusal : (f : Fault) (at : ℕ) (x : Setup) → refusedAt f at ≡ whole x → ⊥
-no-refusal f at x e = let v = ap (λ (r : Reading). r .verdict) e in let z : _≡_ {A = ℕ} 0 1 = cc in omega arith
+no-refusal : (f : Fault) (at : ℕ) → refusedAt f at .verdict ≡ Whole → ⊥
+no-refusal f at e = let z : _≡_ {A = ℕ} 0 1 = cc in omega arith
 
--- What holds before the first record, and after a record that is taken where it held before it, holds at the end of an accepted sheet.
--- P speaks of the bytes read and of what is kept of them; s is the whole sheet.
-module _ (s : List ℕ) (x : Setup) (P : List ℕ → Kept → Type 0)
-    (more : (c : List ℕ) (b : ℕ) (t : List ℕ) (k k′ : Kept) (n : ℕ) → c ++ (b ∷ t) ≡ s → Step b t k k′ n → P c k → P (c ++ take n (b ∷ t)) k′) where
-  pub record Run : Type 0 where
+abbrev verdict-of : Reading → Verdict
+verdict-of r = r .verdict
+
+-- What holds before the first record, and after a record that is taken where it held before it, holds at the end of an
+-- accepted sheet. P speaks of the bytes read and of what is kept of them; s is the whole sheet.
+module _ (limit : ℕ) (s : List ℕ) (P : List ℕ → Kept → Type 0)
+    (more : (c : List ℕ) (b : ℕ) (t : List ℕ) (k k′ : Kept) (n : ℕ) → c ++ (b ∷ t) ≡ s → Step limit b t k k′ n
+    → P c k → P (c ++ take n (b ∷ t)) k′) where
+  pub record Run (r : Reading) : Type 0 where
     pub bytes : List ℕ
     pub kept : Kept
     pub holds : P bytes kept
     pub sheet : bytes ++ (6 ∷ []) ≡ s
     pub ordered : inOrder (kept .marks .last) 6 ≡ true
-    pub setup : kept .setup ≡ x
+    pub says : r ≡ ends kept
 
-  last : (c : List ℕ) (b : ℕ) (t : List ℕ) (at : ℕ) (k : Kept) → judgedOf (b ∷ t) k .finding ≡ Ended → c ++ (b ∷ t) ≡ s → P c k → walk (b ∷ t) 0 at k ≡ whole x → Run
+  -- the walk from the bytes r on, where c stand before them
+  Goes : List ℕ → List ℕ → ℕ → Kept → Type 0
+  Goes c r at k = c ++ r ≡ s → P c k → walk limit r 0 at k .verdict ≡ Whole → Run (walk limit r 0 at k)
+
+  last : (c : List ℕ) (b : ℕ) (t : List ℕ) (at : ℕ) (k : Kept) → judgedOf limit (b ∷ t) k .finding ≡ Ended
+      → Goes c (b ∷ t) at k
+  unfolding Goes
   last c b [] at k e cs p w =
-      let h = end b [] k e in
-      record { bytes = c; kept = k; holds = p; sheet = rw (h .byte) at cs; ordered = h .ordered; setup = ap (λ (y : Kept). y .setup) (sym (h .same)) ∙ ap (λ (y : Reading). y .setup) (sym (walk-whole at k (b ∷ []) refl e) ∙ w) }
-  last c b (y ∷ t) at k e cs p w = absurd (no-refusal Tail (at + 1) x (sym (walk-tail at k (b ∷ y ∷ t) (omega arith) e) ∙ w))
+      let h = end limit b [] k e in
+      record {
+        bytes = c;
+        kept = k;
+        holds = p;
+        sheet = rw (h .byte) at cs;
+        ordered = h .ordered;
+        says = walk-whole limit at k (b ∷ []) refl e ∙ ap ends (h .same);
+      }
+  last c b (y ∷ t) at k e cs p w =
+      absurd (no-refusal Tail (at + 1) (sym (ap verdict-of (walk-tail limit at k (b ∷ y ∷ t) (omega arith) e)) ∙ w))
 
-  turn : (c : List ℕ) (b : ℕ) (t : List ℕ) (at : ℕ) (k : Kept) (f : Finding) → judgedOf (b ∷ t) k .finding ≡ f → c ++ (b ∷ t) ≡ s → P c k → walk (b ∷ t) 0 at k ≡ whole x
-      → ((c r : List ℕ) (at : ℕ) (k : Kept) → length r ≤ length t → c ++ r ≡ s → P c k → walk r 0 at k ≡ whole x → Run) → Run
-  turn c b t at k (Taken n) e cs p w rest =
-      let h = walk-taken at k (b ∷ t) n (omega arith) e in
+  turn : (c : List ℕ) (b : ℕ) (t : List ℕ) (at : ℕ) (k : Kept) (f : Finding) → judgedOf limit (b ∷ t) k .finding ≡ f
+      → ((c r : List ℕ) (at : ℕ) (k : Kept) → length r ≤ length t → Goes c r at k) → Goes c (b ∷ t) at k
+  unfolding Goes
+  turn c b t at k (Taken n) e rest cs p w =
+      let k′ = judgedOf limit (b ∷ t) k .kept in
+      let h = walk-taken limit at k (b ∷ t) n (omega arith) e in
       let l : length (drop n (b ∷ t)) ≤ length t = rw (length-drop n (b ∷ t)) (omega (arith, h .0)) in
-      rest (c ++ take n (b ∷ t)) (drop n (b ∷ t)) (at + n) (judgedOf (b ∷ t) k .kept) l
-      (append-assoc c (take n (b ∷ t)) (drop n (b ∷ t)) ∙ ap (λ (y : List ℕ). c ++ y) (take-append-drop n (b ∷ t)) ∙ cs)
-      (more c b t k (judgedOf (b ∷ t) k .kept) n cs (step b t k n e) p)
-      (sym (h .2) ∙ w)
-  turn c b t at k Ended e cs p w rest = last c b t at k e cs p w
-  turn c b t at k (Faulty f) e cs p w rest = absurd (no-refusal f at x (sym (walk-faulty at k (b ∷ t) f (omega arith) e) ∙ w))
+      let g : c ++ take n (b ∷ t) ++ drop n (b ∷ t) ≡ s =
+      append-assoc c (take n (b ∷ t)) (drop n (b ∷ t))
+      ∙ ap (λ (y : List ℕ). c ++ y) (take-append-drop n (b ∷ t)) ∙ cs in
+      rw (h .2)
+      (rest (c ++ take n (b ∷ t)) (drop n (b ∷ t)) (at + n) k′ l g
+      (more c b t k k′ n cs (step limit b t k n e) p) (sym (ap verdict-of (h .2)) ∙ w))
+  turn c b t at k Ended e rest cs p w = last c b t at k e cs p w
+  turn c b t at k (Faulty f) e rest cs p w =
+      absurd (no-refusal f at (sym (ap verdict-of (walk-faulty limit at k (b ∷ t) f (omega arith) e)) ∙ w))
 
   -- N bounds the bytes that are left
-  go : (N : ℕ) (c r : List ℕ) (at : ℕ) (k : Kept) → length r ≤ N → c ++ r ≡ s → P c k → walk r 0 at k ≡ whole x → Run
-  unfolding walk
-  go zero c [] at k l cs p w = absurd (no-refusal Cut at x w)
+  go : (N : ℕ) (c r : List ℕ) (at : ℕ) (k : Kept) → length r ≤ N → Goes c r at k
+  unfolding walk Goes
+  go zero c [] at k l cs p w = absurd (no-refusal Cut at w)
   go zero c (b ∷ t) at k l cs p w = absurd (not-suc-le-zero l)
-  go (suc N) c [] at k l cs p w = absurd (no-refusal Cut at x w)
+  go (suc N) c [] at k l cs p w = absurd (no-refusal Cut at w)
   go (suc N) c (b ∷ t) at k l cs p w =
-      turn c b t at k (judgedOf (b ∷ t) k .finding) refl cs p w (λ c r at k h. go N c r at k (le-trans h (le-of-suc-le-suc l)))
+      turn c b t at k (judgedOf limit (b ∷ t) k .finding) refl
+      (λ c r at k h. go N c r at k (le-trans h (le-of-suc-le-suc l))) cs p w
 
-  pub run : P [] nothingKept → readOf s ≡ whole x → Run
-  unfolding readOf
+  pub run : P [] nothingKept → readOf limit s .verdict ≡ Whole → Run (readOf limit s)
+  unfolding readOf Goes
   run p e = go (length s) [] s 0 nothingKept (le-refl (length s)) refl p e

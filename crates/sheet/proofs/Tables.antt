@@ -19,7 +19,8 @@ module _ {A : Type 0} (z : A) (limit : ℕ) where
   pub filled-more : (xs : List A) (x : A) → length xs < limit → set (filled xs) (length xs) x ≡ filled (xs ++ x ∷ [])
   filled-more xs x h =
       let m : limit - length xs ≡ suc (limit - (length xs + 1)) = omega arith in
-      rw (m, longer xs x, append-assoc xs (x ∷ []) (replicate (limit - (length xs + 1)) z)) (set-append-seam xs z (replicate (limit - (length xs + 1)) z) x)
+      let r = replicate (limit - (length xs + 1)) z in
+      rw (m, longer xs x, append-assoc xs (x ∷ []) r) (set-append-seam xs z r x)
 
   -- one more that is empty
   pub filled-empty : (xs : List A) → length xs < limit → filled xs ≡ filled (xs ++ z ∷ [])
@@ -32,13 +33,18 @@ module _ {A : Type 0} (z : A) (limit : ℕ) where
   gap xs zero h = ap filled (sym (append-nil xs))
   gap xs (suc d) h =
       let l = longer xs z in
-      filled-empty xs (omega arith) ∙ gap (xs ++ z ∷ []) d (omega arith) ∙ ap filled (append-assoc xs (z ∷ []) (replicate d z))
+      filled-empty xs (omega arith)
+      ∙ gap (xs ++ z ∷ []) d (omega arith)
+      ∙ ap filled (append-assoc xs (z ∷ []) (replicate d z))
 
-  pub filled-far : (xs : List A) (x : A) (p : ℕ) → length xs ≤ p → p < limit → set (filled xs) p x ≡ filled (xs ++ (replicate (p - length xs) z ++ x ∷ []))
+  pub filled-far : (xs : List A) (x : A) (p : ℕ) → length xs ≤ p → p < limit
+      → set (filled xs) p x ≡ filled (xs ++ (replicate (p - length xs) z ++ x ∷ []))
   filled-far xs x p h l =
-      let ys = xs ++ replicate (p - length xs) z in
-      let e : length ys ≡ p = rw (length-append xs (replicate (p - length xs) z), length-replicate (p - length xs) z) (omega arith) in
-      rw (gap xs (p - length xs) (omega arith), ← append-assoc xs (replicate (p - length xs) z) (x ∷ [])) (ap (λ (n : ℕ). set (filled ys) n x) (sym e) ∙ filled-more ys x (rw e l))
+      let d = p - length xs in
+      let ys = xs ++ replicate d z in
+      let e : length ys ≡ p = rw (length-append xs (replicate d z), length-replicate d z) (omega arith) in
+      rw (gap xs d (omega arith), ← append-assoc xs (replicate d z) (x ∷ []))
+      (ap (λ (n : ℕ). set (filled ys) n x) (sym e) ∙ filled-more ys x (rw e l))
 
   pub filled-all : (xs : List A) → length xs ≡ limit → filled xs ≡ xs
   filled-all xs e =

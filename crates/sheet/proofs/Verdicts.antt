@@ -8,16 +8,24 @@ use Rattle.sheet.specs.declared.Kept.{Kept}
 use Rattle.sheet.specs.declared.Judged.{Judged}
 use Rattle.sheet.specs.declared.Reading.{Reading}
 
-pub judge-told : (s : List ℕ) (k : Kept) (r : Judged) → r ≡ judgedOf s k → (r ≡ judgedOf s k) × (findingNumber (r .finding) ≡ judgedNumber s k)
-unfolding judgedNumber
-judge-told s k r e = (e, ap (λ (q : Judged). findingNumber (q .finding)) e)
+abbrev number-of : Reading → ℕ
+number-of r = verdictNumber (r .verdict)
 
-pub read-told : (s : List ℕ) (r : Reading) → r ≡ readOf s → (r ≡ readOf s) × ((verdictNumber (r .verdict) ≡ readNumber s) × (verdictPlace (r .verdict) ≡ readPlace s))
+abbrev place-of : Reading → ℕ
+place-of r = verdictPlace (r .verdict)
+
+pub judge-told : (limit : ℕ) (s : List ℕ) (k : Kept) (r : Judged) → r ≡ judgedOf limit s k
+    → (r ≡ judgedOf limit s k) × (findingNumber (r .finding) ≡ judgedNumber limit s k)
+unfolding judgedNumber
+judge-told limit s k r e = (e, ap (λ (q : Judged). findingNumber (q .finding)) e)
+
+pub read-told : (limit : ℕ) (s : List ℕ) (r : Reading) → r ≡ readOf limit s
+    → (r ≡ readOf limit s) × ((number-of r ≡ readNumber limit s) × (place-of r ≡ readPlace limit s))
 unfolding readNumber readPlace
-read-told s r e = (e, (ap (λ (q : Reading). verdictNumber (q .verdict)) e, ap (λ (q : Reading). verdictPlace (q .verdict)) e))
+read-told limit s r e = (e, (ap number-of e, ap place-of e))
 
 pub judged-as : (r x : Judged) → r ≡ x → JudgedAs r x
 judged-as r x e = (e, ap (λ (q : Judged). findingNumber (q .finding)) e)
 
 pub read-as : (r x : Reading) → r ≡ x → ReadAs r x
-read-as r x e = (e, ap (λ (q : Reading). verdictNumber (q .verdict)) e, ap (λ (q : Reading). verdictPlace (q .verdict)) e)
+read-as r x e = (e, ap number-of e, ap place-of e)

@@ -1,4 +1,5 @@
--- The scope paper, "The tag sheet": one record judged against those before it.
+-- The scope paper, "The tag sheet": one record judged against those before it. `limit` is how many key records there may
+-- be.
 use mathlib.Core.Path.{_≡_}
 use Prim.Native.Nat.{ℕ, _+_}
 use mathlib.Core.Bool.{Bool, true, false, not}
@@ -6,11 +7,30 @@ use mathlib.Core.List.{List, [], _∷_}
 use lib.ListN.{length, take, set}
 use lib.Dec.{leb, ltb}
 use Rattle.ground.specs.Choice.{pick}
-use Rattle.sheet.specs.Limits.{keyLimit, profileLimit, lockLimit}
-use Rattle.sheet.specs.Kinds.{kindOf, isUnknown, bodyLength, inOrder, numberOf}
-use Rattle.sheet.specs.Records.{byteAt, wordAt, featuresRule, featuresOf, sizesRule, sizesOf, keyRule, keyOf, profileRule, slotOf, lockRule, lockOf}
+use Rattle.ground.specs.Bytes.{byteAt, wordAt}
+use Rattle.sheet.specs.Limits.{profileLimit, lockLimit}
+use Rattle.sheet.specs.Kinds.{kindOf, isUnknown, bodyLength, recordLength, inOrder, numberOf}
+use Rattle.sheet.specs.Records.{
+  featuresRule,
+  featuresOf,
+  sizesRule,
+  sizesOf,
+  keyRule,
+  profileRule,
+  slotOf,
+  lockRule,
+  lockOf,
+}
 use Rattle.sheet.specs.declared.Kind.{Kind}
-use Rattle.sheet.specs.declared.Kind.the-variants.{FeatureRecord, SizeRecord, KeyRecord, ProfileRecord, LockRecord, EndRecord, NoRecord}
+use Rattle.sheet.specs.declared.Kind.the-variants.{
+  FeatureRecord,
+  SizeRecord,
+  KeyRecord,
+  ProfileRecord,
+  LockRecord,
+  EndRecord,
+  NoRecord,
+}
 use Rattle.sheet.specs.declared.Fault.{Fault}
 use Rattle.sheet.specs.declared.Fault.the-variants.{Cut, Unknown, Order, Value, Many}
 use Rattle.sheet.specs.declared.Finding.{Finding}
@@ -20,26 +40,26 @@ use Rattle.sheet.specs.declared.Opened.the-variants.{Open, Shut}
 use Rattle.sheet.specs.declared.Kept.{Kept}
 use Rattle.sheet.specs.declared.Judged.{Judged}
 
--- a seventeenth of its kind
-unfoldable pub tooMany : Kind → Kept → Bool
-tooMany FeatureRecord k = false
-tooMany SizeRecord k = false
-tooMany KeyRecord k = leb keyLimit (k .setup .keys .count)
-tooMany ProfileRecord k = leb profileLimit (k .marks .profiles)
-tooMany LockRecord k = leb lockLimit (k .setup .locks .count)
-tooMany EndRecord k = false
-tooMany NoRecord k = false
+-- one more of its kind than there may be
+unfoldable pub tooMany : ℕ → Kind → Kept → Bool
+tooMany limit FeatureRecord k = false
+tooMany limit SizeRecord k = false
+tooMany limit KeyRecord k = leb limit (k .marks .keys)
+tooMany limit ProfileRecord k = leb profileLimit (k .marks .profiles)
+tooMany limit LockRecord k = leb lockLimit (k .terms .locks .count)
+tooMany limit EndRecord k = false
+tooMany limit NoRecord k = false
 
 abbrev pub shutIf : Bool → Fault → Opened → Opened
 shutIf true f o = Shut f
 shutIf false f o = o
 
 -- What a kind byte b and the number of bytes after it decide, in the paper's order: 31, 32, 34, 30.
-unfoldable pub openedOf : ℕ → ℕ → Kept → Opened
-openedOf b left k =
+unfoldable pub openedOf : ℕ → ℕ → ℕ → Kept → Opened
+openedOf limit b left k =
     shutIf (isUnknown (kindOf b)) Unknown
     (shutIf (not (inOrder (k .marks .last) b)) Order
-    (shutIf (tooMany (kindOf b) k) Many
+    (shutIf (tooMany limit (kindOf b) k) Many
     (shutIf (ltb left (bodyLength (kindOf b))) Cut
     Open)))
 
@@ -48,67 +68,118 @@ abbrev pub refused : Fault → Kept → Judged
 refused f k = record { finding = Faulty f; kept = k }
 
 abbrev pub taken : Kind → Kept → Judged
-taken q k = record { finding = Taken (1 + bodyLength q); kept = k }
+taken q k = record { finding = Taken (recordLength q); kept = k }
 
 -- What is kept after a record of each kind.
 unfoldable pub withFeatures : Kept → List ℕ → Kept
 withFeatures k b = record {
-  marks = record { last = 1; profiles = k .marks .profiles; id = k .marks .id; number = k .marks .number; area = k .marks .area; word = k .marks .word };
-  setup = record { features = featuresOf b; sizes = k .setup .sizes; keys = k .setup .keys; profiles = k .setup .profiles; locks = k .setup .locks };
+  marks = record {
+    last = 1;
+    keys = k .marks .keys;
+    profiles = k .marks .profiles;
+    id = k .marks .id;
+    number = k .marks .number;
+    area = k .marks .area;
+    word = k .marks .word;
+  };
+  terms = record {
+    features = featuresOf b;
+    sizes = k .terms .sizes;
+    profiles = k .terms .profiles;
+    locks = k .terms .locks;
+  };
 }
 
 unfoldable pub withSizes : Kept → List ℕ → Kept
 withSizes k b = record {
-  marks = record { last = 2; profiles = k .marks .profiles; id = k .marks .id; number = k .marks .number; area = k .marks .area; word = k .marks .word };
-  setup = record { features = k .setup .features; sizes = sizesOf b; keys = k .setup .keys; profiles = k .setup .profiles; locks = k .setup .locks };
+  marks = record {
+    last = 2;
+    keys = k .marks .keys;
+    profiles = k .marks .profiles;
+    id = k .marks .id;
+    number = k .marks .number;
+    area = k .marks .area;
+    word = k .marks .word;
+  };
+  terms = record {
+    features = k .terms .features;
+    sizes = sizesOf b;
+    profiles = k .terms .profiles;
+    locks = k .terms .locks;
+  };
 }
 
--- the key goes behind those before it; the next KeyID is above its own
+-- the key is counted, and stays where it stands (KeyTable); the next KeyID is above its own
 unfoldable pub withKey : Kept → List ℕ → Kept
 withKey k b = record {
-  marks = record { last = 3; profiles = k .marks .profiles; id = byteAt b 0 + 1; number = k .marks .number; area = k .marks .area; word = k .marks .word };
-  setup = record {
-    features = k .setup .features;
-    sizes = k .setup .sizes;
-    keys = record { count = k .setup .keys .count + 1; table = set (k .setup .keys .table) (k .setup .keys .count) (keyOf b) };
-    profiles = k .setup .profiles;
-    locks = k .setup .locks;
+  marks = record {
+    last = 3;
+    keys = k .marks .keys + 1;
+    profiles = k .marks .profiles;
+    id = byteAt b 0 + 1;
+    number = k .marks .number;
+    area = k .marks .area;
+    word = k .marks .word;
   };
+  terms = k .terms;
 }
 
 -- the profile goes to the place of its number; the next number is above its own
 unfoldable pub withProfile : Kept → List ℕ → Kept
 withProfile k b = record {
-  marks = record { last = 4; profiles = k .marks .profiles + 1; id = k .marks .id; number = byteAt b 0 + 1; area = k .marks .area; word = k .marks .word };
-  setup = record {
-    features = k .setup .features;
-    sizes = k .setup .sizes;
-    keys = k .setup .keys;
-    profiles = set (k .setup .profiles) (byteAt b 0) (slotOf b);
-    locks = k .setup .locks;
+  marks = record {
+    last = 4;
+    keys = k .marks .keys;
+    profiles = k .marks .profiles + 1;
+    id = k .marks .id;
+    number = byteAt b 0 + 1;
+    area = k .marks .area;
+    word = k .marks .word;
+  };
+  terms = record {
+    features = k .terms .features;
+    sizes = k .terms .sizes;
+    profiles = set (k .terms .profiles) (byteAt b 0) (slotOf b);
+    locks = k .terms .locks;
   };
 }
 
 -- the lock goes behind those before it; the next is held against its area and its end
 unfoldable pub withLock : Kept → List ℕ → Kept
 withLock k b = record {
-  marks = record { last = 5; profiles = k .marks .profiles; id = k .marks .id; number = k .marks .number; area = byteAt b 0; word = wordAt b 1 + wordAt b 3 };
-  setup = record {
-    features = k .setup .features;
-    sizes = k .setup .sizes;
-    keys = k .setup .keys;
-    profiles = k .setup .profiles;
-    locks = record { count = k .setup .locks .count + 1; table = set (k .setup .locks .table) (k .setup .locks .count) (lockOf b) };
+  marks = record {
+    last = 5;
+    keys = k .marks .keys;
+    profiles = k .marks .profiles;
+    id = k .marks .id;
+    number = k .marks .number;
+    area = byteAt b 0;
+    word = wordAt b 1 + wordAt b 3;
+  };
+  terms = record {
+    features = k .terms .features;
+    sizes = k .terms .sizes;
+    profiles = k .terms .profiles;
+    locks = record {
+      count = k .terms .locks .count + 1;
+      table = set (k .terms .locks .table) (k .terms .locks .count) (lockOf b);
+    };
   };
 }
 
--- A whole record of kind q with the body b. 33: a value against its rule; else it is taken. (A byte of no kind was refused before.)
+-- A whole record of kind q with the body b. 33: a value against its rule; else it is taken. (A byte of no kind was refused
+-- before.)
+abbrev pub takenIf : Bool → Kind → Kept → Kept → Judged
+takenIf fits q k next = pick fits (taken q next) (refused Value k)
+
 unfoldable pub recordOf : Kind → List ℕ → Kept → Judged
-recordOf FeatureRecord b k = pick (featuresRule b) (taken FeatureRecord (withFeatures k b)) (refused Value k)
-recordOf SizeRecord b k = pick (sizesRule b) (taken SizeRecord (withSizes k b)) (refused Value k)
-recordOf KeyRecord b k = pick (keyRule (k .marks .id) b) (taken KeyRecord (withKey k b)) (refused Value k)
-recordOf ProfileRecord b k = pick (profileRule (k .marks .number) (k .setup .sizes) b) (taken ProfileRecord (withProfile k b)) (refused Value k)
-recordOf LockRecord b k = pick (lockRule (k .marks .area) (k .marks .word) (k .setup .sizes) b) (taken LockRecord (withLock k b)) (refused Value k)
+recordOf FeatureRecord b k = takenIf (featuresRule b) FeatureRecord k (withFeatures k b)
+recordOf SizeRecord b k = takenIf (sizesRule b) SizeRecord k (withSizes k b)
+recordOf KeyRecord b k = takenIf (keyRule (k .marks .id) b) KeyRecord k (withKey k b)
+recordOf ProfileRecord b k =
+    takenIf (profileRule (k .marks .number) (k .terms .sizes) b) ProfileRecord k (withProfile k b)
+recordOf LockRecord b k =
+    takenIf (lockRule (k .marks .area) (k .marks .word) (k .terms .sizes) b) LockRecord k (withLock k b)
 recordOf EndRecord b k = record { finding = Ended; kept = k }
 recordOf NoRecord b k = refused Unknown k
 
@@ -117,9 +188,10 @@ onlyIf Open k j = j
 onlyIf (Shut f) k j = refused f k
 
 -- The record with which these bytes start. 30 also where the kind byte is missing.
-unfoldable pub judgedOf : List ℕ → Kept → Judged
-judgedOf [] k = refused Cut k
-judgedOf (b ∷ t) k = onlyIf (openedOf b (length t) k) k (recordOf (kindOf b) (take (bodyLength (kindOf b)) t) k)
+unfoldable pub judgedOf : ℕ → List ℕ → Kept → Judged
+judgedOf limit [] k = refused Cut k
+judgedOf limit (b ∷ t) k =
+    onlyIf (openedOf limit b (length t) k) k (recordOf (kindOf b) (take (bodyLength (kindOf b)) t) k)
 
 -- the number of a finding; 0 for a record that is taken or that ends the sheet
 abbrev pub findingNumber : Finding → ℕ
@@ -132,5 +204,5 @@ abbrev pub JudgedAs : Judged → Judged → Type 0
 JudgedAs r x = (r ≡ x) × (findingNumber (r .finding) ≡ findingNumber (x .finding))
 
 -- the number by which the record with which these bytes start is refused, and 0 where it is not
-unfoldable pub judgedNumber : List ℕ → Kept → ℕ
-judgedNumber s k = findingNumber (judgedOf s k .finding)
+unfoldable pub judgedNumber : ℕ → List ℕ → Kept → ℕ
+judgedNumber limit s k = findingNumber (judgedOf limit s k .finding)

@@ -1,10 +1,18 @@
 -- The scope paper, "The tag sheet": the kinds of records, and the numbers of the refusals.
-use Prim.Native.Nat.{ℕ}
+use Prim.Native.Nat.{ℕ, suc, _+_}
 use mathlib.Core.Bool.{Bool, true, false}
 use lib.Dec.{eqb, leb}
 use Rattle.ground.specs.Choice.{pick, both}
 use Rattle.sheet.specs.declared.Kind.{Kind}
-use Rattle.sheet.specs.declared.Kind.the-variants.{FeatureRecord, SizeRecord, KeyRecord, ProfileRecord, LockRecord, EndRecord, NoRecord}
+use Rattle.sheet.specs.declared.Kind.the-variants.{
+  FeatureRecord,
+  SizeRecord,
+  KeyRecord,
+  ProfileRecord,
+  LockRecord,
+  EndRecord,
+  NoRecord,
+}
 use Rattle.sheet.specs.declared.Fault.{Fault}
 use Rattle.sheet.specs.declared.Fault.the-variants.{Cut, Unknown, Order, Value, Many, Tail}
 
@@ -38,7 +46,16 @@ bodyLength LockRecord = 5
 bodyLength EndRecord = 0
 bodyLength NoRecord = 0
 
--- whether kind b may follow the kind before it, `last` (0 where b is the first): 01 is first, 02 second, and neither comes again; kinds never fall
+-- a record is its kind byte and its body
+abbrev pub recordLength : Kind → ℕ
+recordLength q = suc (bodyLength q)
+
+-- where the key records start: behind 01 and 02, which come first
+abbrev pub keysAt : ℕ
+keysAt = recordLength FeatureRecord + recordLength SizeRecord
+
+-- whether kind b may follow the kind before it, `last` (0 where b is the first): 01 is first, 02 second, and neither
+-- comes again; kinds never fall
 unfoldable pub inOrder : ℕ → ℕ → Bool
 inOrder last b =
     pick (eqb last 0) (eqb b 1)

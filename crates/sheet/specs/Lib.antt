@@ -1,8 +1,10 @@
-pub mod Limits
 pub mod Kinds
-pub mod Setups
+pub mod Limits
 pub mod Records
+pub mod KeyTable
+pub mod Setups
 pub mod Judgement
 pub mod Sheet
+pub mod KeysMet
 pub mod Writer
 pub mod Within

@@ -1,15 +1,18 @@
--- The limits of the scope paper, "The tag sheet". In specs/ each number stands here alone; the code has it once more, as the constants
--- KEYS, PROFILES, LOCKS and WORDS, which no proof admits at another value.
+-- The limits of the scope paper, "The tag sheet". In specs/ each number stands here alone; the code has it once more, as
+-- the constants KEYS, PROFILES, LOCKS and WORDS, which no proof admits at another value.
 use Prim.Native.Nat.{ℕ, _+_, _*_}
+use Rattle.sheet.specs.Kinds.{recordLength, keysAt}
+use Rattle.sheet.specs.declared.Kind.the-variants.{KeyRecord, ProfileRecord, LockRecord, EndRecord}
 
--- up to 16 records of each of the kinds 03, 04 and 05
+-- Up to 16 records of kind 03. The rules below take this limit as a parameter; the contracts cite them at this one.
 unfoldable pub keyLimit : ℕ
 keyLimit = 16
 
--- also how many profile numbers there are: 0 to 15
+-- up to 16 of kind 04; also how many profile numbers there are: 0 to 15
 unfoldable pub profileLimit : ℕ
 profileLimit = 16
 
+-- up to 16 of kind 05
 unfoldable pub lockLimit : ℕ
 lockLimit = 16
 
@@ -17,6 +20,11 @@ lockLimit = 16
 unfoldable pub wordLimit : ℕ
 wordLimit = 1024
 
--- the longest sheet: 01, 02, and as many of the others as there may be, each with its kind byte; 809 bytes
-unfoldable pub longestSheet : ℕ
-longestSheet = 3 + 5 + 37 * keyLimit + 7 * profileLimit + 6 * lockLimit + 1
+-- The longest sheet under a limit of key records: 01, 02, and as many of the others as there may be. 809 bytes at 16.
+unfoldable pub longestSheet : ℕ → ℕ
+longestSheet limit =
+    keysAt
+    + recordLength KeyRecord * limit
+    + recordLength ProfileRecord * profileLimit
+    + recordLength LockRecord * lockLimit
+    + recordLength EndRecord

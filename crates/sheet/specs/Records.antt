@@ -1,46 +1,44 @@
--- The scope paper, "The tag sheet": each kind's body b, its rule (33 where it fails) and what it says. Numbers go most significant first.
-use Prim.Native.Nat.{ℕ, _+_, _*_, _/_, _%_, _^_}
+-- The scope paper, "The tag sheet": each kind's body b, its rule (33 where it fails) and what it says. Numbers go most
+-- significant first.
+use Prim.Native.Nat.{ℕ, _+_, _^_}
 use mathlib.Core.Bool.{Bool, true}
 use mathlib.Core.List.{List, [], _∷_}
-use lib.ListN.{getD, take, drop}
+use lib.ListN.{take, drop}
 use lib.Dec.{eqb, leb, ltb}
 use Rattle.memory.specs.declared.Area.{Area}
 use Rattle.memory.specs.declared.Area.the-variants.{Identity, User}
 use Rattle.memory.specs.declared.Lock.{Lock}
 use Rattle.ground.specs.Choice.{pick, both, implies}
+use Rattle.ground.specs.Bytes.{byteAt, wordAt, bit, flag}
 use Rattle.sheet.specs.Limits.{profileLimit, wordLimit}
 use Rattle.sheet.specs.declared.Features.{Features}
 use Rattle.sheet.specs.declared.Sizes.{Sizes}
 use Rattle.sheet.specs.declared.Key.{Key}
 use Rattle.sheet.specs.declared.Slot.{Slot}
 
-abbrev pub byteAt : List ℕ → ℕ → ℕ
-byteAt b i = getD b i 0
-
--- two bytes as a number
-abbrev pub wordAt : List ℕ → ℕ → ℕ
-wordAt b i = byteAt b i * 256 + byteAt b (i + 1)
-
--- bit i of a byte, bit 0 being the least significant
-abbrev pub bit : ℕ → ℕ → Bool
-bit i f = eqb (f / 2 ^ i % 2) 1
+-- feature i of a byte of features
+abbrev pub feature : ℕ → ℕ → Bool
+feature i f = flag (bit f i)
 
 -- 01: features in bits 0 to 5, ProtModes in bits 0 to 3, other bits zero. IAM3 (bit 4) needs IAM1 and IAM2 (bit 3).
 unfoldable pub featuresRule : List ℕ → Bool
-featuresRule b = both (ltb (byteAt b 0) (2 ^ 6)) (both (ltb (byteAt b 1) (2 ^ 4)) (implies (bit 4 (byteAt b 0)) (bit 3 (byteAt b 0))))
+featuresRule b =
+    both (ltb (byteAt b 0) (2 ^ 6))
+    (both (ltb (byteAt b 1) (2 ^ 4))
+    (implies (feature 4 (byteAt b 0)) (feature 3 (byteAt b 0))))
 
 unfoldable pub featuresOf : List ℕ → Features
 featuresOf b = record {
-  blocksize1 = bit 0 (byteAt b 0);
-  rev0 = bit 1 (byteAt b 0);
-  rev1 = bit 2 (byteAt b 0);
-  iam = bit 3 (byteAt b 0);
-  iam3 = bit 4 (byteAt b 0);
-  mam = bit 5 (byteAt b 0);
-  mode0 = bit 0 (byteAt b 1);
-  mode1 = bit 1 (byteAt b 1);
-  mode2 = bit 2 (byteAt b 1);
-  mode3 = bit 3 (byteAt b 1);
+  blocksize1 = feature 0 (byteAt b 0);
+  rev0 = feature 1 (byteAt b 0);
+  rev1 = feature 2 (byteAt b 0);
+  iam = feature 3 (byteAt b 0);
+  iam3 = feature 4 (byteAt b 0);
+  mam = feature 5 (byteAt b 0);
+  mode0 = feature 0 (byteAt b 1);
+  mode1 = feature 1 (byteAt b 1);
+  mode2 = feature 2 (byteAt b 1);
+  mode3 = feature 3 (byteAt b 1);
 }
 
 -- 02: words of area 0, of area 1, each at most 1,024
@@ -65,24 +63,43 @@ unfoldable pub allZero : List ℕ → Bool
 allZero [] = true
 allZero (x ∷ xs) = both (eqb x 0) (allZero xs)
 
--- 03: KeyID, MAC present 0 or 1, MPI 2, ENC_key 16, MAC_key 16 (zeros if absent). KeyIDs rise: `id` is the least that may come.
+-- 03: KeyID, MAC present 0 or 1, MPI 2, ENC_key 16, MAC_key 16 (zeros if absent). KeyIDs rise: `id` is the least that
+-- may come.
 unfoldable pub keyRule : ℕ → List ℕ → Bool
-keyRule id b = both (leb id (byteAt b 0)) (both (leb (byteAt b 1) 1) (implies (eqb (byteAt b 1) 0) (allZero (take 16 (drop 20 b)))))
+keyRule id b =
+    both (leb id (byteAt b 0))
+    (both (leb (byteAt b 1) 1)
+    (implies (eqb (byteAt b 1) 0) (allZero (take 16 (drop 20 b)))))
 
 unfoldable pub keyOf : List ℕ → Key
-keyOf b = record { id = byteAt b 0; mac = eqb (byteAt b 1) 1; mpi = wordAt b 2; enc = take 16 (drop 4 b); mackey = take 16 (drop 20 b) }
+keyOf b = record {
+  id = byteAt b 0;
+  mac = flag (byteAt b 1);
+  mpi = wordAt b 2;
+  enc = take 16 (drop 4 b);
+  mackey = take 16 (drop 20 b);
+}
 
 -- 04: profile 0 to 15, area, base, words. Inside its area. Numbers rise: `number` is the least that may come.
 unfoldable pub profileRule : ℕ → Sizes → List ℕ → Bool
-profileRule number z b = both (leb number (byteAt b 0)) (both (ltb (byteAt b 0) profileLimit) (inside z (byteAt b 1) (wordAt b 2) (wordAt b 4)))
+profileRule number z b =
+    both (leb number (byteAt b 0))
+    (both (ltb (byteAt b 0) profileLimit)
+    (inside z (byteAt b 1) (wordAt b 2) (wordAt b 4)))
 
 unfoldable pub slotOf : List ℕ → Slot
-slotOf b = record { present = true; profile = record { area = areaOf (byteAt b 1); base = record { 0 = wordAt b 2 }; words = wordAt b 4 } }
+slotOf b = record {
+  present = true;
+  profile = record { area = areaOf (byteAt b 1); base = record { 0 = wordAt b 2 }; words = wordAt b 4 };
+}
 
--- 05: area, first word, count. Inside its area; areas don't fall, and in an area each starts at or after the end of the one before:
--- `area` is the area of the lock before, and `word` its end (both 0 where there is none).
+-- 05: area, first word, count. Inside its area; areas don't fall, and in an area each starts at or after the end of the
+-- one before: `area` is the area of the lock before, and `word` its end (both 0 where there is none).
 unfoldable pub lockRule : ℕ → ℕ → Sizes → List ℕ → Bool
-lockRule area word z b = both (inside z (byteAt b 0) (wordAt b 1) (wordAt b 3)) (both (leb area (byteAt b 0)) (implies (eqb (byteAt b 0) area) (leb word (wordAt b 1))))
+lockRule area word z b =
+    both (inside z (byteAt b 0) (wordAt b 1) (wordAt b 3))
+    (both (leb area (byteAt b 0))
+    (implies (eqb (byteAt b 0) area) (leb word (wordAt b 1))))
 
 unfoldable pub lockOf : List ℕ → Lock
 lockOf b = record { area = areaOf (byteAt b 0); first = record { 0 = wordAt b 1 }; words = wordAt b 3 }

@@ -1,4 +1,4 @@
--- The scope paper, "The tag sheet": a whole sheet.
+-- The scope paper, "The tag sheet": a whole sheet. `limit` is how many key records there may be.
 use mathlib.Core.Path.{_≡_}
 use Prim.Native.Nat.{ℕ, zero, suc, _+_}
 use mathlib.Core.List.{List, [], _∷_}
@@ -6,7 +6,8 @@ use lib.ListN.{length, drop}
 use lib.Dec.{leb}
 use Rattle.ground.specs.Choice.{pick}
 use Rattle.sheet.specs.Kinds.{kindOf, bodyLength, numberOf}
-use Rattle.sheet.specs.Setups.{emptySetup, nothingKept}
+use Rattle.sheet.specs.KeyTable.{keyTable}
+use Rattle.sheet.specs.Setups.{Setup, setupOf, emptyTerms, nothingKept}
 use Rattle.sheet.specs.Judgement.{judgedOf}
 use Rattle.sheet.specs.declared.Fault.{Fault}
 use Rattle.sheet.specs.declared.Fault.the-variants.{Cut, Tail}
@@ -14,45 +15,57 @@ use Rattle.sheet.specs.declared.Finding.{Finding}
 use Rattle.sheet.specs.declared.Finding.the-variants.{Taken, Ended, Faulty}
 use Rattle.sheet.specs.declared.Verdict.{Verdict}
 use Rattle.sheet.specs.declared.Verdict.the-variants.{Whole, Refused}
-use Rattle.sheet.specs.declared.Setup.{Setup}
+use Rattle.sheet.specs.declared.Terms.{Terms}
 use Rattle.sheet.specs.declared.Kept.{Kept}
 use Rattle.sheet.specs.declared.Reading.{Reading}
 
 -- A refused sheet gives no tag.
 abbrev pub refusedAt : Fault → ℕ → Reading
-refusedAt f at = record { verdict = Refused f at; setup = emptySetup }
+refusedAt f at = record { verdict = Refused f at; terms = emptyTerms; keys = 0 }
 
-abbrev pub whole : Setup → Reading
-whole s = record { verdict = Whole; setup = s }
+-- A whole sheet gives its terms, and the number of its key records.
+abbrev pub whole : Terms → ℕ → Reading
+whole t n = record { verdict = Whole; terms = t; keys = n }
 
--- What follows from the finding on the record at a place, with the bytes t after its kind byte: the reading goes on behind it,
--- or the sheet ends there (35 at the first byte that follows), or it is refused at that place.
-unfoldable pub after : Finding → Setup → ℕ → List ℕ → Reading → Reading
-after (Taken n) s at t r = r
-after Ended s at [] r = whole s
-after Ended s at (x ∷ t) r = refusedAt Tail (at + 1)
-after (Faulty f) s at t r = refusedAt f at
+-- where what was kept is all
+abbrev pub ends : Kept → Reading
+ends k = whole (k .terms) (k .marks .keys)
 
--- The bytes from a place on. They are passed one by one: `body` of them belong to the record that was judged last, and the next is
--- a kind byte. So the walk falls with the bytes themselves, and needs no other bound.
-unfoldable pub walk : List ℕ → ℕ → ℕ → Kept → Reading
-walk [] body at k = refusedAt Cut at
-walk (b ∷ t) (suc body) at k = walk t body (at + 1) k
-walk (b ∷ t) zero at k =
-    let j = judgedOf (b ∷ t) k in
-    after (j .finding) (j .kept .setup) at t (walk t (bodyLength (kindOf b)) (at + 1) (j .kept))
+-- What follows from the finding on the record at a place, with the bytes t after its kind byte: the reading goes on behind
+-- it, or the sheet ends there (35 at the first byte that follows), or it is refused at that place.
+unfoldable pub after : Finding → Kept → ℕ → List ℕ → Reading → Reading
+after (Taken n) k at t r = r
+after Ended k at [] r = ends k
+after Ended k at (x ∷ t) r = refusedAt Tail (at + 1)
+after (Faulty f) k at t r = refusedAt f at
+
+-- The bytes from a place on. They are passed one by one: `body` of them belong to the record that was judged last, and the
+-- next is a kind byte. So the walk falls with the bytes themselves, and needs no other bound.
+unfoldable pub walk : ℕ → List ℕ → ℕ → ℕ → Kept → Reading
+walk limit [] body at k = refusedAt Cut at
+walk limit (b ∷ t) (suc body) at k = walk limit t body (at + 1) k
+walk limit (b ∷ t) zero at k =
+    let j = judgedOf limit (b ∷ t) k in
+    after (j .finding) (j .kept) at t (walk limit t (bodyLength (kindOf b)) (at + 1) (j .kept))
 
 -- The same of the sheet s from a place on. Behind its end no kind byte stands: 30 at that place.
-abbrev pub readFrom : List ℕ → ℕ → Kept → Reading
-readFrom s at k = walk (drop at s) 0 at k
+abbrev pub readFrom : ℕ → List ℕ → ℕ → Kept → Reading
+readFrom limit s at k = walk limit (drop at s) 0 at k
 
 -- The place n bytes further on, and no further than the sheet's end.
 abbrev pub furtherOn : List ℕ → ℕ → ℕ → ℕ
 furtherOn s at n = pick (leb (at + n) (length s)) (at + n) (length s)
 
--- What a sheet says, or the first refusal with its place.
-unfoldable pub readOf : List ℕ → Reading
-readOf s = walk s 0 0 nothingKept
+-- What a reader finds in a sheet: its terms and the number of its key records, or the first refusal with its place.
+unfoldable pub readOf : ℕ → List ℕ → Reading
+readOf limit s = walk limit s 0 0 nothingKept
+
+-- What a sheet says: its terms, and its key records, which stand together. A refused sheet says nothing.
+unfoldable pub saidOf : ℕ → List ℕ → Setup
+saidOf limit s = setupOf (readOf limit s .terms) (keyTable s (readOf limit s .keys))
+
+abbrev pub Accepted : ℕ → List ℕ → Type 0
+Accepted limit s = readOf limit s .verdict ≡ Whole
 
 -- the number of a verdict and its place; a whole sheet has 0 for both
 abbrev pub verdictNumber : Verdict → ℕ
@@ -65,11 +78,14 @@ verdictPlace (Refused f at) = at
 
 -- A reading that is this one, by name, by number and by place.
 abbrev pub ReadAs : Reading → Reading → Type 0
-ReadAs r x = (r ≡ x) × (verdictNumber (r .verdict) ≡ verdictNumber (x .verdict)) × (verdictPlace (r .verdict) ≡ verdictPlace (x .verdict))
+ReadAs r x =
+    (r ≡ x)
+    × (verdictNumber (r .verdict) ≡ verdictNumber (x .verdict))
+    × (verdictPlace (r .verdict) ≡ verdictPlace (x .verdict))
 
 -- the number of a sheet's first refusal, and its place
-unfoldable pub readNumber : List ℕ → ℕ
-readNumber s = verdictNumber (readOf s .verdict)
+unfoldable pub readNumber : ℕ → List ℕ → ℕ
+readNumber limit s = verdictNumber (readOf limit s .verdict)
 
-unfoldable pub readPlace : List ℕ → ℕ
-readPlace s = verdictPlace (readOf s .verdict)
+unfoldable pub readPlace : ℕ → List ℕ → ℕ
+readPlace limit s = verdictPlace (readOf limit s .verdict)

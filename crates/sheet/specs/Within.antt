@@ -1,4 +1,4 @@
--- A setup within the rules of the scope paper: what a sheet can say.
+-- A setup within the rules of the scope paper: what a sheet can say. `limit` is how many key records there may be.
 use Prim.Native.Nat.{ℕ, _+_, _-_, _<_, _≤_}
 use mathlib.Core.Path.{_≡_}
 use mathlib.Core.Bool.{true, false}
@@ -7,18 +7,14 @@ use mathlib.Core.List.{List, [], _∷_}
 use lib.ListN.{length, take, drop, replicate}
 use Rattle.memory.specs.declared.Lock.{Lock}
 use Rattle.ground.specs.Choice.{implies}
-use Rattle.sheet.specs.Limits.{keyLimit, profileLimit, lockLimit, wordLimit}
-use Rattle.sheet.specs.Setups.{noKey, noSlot, noLock}
+use Rattle.ground.specs.Bytes.{Bytes}
+use Rattle.sheet.specs.Limits.{profileLimit, lockLimit, wordLimit}
+use Rattle.sheet.specs.Setups.{Setup, noSlot, noLock}
 use Rattle.sheet.specs.Records.{inside}
 use Rattle.sheet.specs.Writer.{areaByte}
 use Rattle.sheet.specs.declared.Sizes.{Sizes}
 use Rattle.sheet.specs.declared.Key.{Key}
 use Rattle.sheet.specs.declared.Slot.{Slot}
-use Rattle.sheet.specs.declared.Setup.{Setup}
-
-abbrev pub Bytes : List ℕ → Type 0
-Bytes [] = Unit {0}
-Bytes (x ∷ xs) = (x < 256) × Bytes xs
 
 -- sixteen bytes
 pub record Key16 (k : List ℕ) : Type 0 where
@@ -46,7 +42,10 @@ KeysRise id (k ∷ ks) = (id ≤ k .id) × KeyFine k × KeysRise (k .id + 1) ks
 
 -- 04: an absent profile is zero, and a present one lies inside its area
 abbrev pub SlotFine : Sizes → Slot → Type 0
-SlotFine z s = (s ≡ noSlot) ⊎ ((s .present ≡ true) × (inside z (areaByte (s .profile .area)) (s .profile .base .0) (s .profile .words) ≡ true))
+SlotFine z s =
+    (s ≡ noSlot)
+    ⊎ ((s .present ≡ true)
+    × (inside z (areaByte (s .profile .area)) (s .profile .base .0) (s .profile .words) ≡ true))
 
 abbrev pub SlotsFine : Sizes → List Slot → Type 0
 SlotsFine z [] = Unit {0}
@@ -60,14 +59,15 @@ pub record LockFine (area word : ℕ) (z : Sizes) (l : Lock) : Type 0 where
 
 abbrev pub LocksRise : ℕ → ℕ → Sizes → List Lock → Type 0
 LocksRise area word z [] = Unit {0}
-LocksRise area word z (l ∷ ls) = LockFine area word z l × LocksRise (areaByte (l .area)) (l .first .0 + l .words) z ls
+LocksRise area word z (l ∷ ls) =
+    LockFine area word z l × LocksRise (areaByte (l .area)) (l .first .0 + l .words) z ls
 
-pub record Within (s : Setup) : Type 0 where
+pub record Within (limit : ℕ) (s : Setup) : Type 0 where
   pub iam3 : implies (s .features .iam3) (s .features .iam) ≡ true
   pub identity : s .sizes .identity ≤ wordLimit
   pub user : s .sizes .user ≤ wordLimit
-  pub key-table : Table noKey keyLimit (s .keys .count) (s .keys .table)
-  pub keys : KeysRise 0 (take (s .keys .count) (s .keys .table))
+  pub few : length (s .keys) ≤ limit
+  pub keys : KeysRise 0 (s .keys)
   pub slots : length (s .profiles) ≡ profileLimit
   pub profiles : SlotsFine (s .sizes) (s .profiles)
   pub lock-table : Table noLock lockLimit (s .locks .count) (s .locks .table)

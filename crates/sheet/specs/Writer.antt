@@ -1,6 +1,6 @@
 -- The sheet of a setup, as the scope paper lays records out: what a writer has to write.
-use Prim.Native.Nat.{ℕ, _+_, _*_, _/_, _%_}
-use mathlib.Core.Bool.{Bool, true, false}
+use Prim.Native.Nat.{ℕ, _+_, _*_}
+use mathlib.Core.Bool.{Bool}
 use mathlib.Core.List.{List, [], _∷_, _++_}
 use lib.ListN.{take}
 use Rattle.memory.specs.Address.{areaNumber}
@@ -8,19 +8,12 @@ use Rattle.memory.specs.declared.Area.{Area}
 use Rattle.memory.specs.declared.Lock.{Lock}
 use Rattle.memory.specs.declared.Profile.{Profile}
 use Rattle.ground.specs.Choice.{pick}
+use Rattle.ground.specs.Bytes.{twoBytes, bitOf}
+use Rattle.sheet.specs.Setups.{Setup}
 use Rattle.sheet.specs.declared.Features.{Features}
 use Rattle.sheet.specs.declared.Sizes.{Sizes}
 use Rattle.sheet.specs.declared.Key.{Key}
 use Rattle.sheet.specs.declared.Slot.{Slot}
-use Rattle.sheet.specs.declared.Setup.{Setup}
-
--- a number in two bytes, most significant first
-abbrev pub twoBytes : ℕ → List ℕ
-twoBytes n = n / 256 ∷ n % 256 ∷ []
-
-abbrev pub bitOf : Bool → ℕ
-bitOf true = 1
-bitOf false = 0
 
 -- a byte of bits, bit 0 first
 abbrev pub byteOf : List Bool → ℕ
@@ -56,7 +49,8 @@ keysWritten (k ∷ ks) = 3 ∷ keyBody k ++ keysWritten ks
 -- the profiles from number n on; an absent one has no record
 unfoldable pub profilesWritten : ℕ → List Slot → List ℕ
 profilesWritten n [] = []
-profilesWritten n (s ∷ ss) = pick (s .present) (4 ∷ profileBody n (s .profile)) [] ++ profilesWritten (n + 1) ss
+profilesWritten n (s ∷ ss) =
+    pick (s .present) (4 ∷ profileBody n (s .profile)) [] ++ profilesWritten (n + 1) ss
 
 unfoldable pub locksWritten : List Lock → List ℕ
 locksWritten [] = []
@@ -66,7 +60,7 @@ unfoldable pub written : Setup → List ℕ
 written s =
     1 ∷ featuresBody (s .features)
     ++ (2 ∷ sizesBody (s .sizes)
-    ++ (keysWritten (take (s .keys .count) (s .keys .table))
+    ++ (keysWritten (s .keys)
     ++ (profilesWritten 0 (s .profiles)
     ++ (locksWritten (take (s .locks .count) (s .locks .table))
     ++ (6 ∷ [])))))

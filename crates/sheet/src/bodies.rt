@@ -1,6 +1,6 @@
 // The body of each kind of record: whether its rule holds, and what it says.
 use crate::Features;
-use crate::Key;
+use crate::KEY_BODY;
 use crate::PROFILES;
 use crate::Sizes;
 use crate::Slot;
@@ -10,9 +10,12 @@ use memory::Lock;
 use memory::Profile;
 use memory::Word;
 ghost use mathlib.Core.Path.{_≡_};
-ghost use Prim.Native.Nat.{_+_, _<_, _≤_};
-ghost use lib.ListN.{length, take, drop};
-ghost use Rattle.sheet.specs.Records.{wordAt, allZero, areaOf, wordsIn, inside, featuresRule, featuresOf, sizesRule, sizesOf, keyRule, keyOf, profileRule, slotOf, lockRule, lockOf};
+ghost use Prim.Native.Nat.{_+_, _<_};
+ghost use lib.ListN.{length};
+ghost use Rattle.ground.specs.Bytes.{wordAt};
+ghost use Rattle.sheet.specs.Records.{allZero, areaOf, wordsIn, inside};
+ghost use Rattle.sheet.specs.Records.{featuresRule, featuresOf, sizesRule, sizesOf, keyRule};
+ghost use Rattle.sheet.specs.Records.{profileRule, slotOf, lockRule, lockOf};
 
 pub(crate) fn wide(x: u8) -> u16
     ensures { λ r. ⌜ (r ≡ x) × (r < 256) ⌝ }
@@ -33,25 +36,12 @@ pub(crate) fn word_at(b: &[u8], i: usize) -> u16
     wide(b[i]) * 256 + wide(b[i + 1])
 }
 
-fn sixteen(b: &[u8], at: usize) -> [u8; 16]
-    requires { ⌜ at + 16 ≤ length (now b) ⌝ }
-    ensures { λ r. ⌜ r ≡ take 16 (drop at (now (b .entry))) ⌝ }
-{
-    let mut t = [0u8; 16];
-    let mut i = 0;
-    while i < 16 {
-        t[i] = b[at + i];
-        i += 1;
-    }
-    t
-}
-
-fn all_zero(k: [u8; 16]) -> bool
-    ensures { λ r. ⌜ r ≡ allZero k ⌝ }
+fn all_zero(b: &[u8]) -> bool
+    ensures { λ r. ⌜ r ≡ allZero (now (b .entry)) ⌝ }
 {
     let mut i = 0;
-    while i < 16 {
-        if k[i] != 0 {
+    while i < b.len() {
+        if b[i] != 0 {
             return false;
         }
         i += 1;
@@ -164,24 +154,9 @@ pub(crate) fn key_fits(b: &[u8], id: u16) -> bool
         return false;
     }
     if mac == 0 {
-        return all_zero(sixteen(b, 20));
+        return all_zero(&b[20..KEY_BODY]);
     }
     true
-}
-
-pub(crate) fn key_of(b: &[u8]) -> Key
-    requires { ⌜ length (now b) ≡ 36 ⌝ }
-    ensures { λ r. ⌜ r ≡ keyOf (now (b .entry)) ⌝ }
-{
-    let enc = sixteen(b, 4);
-    let mackey = sixteen(b, 20);
-    Key {
-        id: b[0],
-        mac: b[1] == 1,
-        mpi: word_at(b, 2),
-        enc,
-        mackey,
-    }
 }
 
 pub(crate) fn profile_fits(b: &[u8], number: u8, z: Sizes) -> bool

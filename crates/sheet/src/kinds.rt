@@ -1,12 +1,18 @@
 // The kinds of records, and the four checks before a record's values.
+use crate::FEATURE_BODY;
 use crate::Fault;
+use crate::KEY_BODY;
 use crate::KEYS;
 use crate::Kept;
 use crate::Kind;
+use crate::LOCK_BODY;
 use crate::LOCKS;
 use crate::Opened;
+use crate::PROFILE_BODY;
 use crate::PROFILES;
+use crate::SIZE_BODY;
 ghost use mathlib.Core.Path.{_≡_};
+ghost use Rattle.sheet.specs.Limits.{keyLimit};
 ghost use Rattle.sheet.specs.Kinds.{kindOf, isUnknown, bodyLength, inOrder};
 ghost use Rattle.sheet.specs.Judgement.{tooMany, openedOf};
 
@@ -52,11 +58,11 @@ pub(crate) fn body_length(k: Kind) -> usize
     ensures { λ r. ⌜ r ≡ bodyLength k ⌝ }
 {
     match k {
-        Kind::FeatureRecord => 2,
-        Kind::SizeRecord => 4,
-        Kind::KeyRecord => 36,
-        Kind::ProfileRecord => 6,
-        Kind::LockRecord => 5,
+        Kind::FeatureRecord => FEATURE_BODY,
+        Kind::SizeRecord => SIZE_BODY,
+        Kind::KeyRecord => KEY_BODY,
+        Kind::ProfileRecord => PROFILE_BODY,
+        Kind::LockRecord => LOCK_BODY,
         Kind::EndRecord => 0,
         Kind::NoRecord => 0,
     }
@@ -78,11 +84,11 @@ fn in_order(last: u8, b: u8) -> bool
 }
 
 fn too_many(q: Kind, kept: Kept) -> bool
-    ensures { λ r. ⌜ r ≡ tooMany q kept ⌝ }
+    ensures { λ r. ⌜ r ≡ tooMany keyLimit q kept ⌝ }
 {
-    let keys = kept.setup.keys.count;
+    let keys = kept.marks.keys;
     let profiles = kept.marks.profiles;
-    let locks = kept.setup.locks.count;
+    let locks = kept.terms.locks.count;
     match q {
         Kind::FeatureRecord => false,
         Kind::SizeRecord => false,
@@ -96,7 +102,7 @@ fn too_many(q: Kind, kept: Kept) -> bool
 
 // The four checks before the body's values, in the paper's order.
 pub(crate) fn opening(b: u8, left: usize, kept: Kept) -> Opened
-    ensures { λ r. ⌜ r ≡ openedOf b left kept ⌝ }
+    ensures { λ r. ⌜ r ≡ openedOf keyLimit b left kept ⌝ }
 {
     let q = kind_of(b);
     if is_unknown(q) {

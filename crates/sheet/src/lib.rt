@@ -9,8 +9,10 @@ use memory::Lock;
 use memory::Profile;
 use memory::Word;
 ghost use mathlib.Core.Path.{_≡_};
+ghost use Rattle.sheet.specs.Limits.{keyLimit};
 ghost use Rattle.sheet.specs.Kinds.{numberOf};
-ghost use Rattle.sheet.specs.Setups.{noKey, emptySetup, nothingKept};
+ghost use Rattle.sheet.specs.KeyTable.{keyTable};
+ghost use Rattle.sheet.specs.Setups.{emptyTerms, nothingKept};
 ghost use Rattle.sheet.specs.Judgement.{judgedOf, findingNumber, judgedNumber};
 ghost use Rattle.sheet.specs.Sheet.{refusedAt, readOf, verdictNumber, verdictPlace, readNumber, readPlace};
 
@@ -22,6 +24,31 @@ pub const PROFILES: usize = 16;
 pub const LOCKS: usize = 16;
 
 pub const WORDS: u16 = 1024;
+
+// How many bytes follow the kind byte of a record of the kinds 01 to 05.
+pub const FEATURE_BODY: usize = 2;
+
+pub const SIZE_BODY: usize = 4;
+
+pub const KEY_BODY: usize = 36;
+
+pub const PROFILE_BODY: usize = 6;
+
+pub const LOCK_BODY: usize = 5;
+
+// A record is its kind byte and its body.
+pub const FEATURE_RECORD: usize = 1 + FEATURE_BODY;
+
+pub const SIZE_RECORD: usize = 1 + SIZE_BODY;
+
+pub const KEY_RECORD: usize = 1 + KEY_BODY;
+
+pub const PROFILE_RECORD: usize = 1 + PROFILE_BODY;
+
+pub const LOCK_RECORD: usize = 1 + LOCK_BODY;
+
+// Where the key records start: behind 01 and 02, which come first.
+pub const KEYS_AT: usize = FEATURE_RECORD + SIZE_RECORD;
 
 // Why a sheet is refused.
 pub enum Fault {
@@ -73,12 +100,6 @@ pub struct Key {
     pub mackey: [u8; 16],
 }
 
-// The first `count` entries are used.
-pub struct Keys {
-    pub count: usize,
-    pub table: [Key; KEYS],
-}
-
 // Record 04, at the place of its number.
 pub struct Slot {
     pub present: bool,
@@ -91,19 +112,21 @@ pub struct Locks {
     pub table: [Lock; LOCKS],
 }
 
-// What a sheet says. An entry that no record filled is zero, so that equal meanings are equal values.
-pub struct Setup {
+// The terms on which a tag serves: what a sheet says beside its keys, which stay in the sheet (`key_table`). An entry that
+// no record filled is zero, so that equal meanings are equal values.
+pub struct Terms {
     pub features: Features,
     pub sizes: Sizes,
-    pub keys: Keys,
     pub profiles: [Slot; PROFILES],
     pub locks: Locks,
 }
 
-// What the next record is held against: the kind of the record before (0 where there is none), how many profiles there are, the least
-// KeyID and the least profile number that may come, and the area and the end of the lock before (0 where there is none).
+// What the next record is held against: the kind of the record before (0 where there is none), how many keys and how many
+// profiles there are, the least KeyID and the least profile number that may come, and the area and the end of the lock
+// before (0 where there is none).
 pub struct Marks {
     pub last: u8,
+    pub keys: usize,
     pub profiles: usize,
     pub id: u16,
     pub number: u8,
@@ -114,7 +137,7 @@ pub struct Marks {
 // What is kept of the records so far.
 pub struct Kept {
     pub marks: Marks,
-    pub setup: Setup,
+    pub terms: Terms,
 }
 
 // A record is taken, with this many bytes; or it is the end record; or it is refused.
@@ -142,13 +165,16 @@ pub enum Verdict {
     Refused(Fault, usize),
 }
 
-// A refused sheet has the empty setup.
+// The terms of a sheet and how many key records it has. A refused sheet has the empty terms, and none.
 pub struct Reading {
     pub verdict: Verdict,
-    pub setup: Setup,
+    pub terms: Terms,
+    pub keys: usize,
 }
 
-// The paper's number of a refusal. Ruled out: one number for all refusals, and 33 and 34 exchanged.
+/// The paper's number of a refusal.
+///
+/// Ruled out: one number for all refusals; 33 and 34 exchanged.
 pub fn number(f: Fault) -> u8
     ensures { λ r. ⌜ r ≡ numberOf f ⌝ }
 {
@@ -162,22 +188,9 @@ pub fn number(f: Fault) -> u8
     }
 }
 
-fn no_key() -> Key
-    ensures { λ r. ⌜ r ≡ noKey ⌝ }
+fn empty() -> Terms
+    ensures { λ r. ⌜ r ≡ emptyTerms ⌝ }
 {
-    Key {
-        id: 0,
-        mac: false,
-        mpi: 0,
-        enc: [0u8; 16],
-        mackey: [0u8; 16],
-    }
-}
-
-fn empty() -> Setup
-    ensures { λ r. ⌜ r ≡ emptySetup ⌝ }
-{
-    let k = no_key();
     let p = Profile {
         area: Area::Identity,
         base: Word(0),
@@ -192,7 +205,7 @@ fn empty() -> Setup
         first: Word(0),
         words: 0,
     };
-    Setup {
+    Terms {
         features: Features {
             blocksize1: false,
             rev0: false,
@@ -209,10 +222,6 @@ fn empty() -> Setup
             identity: 0,
             user: 0,
         },
-        keys: Keys {
-            count: 0,
-            table: [k; KEYS],
-        },
         profiles: [s; PROFILES],
         locks: Locks {
             count: 0,
@@ -221,29 +230,34 @@ fn empty() -> Setup
     }
 }
 
-// What is kept before the first record. Ruled out: a start that takes 02 first, and one whose key table holds a key.
+/// What is kept before the first record.
+///
+/// Ruled out: a start that takes 02 first; one that counts a key.
 pub fn start() -> Kept
     ensures { λ r. ⌜ r ≡ nothingKept ⌝ }
 {
-    let s = empty();
+    let terms = empty();
     Kept {
         marks: Marks {
             last: 0,
+            keys: 0,
             profiles: 0,
             id: 0,
             number: 0,
             area: 0,
             word: 0,
         },
-        setup: s,
+        terms,
     }
 }
 
-// The record with which these bytes start, judged against what was kept of those before it.
-// Ruled out: a judgement that calls a seventeenth key record 33 for its values, and one that takes a record whose KeyID doesn't rise.
+/// The record with which these bytes start, judged against what was kept of those before it.
+///
+/// Ruled out: a judgement that calls a seventeenth key record 33 for its values; one that takes a record whose KeyID
+/// doesn't rise.
 pub fn judge(rest: &[u8], kept: Kept) -> Judged
-    ensures { λ r. ⌜ r ≡ judgedOf (now (rest .entry)) kept ⌝ }
-    ensures { λ r. ⌜ findingNumber (r .finding) ≡ judgedNumber (now (rest .entry)) kept ⌝ }
+    ensures { λ r. ⌜ r ≡ judgedOf keyLimit (now (rest .entry)) kept ⌝ }
+    ensures { λ r. ⌜ findingNumber (r .finding) ≡ judgedNumber keyLimit (now (rest .entry)) kept ⌝ }
 {
     if rest.len() == 0 {
         return Judged {
@@ -269,18 +283,39 @@ pub fn judge(rest: &[u8], kept: Kept) -> Judged
 fn refuse(f: Fault, at: usize) -> Reading
     ensures { λ r. ⌜ r ≡ refusedAt f at ⌝ }
 {
-    let setup = empty();
+    let terms = empty();
     Reading {
         verdict: Verdict::Refused(f, at),
-        setup,
+        terms,
+        keys: 0,
     }
 }
 
-// A whole sheet, record by record: what it says, or the first refusal with its place.
-// Ruled out: a reader that takes every sheet, and one that keeps part of a sheet it refuses.
+/// A whole sheet, record by record: its terms and how many key records it has, or the first refusal with its place.
+///
+/// Ruled out: a reader that takes every sheet; one that keeps part of a sheet it refuses.
 pub fn read(s: &[u8]) -> Reading
-    ensures { λ r. ⌜ r ≡ readOf (now (s .entry)) ⌝ }
-    ensures { λ r. ⌜ (verdictNumber (r .verdict) ≡ readNumber (now (s .entry))) × (verdictPlace (r .verdict) ≡ readPlace (now (s .entry))) ⌝ }
+    ensures { λ r. ⌜ r ≡ readOf keyLimit (now (s .entry)) ⌝ }
+    ensures { λ r. ⌜ (verdictNumber (r .verdict) ≡ readNumber keyLimit (now (s .entry)))
+        × (verdictPlace (r .verdict) ≡ readPlace keyLimit (now (s .entry))) ⌝ }
 {
     places::read_from(s, 0, start())
+}
+
+/// The part of a sheet where so many key records stand, as far as the sheet goes. For the number that `read` gives, it is
+/// the sheet's key table.
+///
+/// Ruled out: a table that starts with the size record; one that leaves the last record out.
+pub fn key_table(sheet: &[u8], keys: usize) -> &[u8]
+    ensures { λ r. ⌜ now r ≡ keyTable (now (sheet .entry)) keys ⌝ }
+{
+    let end = sheet.len();
+    if end < KEYS_AT {
+        return &sheet[0..0];
+    }
+    if (end - KEYS_AT) / KEY_RECORD < keys {
+        return &sheet[KEYS_AT..];
+    }
+    let e = KEYS_AT + KEY_RECORD * keys;
+    &sheet[KEYS_AT..e]
 }

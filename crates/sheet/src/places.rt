@@ -7,6 +7,7 @@ use crate::Reading;
 use crate::Verdict;
 ghost use mathlib.Core.Path.{_≡_};
 ghost use lib.ListN.{drop};
+ghost use Rattle.sheet.specs.Limits.{keyLimit};
 ghost use Rattle.sheet.specs.Judgement.{judgedOf, JudgedAs};
 ghost use Rattle.sheet.specs.Sheet.{readFrom, furtherOn, ReadAs};
 
@@ -16,7 +17,7 @@ ghost use Rattle.sheet.specs.Sheet.{readFrom, furtherOn, ReadAs};
 /// Ruled out: a judge that reads the first record wherever it is asked; one that takes a place behind the end for the
 /// end record.
 pub fn judge_at(s: &[u8], at: usize, kept: Kept) -> Judged
-    ensures { λ r. ⌜ JudgedAs r (judgedOf (drop at (now (s .entry))) kept) ⌝ }
+    ensures { λ r. ⌜ JudgedAs r (judgedOf keyLimit (drop at (now (s .entry))) kept) ⌝ }
 {
     if s.len() < at {
         return crate::judge(&s[0..0], kept);
@@ -45,7 +46,7 @@ pub fn further(s: &[u8], at: usize, n: usize) -> usize
 ///
 /// Ruled out: a reader that counts its places from where it starts; one that forgets what was kept.
 pub fn read_from(s: &[u8], from: usize, before: Kept) -> Reading
-    ensures { λ r. ⌜ ReadAs r (readFrom (now (s .entry)) from before) ⌝ }
+    ensures { λ r. ⌜ ReadAs r (readFrom keyLimit (now (s .entry)) from before) ⌝ }
 {
     let mut at = from;
     let mut kept = before;
@@ -61,10 +62,12 @@ pub fn read_from(s: &[u8], from: usize, before: Kept) -> Reading
                 if at + 1 < s.len() {
                     return crate::refuse(Fault::Tail, at + 1);
                 }
-                let setup = k.setup;
+                let terms = k.terms;
+                let keys = k.marks.keys;
                 return Reading {
                     verdict: Verdict::Whole,
-                    setup,
+                    terms,
+                    keys,
                 };
             }
             Finding::Taken(n) => {

@@ -1,9 +1,14 @@
 // A record of each kind, whole and in order: refused for its values, or taken into what is kept.
+use crate::FEATURE_RECORD;
 use crate::Fault;
 use crate::Finding;
 use crate::Judged;
+use crate::KEY_RECORD;
 use crate::Kept;
 use crate::Kind;
+use crate::LOCK_RECORD;
+use crate::PROFILE_RECORD;
+use crate::SIZE_RECORD;
 use crate::bodies;
 ghost use mathlib.Core.Path.{_≡_};
 ghost use mathlib.Core.Bool.{false};
@@ -14,18 +19,18 @@ ghost use Rattle.sheet.specs.Kinds.{bodyLength};
 ghost use Rattle.sheet.specs.Judgement.{tooMany, recordOf};
 
 fn feature_record(b: &[u8], kept: Kept) -> Judged
-    requires { ⌜ length (now b) ≡ 2 ⌝ }
+    requires { ⌜ length (now b) ≡ bodyLength Kind.FeatureRecord ⌝ }
     ensures { λ r. ⌜ r ≡ recordOf Kind.FeatureRecord (now (b .entry)) kept ⌝ }
 {
     if bodies::features_fit(b) {
         let f = bodies::features_of(b);
         let mut m = kept.marks;
         m.last = 1;
-        let mut s = kept.setup;
-        s.features = f;
+        let mut t = kept.terms;
+        t.features = f;
         return Judged {
-            finding: Finding::Taken(3),
-            kept: Kept { marks: m, setup: s },
+            finding: Finding::Taken(FEATURE_RECORD),
+            kept: Kept { marks: m, terms: t },
         };
     }
     Judged {
@@ -35,18 +40,18 @@ fn feature_record(b: &[u8], kept: Kept) -> Judged
 }
 
 fn size_record(b: &[u8], kept: Kept) -> Judged
-    requires { ⌜ length (now b) ≡ 4 ⌝ }
+    requires { ⌜ length (now b) ≡ bodyLength Kind.SizeRecord ⌝ }
     ensures { λ r. ⌜ r ≡ recordOf Kind.SizeRecord (now (b .entry)) kept ⌝ }
 {
     if bodies::sizes_fit(b) {
         let z = bodies::sizes_of(b);
         let mut m = kept.marks;
         m.last = 2;
-        let mut s = kept.setup;
-        s.sizes = z;
+        let mut t = kept.terms;
+        t.sizes = z;
         return Judged {
-            finding: Finding::Taken(5),
-            kept: Kept { marks: m, setup: s },
+            finding: Finding::Taken(SIZE_RECORD),
+            kept: Kept { marks: m, terms: t },
         };
     }
     Judged {
@@ -56,24 +61,19 @@ fn size_record(b: &[u8], kept: Kept) -> Judged
 }
 
 fn key_record(b: &[u8], kept: Kept) -> Judged
-    requires { ⌜ (length (now b) ≡ 36) × (kept .setup .keys .count < keyLimit) ⌝ }
+    requires { ⌜ (length (now b) ≡ bodyLength Kind.KeyRecord) × (kept .marks .keys < keyLimit) ⌝ }
     ensures { λ r. ⌜ r ≡ recordOf Kind.KeyRecord (now (b .entry)) kept ⌝ }
 {
     let id = kept.marks.id;
     if bodies::key_fits(b, id) {
-        let k = bodies::key_of(b);
         let mut m = kept.marks;
         m.last = 3;
+        m.keys = m.keys + 1;
         m.id = bodies::wide(b[0]) + 1;
-        let mut ks = kept.setup.keys;
-        let n = ks.count;
-        ks.table[n] = k;
-        ks.count = n + 1;
-        let mut s = kept.setup;
-        s.keys = ks;
+        let terms = kept.terms;
         return Judged {
-            finding: Finding::Taken(37),
-            kept: Kept { marks: m, setup: s },
+            finding: Finding::Taken(KEY_RECORD),
+            kept: Kept { marks: m, terms },
         };
     }
     Judged {
@@ -83,11 +83,11 @@ fn key_record(b: &[u8], kept: Kept) -> Judged
 }
 
 fn profile_record(b: &[u8], kept: Kept) -> Judged
-    requires { ⌜ (length (now b) ≡ 6) × (kept .marks .profiles < profileLimit) ⌝ }
+    requires { ⌜ (length (now b) ≡ bodyLength Kind.ProfileRecord) × (kept .marks .profiles < profileLimit) ⌝ }
     ensures { λ r. ⌜ r ≡ recordOf Kind.ProfileRecord (now (b .entry)) kept ⌝ }
 {
     let number = kept.marks.number;
-    let z = kept.setup.sizes;
+    let z = kept.terms.sizes;
     if bodies::profile_fits(b, number, z) {
         let p = bodies::slot_of(b);
         let i = b[0];
@@ -95,12 +95,12 @@ fn profile_record(b: &[u8], kept: Kept) -> Judged
         m.last = 4;
         m.profiles = m.profiles + 1;
         m.number = i + 1;
-        let mut s = kept.setup;
+        let mut t = kept.terms;
         let at = i as usize;
-        s.profiles[at] = p;
+        t.profiles[at] = p;
         return Judged {
-            finding: Finding::Taken(7),
-            kept: Kept { marks: m, setup: s },
+            finding: Finding::Taken(PROFILE_RECORD),
+            kept: Kept { marks: m, terms: t },
         };
     }
     Judged {
@@ -110,27 +110,27 @@ fn profile_record(b: &[u8], kept: Kept) -> Judged
 }
 
 fn lock_record(b: &[u8], kept: Kept) -> Judged
-    requires { ⌜ (length (now b) ≡ 5) × (kept .setup .locks .count < lockLimit) ⌝ }
+    requires { ⌜ (length (now b) ≡ bodyLength Kind.LockRecord) × (kept .terms .locks .count < lockLimit) ⌝ }
     ensures { λ r. ⌜ r ≡ recordOf Kind.LockRecord (now (b .entry)) kept ⌝ }
 {
     let area = kept.marks.area;
     let word = kept.marks.word;
-    let z = kept.setup.sizes;
+    let z = kept.terms.sizes;
     if bodies::lock_fits(b, area, word, z) {
         let l = bodies::lock_of(b);
         let mut m = kept.marks;
         m.last = 5;
         m.area = b[0];
         m.word = bodies::long(bodies::word_at(b, 1)) + bodies::long(bodies::word_at(b, 3));
-        let mut ls = kept.setup.locks;
+        let mut ls = kept.terms.locks;
         let n = ls.count;
         ls.table[n] = l;
         ls.count = n + 1;
-        let mut s = kept.setup;
-        s.locks = ls;
+        let mut t = kept.terms;
+        t.locks = ls;
         return Judged {
-            finding: Finding::Taken(6),
-            kept: Kept { marks: m, setup: s },
+            finding: Finding::Taken(LOCK_RECORD),
+            kept: Kept { marks: m, terms: t },
         };
     }
     Judged {
@@ -141,7 +141,7 @@ fn lock_record(b: &[u8], kept: Kept) -> Judged
 
 // The body b of a record of kind q.
 pub(crate) fn judge_body(q: Kind, b: &[u8], kept: Kept) -> Judged
-    requires { ⌜ (length (now b) ≡ bodyLength q) × (tooMany q kept ≡ false) ⌝ }
+    requires { ⌜ (length (now b) ≡ bodyLength q) × (tooMany keyLimit q kept ≡ false) ⌝ }
     ensures { λ r. ⌜ r ≡ recordOf q (now (b .entry)) kept ⌝ }
 {
     match q {

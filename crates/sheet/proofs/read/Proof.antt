@@ -1,5 +1,6 @@
 use mathlib.Core.Path.{ap, _∙_}
 use borrow.Author.Needs.{needs}
+use Rattle.sheet.specs.Limits.{keyLimit}
 use Rattle.sheet.specs.Sheet.{readFrom, readOf}
 use Rattle.sheet.proofs.Verdicts.{read-told}
 use Rattle.sheet.proofs.read.Statement.{statement}
@@ -13,7 +14,10 @@ read-from-requires c κs = search needs
 
 returns : tie.Need-returns
 unfolding readOf
-returns c = let a = c .before .before .before .args in read-told (a .s .now) _ (c .read-from .ensures .0 ∙ ap (readFrom (a .s .now) 0) (c .before .start .ensures))
+returns c =
+    let a = c .before .before .before .args in
+    let begun = ap (readFrom keyLimit (a .s .now) 0) (c .before .start .ensures) in
+    read-told keyLimit (a .s .now) _ (c .read-from .ensures .0 ∙ begun)
 
 pub read-spec : {M : Type 1} → statement M
 read-spec = tie.close (tie.spec start-requires read-from-requires returns)

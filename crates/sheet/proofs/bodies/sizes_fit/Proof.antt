@@ -4,7 +4,8 @@ use mathlib.Core.Path.{ap}
 use lib.Dec.{leb}
 use borrow.Author.Tests.{lt-leb, le-leb}
 use Rattle.sheet.specs.Limits.{wordLimit}
-use Rattle.sheet.specs.Records.{wordAt, sizesRule}
+use Rattle.ground.specs.Bytes.{wordAt}
+use Rattle.sheet.specs.Records.{sizesRule}
 use borrow.Author.Needs.{needs}
 use Rattle.sheet.proofs.bodies.sizes_fit.Statement.{statement}
 use Rattle.sheet.proofs.bodies.sizes_fit.Tie as tie

@@ -1,3 +1,4 @@
+use Rattle.sheet.specs.Limits.{keyLimit}
 use Rattle.sheet.proofs.Verdicts.{judged-as}
 use Rattle.sheet.proofs.Further.{judged-at, judged-behind}
 use borrow.Author.Needs.{needs}
@@ -18,7 +19,9 @@ judge-requires c κs = search needs
 
 returns : tie.Need-returns
 returns c =
-    let a = c .before .before .before .before .args in judged-as _ _ (judged-behind (a .s .now) (a .at) (a .kept) _ (c .before .before .if1 .taken) (c .judge .ensures .0))
+    let i = c .before .before in
+    let a = i .before .before .args in
+    judged-as _ _ (judged-behind keyLimit (a .s .now) (a .at) (a .kept) _ (i .if1 .taken) (c .judge .ensures .0))
 
 sub-judge-2 : tie.Need-sub-judge-2
 sub-judge-2 c = search needs
@@ -34,7 +37,8 @@ judge-requires-2 c κs = search needs
 
 returns-2 : tie.Need-returns-2
 returns-2 c =
-    let a = c .before .before .before .before .args in judged-as _ _ (judged-at (a .s .now) (a .at) (a .kept) _ (c .judge2 .ensures .0))
+    let a = c .before .before .before .before .args in
+    judged-as _ _ (judged-at keyLimit (a .s .now) (a .at) (a .kept) _ (c .judge2 .ensures .0))
 
 pub judge-at-spec : {M : Type 1} → statement M
 judge-at-spec =

@@ -3,6 +3,7 @@ use mathlib.Core.Path.{_≡_, refl, sym, _∙_}
 use native.Mathlib.Omega.{arith}
 use borrow.Author.Needs.{needs}
 use lib.ListN.{length}
+use Rattle.sheet.specs.Limits.{keyLimit}
 use Rattle.sheet.specs.Sheet.{readFrom}
 use Rattle.sheet.proofs.Walks.{read-faulty, read-tail, read-whole, read-taken, read-cut}
 use Rattle.sheet.proofs.Verdicts.{read-as}
@@ -10,7 +11,7 @@ use Rattle.sheet.proofs.places.read_from.Statement.{statement}
 use Rattle.sheet.proofs.places.read_from.Tie as tie
 
 abbrev Inv-loop : tie.InvT-loop
-Inv-loop s from at₀ kept₀ at kept = readFrom s at kept ≡ readFrom s at₀ kept₀
+Inv-loop s from at₀ kept₀ at kept = readFrom keyLimit s at kept ≡ readFrom keyLimit s at₀ kept₀
 
 abbrev μ-loop : tie.MeasureT-loop
 μ-loop s from at₀ kept₀ at kept = length s - at
@@ -29,11 +30,13 @@ refuse-requires c κs = search needs
 
 returns : tie.Need-returns Inv-loop μ-loop
 returns c =
-    let a = c .before .before .before .before .before .before .before .before .before .args in
-    let l = c .before .before .before .before .before .before .before .loop in
-    let t = c .before .before .before .before .before .before .loop-test .taken in
-    let j = c .before .before .before .before .before .judge-at in
-    read-as _ _ (c .refuse .ensures ∙ sym (read-faulty (a .s .now) (l .at) (l .kept) _ t (j .ensures .0) _ (c .before .before .f .given .1)) ∙ l .inv)
+    let b = c .before .before .before .before .before in
+    let l = b .before .before .loop in
+    let a = b .before .before .before .before .args in
+    let t = b .before .loop-test .taken in
+    let j = b .judge-at .ensures .0 in
+    let h = read-faulty keyLimit (a .s .now) (l .at) (l .kept) _ t j _ (c .before .before .f .given .1) in
+    read-as _ _ (c .refuse .ensures ∙ sym h ∙ l .inv)
 
 enum-told : tie.Need-enum-told Inv-loop μ-loop
 enum-told c = search needs
@@ -49,48 +52,57 @@ refuse-requires-2 c κs = search needs
 
 returns-2 : tie.Need-returns-2 Inv-loop μ-loop
 returns-2 c =
-    let a = c .before .before .before .before .before .before .before .before .before .args in
-    let l = c .before .before .before .before .before .before .before .loop in
-    let t = c .before .before .before .before .before .before .loop-test .taken in
-    let j = c .before .before .before .before .before .judge-at in
-    read-as _ _ (c .refuse2 .ensures ∙ sym (read-tail (a .s .now) (l .at) (l .kept) _ t (j .ensures .0) (c .before .before .enum-told .given .1) (c .before .if1 .taken)) ∙ l .inv)
+    let b = c .before .before .before .before .before in
+    let l = b .before .before .loop in
+    let a = b .before .before .before .before .args in
+    let t = b .before .loop-test .taken in
+    let j = b .judge-at .ensures .0 in
+    let e = c .before .before .enum-told .given .1 in
+    let h = read-tail keyLimit (a .s .now) (l .at) (l .kept) _ t j e (c .before .if1 .taken) in
+    read-as _ _ (c .refuse2 .ensures ∙ sym h ∙ l .inv)
 
 returns-3 : tie.Need-returns-3 Inv-loop μ-loop
 returns-3 c =
-    let a = c .before .before .before .before .before .before .before .before .before .args in
-    let l = c .before .before .before .before .before .before .before .loop in
-    let t = c .before .before .before .before .before .before .loop-test .taken in
-    let j = c .before .before .before .before .before .judge-at in
-    read-as _ _ (sym (read-whole (a .s .now) (l .at) (l .kept) _ t (j .ensures .0) (c .before .before .enum-told .given .1) (c .before .if1 .left)) ∙ l .inv)
+    let b = c .before .before .before .before .before in
+    let l = b .before .before .loop in
+    let a = b .before .before .before .before .args in
+    let t = b .before .loop-test .taken in
+    let j = b .judge-at .ensures .0 in
+    let e = c .before .before .enum-told .given .1 in
+    let h = read-whole keyLimit (a .s .now) (l .at) (l .kept) _ t j e (c .before .if1 .left) in
+    read-as _ _ (sym h ∙ l .inv)
 
 enum-known-f-2 : tie.Need-enum-known-f-2 Inv-loop μ-loop
 enum-known-f-2 c = search needs
 
 add-at : tie.Need-add-at Inv-loop μ-loop
 add-at c =
-    let a = c .before .before .before .before .before .before .before .before .args in
-    let l = c .before .before .before .before .before .before .loop in
-    let t = c .before .before .before .before .before .loop-test .taken in
-    let j = c .before .before .before .before .judge-at in
-    let h = read-taken (a .s .now) (l .at) (l .kept) _ t (j .ensures .0) _ (c .before .f2 .given .1) in
+    let b = c .before .before .before .before in
+    let l = b .before .before .loop in
+    let a = b .before .before .before .before .args in
+    let t = b .before .loop-test .taken in
+    let j = b .judge-at .ensures .0 in
+    let h = read-taken keyLimit (a .s .now) (l .at) (l .kept) _ t j _ (c .before .f2 .given .1) in
     omega arith
 
 loop-less : tie.Need-loop-less Inv-loop μ-loop
 loop-less c =
-    let a = c .before .before .before .before .before .before .before .before .args in
-    let l = c .before .before .before .before .before .before .loop in
-    let t = c .before .before .before .before .before .loop-test .taken in
-    let j = c .before .before .before .before .judge-at in
-    let h = read-taken (a .s .now) (l .at) (l .kept) _ t (j .ensures .0) _ (c .before .f2 .given .1) in
+    let b = c .before .before .before .before in
+    let l = b .before .before .loop in
+    let a = b .before .before .before .before .args in
+    let t = b .before .loop-test .taken in
+    let j = b .judge-at .ensures .0 in
+    let h = read-taken keyLimit (a .s .now) (l .at) (l .kept) _ t j _ (c .before .f2 .given .1) in
     omega arith
 
 loop-again : tie.Need-loop-again Inv-loop μ-loop
 loop-again c =
-    let a = c .before .before .before .before .before .before .before .before .args in
-    let l = c .before .before .before .before .before .before .loop in
-    let t = c .before .before .before .before .before .loop-test .taken in
-    let j = c .before .before .before .before .judge-at in
-    let h = read-taken (a .s .now) (l .at) (l .kept) _ t (j .ensures .0) _ (c .before .f2 .given .1) in
+    let b = c .before .before .before .before in
+    let l = b .before .before .loop in
+    let a = b .before .before .before .before .args in
+    let t = b .before .loop-test .taken in
+    let j = b .judge-at .ensures .0 in
+    let h = read-taken keyLimit (a .s .now) (l .at) (l .kept) _ t j _ (c .before .f2 .given .1) in
     sym (h .2) ∙ l .inv
 
 refuse-requires-3 : tie.Need-refuse-requires-3 Inv-loop μ-loop
@@ -100,7 +112,7 @@ returns-4 : tie.Need-returns-4 Inv-loop μ-loop
 returns-4 c =
     let a = c .before .before .before .before .args in
     let l = c .before .before .loop in
-    read-as _ _ (c .refuse3 .ensures ∙ sym (read-cut (a .s .now) (l .at) (l .kept) (c .before .loop-test .left)) ∙ l .inv)
+    read-as _ _ (c .refuse3 .ensures ∙ sym (read-cut keyLimit (a .s .now) (l .at) (l .kept) (c .before .loop-test .left)) ∙ l .inv)
 
 pub read-from-spec : {M : Type 1} → statement M
 read-from-spec =

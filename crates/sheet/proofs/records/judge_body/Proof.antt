@@ -1,4 +1,5 @@
 use mathlib.Core.Path.{ap, _∙_}
+use Rattle.sheet.specs.Limits.{keyLimit}
 use Rattle.sheet.specs.Kinds.{bodyLength}
 use Rattle.sheet.specs.Judgement.{recordOf}
 use Rattle.sheet.proofs.Judgements.{key-room, profile-room, lock-room}
@@ -22,19 +23,28 @@ enum-told-3 : tie.Need-enum-told-3
 enum-told-3 c = search needs
 
 key-record-requires : tie.Need-key-record-requires
-key-record-requires c κs = (c .before .before .before .pre .0 ∙ ap bodyLength (c .enum-told3 .given .1), key-room _ _ (c .enum-told3 .given .1) (c .before .before .before .pre .1))
+key-record-requires c κs =
+    let p = c .before .before .before .pre in
+    let q = c .enum-told3 .given .1 in
+    (p .0 ∙ ap bodyLength q, key-room keyLimit _ _ q (p .1))
 
 enum-told-4 : tie.Need-enum-told-4
 enum-told-4 c = search needs
 
 profile-record-requires : tie.Need-profile-record-requires
-profile-record-requires c κs = (c .before .before .before .pre .0 ∙ ap bodyLength (c .enum-told4 .given .1), profile-room _ _ (c .enum-told4 .given .1) (c .before .before .before .pre .1))
+profile-record-requires c κs =
+    let p = c .before .before .before .pre in
+    let q = c .enum-told4 .given .1 in
+    (p .0 ∙ ap bodyLength q, profile-room keyLimit _ _ q (p .1))
 
 enum-told-5 : tie.Need-enum-told-5
 enum-told-5 c = search needs
 
 lock-record-requires : tie.Need-lock-record-requires
-lock-record-requires c κs = (c .before .before .before .pre .0 ∙ ap bodyLength (c .enum-told5 .given .1), lock-room _ _ (c .enum-told5 .given .1) (c .before .before .before .pre .1))
+lock-record-requires c κs =
+    let p = c .before .before .before .pre in
+    let q = c .enum-told5 .given .1 in
+    (p .0 ∙ ap bodyLength q, lock-room keyLimit _ _ q (p .1))
 
 enum-told-6 : tie.Need-enum-told-6
 enum-told-6 c = search needs
