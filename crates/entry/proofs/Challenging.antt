@@ -20,7 +20,7 @@ use Rattle.offer.specs.declared.Verdict.the-variants.{Fine, Wrong}
 use Rattle.offer.specs.Outcomes.{settled, sending, sent}
 use Rattle.offer.specs.Checks.{judged}
 use Rattle.offer.specs.Judged.{openingChecks}
-use Rattle.offer.specs.Records.{keyNamed}
+use Rattle.keytable.specs.Named.{keyWith}
 use Rattle.entry.specs.declared.Session.{Session}
 use Rattle.entry.specs.declared.State.the-variants.{IamInit, MamInit}
 use Rattle.entry.specs.declared.Challenged.{Challenged}
@@ -95,12 +95,12 @@ module _ (keys : List Key) (m draws : List ℕ) (v : Verdict) where
     abbrev mam1Session : Session
     mam1Session = record { state = MamInit; keyid = f .keyid; tchallenge = draws; ichallenge = kept f }
 
-    pub mam1-fine : (k : Key) (reply : List ℕ) → length draws ≡ 10 → v ≡ Fine → k ≡ keyNamed keys (f .keyid)
+    pub mam1-fine : (k : Key) (reply : List ℕ) → length draws ≡ 10 → v ≡ Fine → k ≡ keyWith (f .keyid) keys
         → reply ≡ mam1Reply k f draws
         → Challenges (mam1Verdict keys m) (mam1Sent keys m draws) (mam1Held m draws)
         (record { outcome = Replied 22; session = mam1Session; reply = reply })
     mam1-fine k reply ten x ke re =
-        let full : k ≡ keyNamed keys (mam1Of m .keyid) = ke ∙ (λ j. keyNamed keys (e j .keyid)) in
+        let full : k ≡ keyWith (mam1Of m .keyid) keys = ke ∙ (λ j. keyWith (e j .keyid) keys) in
         let made : reply ≡ mam1Sent keys m draws = re ∙ (λ j. mam1Reply (full j) (e j) draws) in
         let long : length (mam1Sent keys m draws) ≡ 22 = mam1-long _ (mam1Of m) draws ten in
         let last : kept f ≡ drop 6 (mam1Of m .ichallenge) =

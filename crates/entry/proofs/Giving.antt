@@ -30,7 +30,8 @@ use Rattle.offer.specs.declared.Verdict.{Verdict}
 use Rattle.offer.specs.declared.Verdict.the-variants.{Fine, Wrong}
 use Rattle.offer.specs.Outcomes.{settled}
 use Rattle.offer.specs.Checks.{judged}
-use Rattle.offer.specs.Records.{keyNamed, blockAsked}
+use Rattle.keytable.specs.Named.{keyWith}
+use Rattle.offer.specs.Records.{blockAsked}
 use Rattle.offer.proofs.Lines.{then-fine, then-wrong}
 use Rattle.entry.specs.declared.Reacted.{Reacted}
 use Rattle.entry.specs.declared.Session.{Session}
@@ -72,7 +73,7 @@ closing P kind m enc enc′ x x′ b rfu rfu′ proof v e f g h p w =
     let told : proof ≡ P (aesEnc enc′ x′) = p ∙ ap P opened in
     sym (w ∙ (λ j. judged (closingChecks (told j) (g j) kind m)))
 
-module _ (keys : List Key) (held : Session) (m : List ℕ) (k : Key) (ke : k ≡ keyNamed keys (held .keyid))
+module _ (keys : List Key) (held : Session) (m : List ℕ) (k : Key) (ke : k ≡ keyWith (held .keyid) keys)
     (b : List ℕ) (proof : Bool) (v : Verdict)
   where
     -- IAM2
@@ -140,11 +141,11 @@ by-proof true purpose stored i u r i′ u′ o s p q =
 by-proof false purpose stored i u r i′ u′ o s p q =
     record { letsIn = record { outcome = o; session = s }; inIdentity = p; inUser = q }
 
-module _ (setup : Setup) (held : Session) (m : List ℕ) (k : Key) (ke : k ≡ keyNamed (setup .keys) (held .keyid))
+module _ (setup : Setup) (held : Session) (m : List ℕ) (k : Key) (ke : k ≡ keyWith (held .keyid) (setup .keys))
     (v : Verdict) (w : v ≡ judged (iam3FieldChecks (termsOf setup) k m)) (i u : List ℕ)
   where
     abbrev named : Key
-    named = keyNamed (setup .keys) (held .keyid)
+    named = keyWith (held .keyid) (setup .keys)
 
     fields-judged : judged (iam3FieldChecks (termsOf setup) named m) ≡ v
     fields-judged = sym (w ∙ (λ j. judged (iam3FieldChecks (termsOf setup) (ke j) m)))

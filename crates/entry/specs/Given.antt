@@ -17,7 +17,8 @@ use Rattle.offer.specs.declared.Verdict.{Verdict}
 use Rattle.offer.specs.Outcomes.{settled, sending, sent}
 use Rattle.offer.specs.Checks.{judged}
 use Rattle.offer.specs.Judged.{openingChecks}
-use Rattle.offer.specs.Records.{keyNamed, blockAsked}
+use Rattle.keytable.specs.Named.{keyWith}
+use Rattle.offer.specs.Records.{blockAsked}
 use Rattle.entry.specs.declared.State.the-variants.{IamInit, MamInit}
 use Rattle.entry.specs.declared.Session.{Session}
 use Rattle.entry.specs.declared.Reacted.{Reacted}
@@ -44,7 +45,7 @@ abbrev pub mam1Verdict : List Key → List ℕ → Verdict
 mam1Verdict keys m = let f = mam1Of m in judged (openingChecks Mam1 (f .rfu) (f .keyid) keys m)
 
 abbrev pub mam1Sent : List Key → List ℕ → List ℕ → List ℕ
-mam1Sent keys m draws = let f = mam1Of m in mam1Reply (keyNamed keys (f .keyid)) f draws
+mam1Sent keys m draws = let f = mam1Of m in mam1Reply (keyWith (f .keyid) keys) f draws
 
 abbrev pub mam1Held : List ℕ → List ℕ → Session
 mam1Held m draws = record {
@@ -60,14 +61,14 @@ module _ (keys : List Key) (held : Session) (m : List ℕ) where
   iam2Verdict = judged (iam2Checks keys held m)
 
   abbrev pub iam2Purpose : ℕ
-  iam2Purpose = purposeIn (aesEnc (keyNamed keys (held .keyid) .enc) (iam2Of m .iresponse))
+  iam2Purpose = purposeIn (aesEnc (keyWith (held .keyid) keys .enc) (iam2Of m .iresponse))
 
   -- 9.6.5, 9.6.6
   abbrev pub mam2Verdict : Verdict
   mam2Verdict = judged (mam2Checks keys held m)
 
   abbrev pub mam2Purpose : ℕ
-  mam2Purpose = purposeIn (aesEnc (keyNamed keys (held .keyid) .enc) (mam2Of m .iresponse))
+  mam2Purpose = purposeIn (aesEnc (keyWith (held .keyid) keys .enc) (mam2Of m .iresponse))
 
 module _ (setup : Setup) (held : Session) (m : List ℕ) where
   -- 9.5.8, 9.5.9: after everything was judged the words of the block are written, and no others.
@@ -75,12 +76,12 @@ module _ (setup : Setup) (held : Session) (m : List ℕ) where
   iam3Verdict = judged (iam3Checks setup held m)
 
   abbrev pub iam3Purpose : ℕ
-  iam3Purpose = purposeIn (aesEnc (keyNamed (setup .keys) (held .keyid) .enc) (sentBlock m))
+  iam3Purpose = purposeIn (aesEnc (keyWith (held .keyid) (setup .keys) .enc) (sentBlock m))
 
   abbrev pub iam3Stored : Area → List ℕ → List ℕ
   iam3Stored area s =
       let f = iam3Of m in
-      let words = wordsIn (f .custom) (openedData (keyNamed (setup .keys) (held .keyid)) f m) in
+      let words = wordsIn (f .custom) (openedData (keyWith (held .keyid) (setup .keys)) f m) in
       storedIn area (blockAsked (setup .profiles) (f .custom)) words s
 
 -- The bytes that a reply to IAM1 or MAM1 has at most.

@@ -22,7 +22,8 @@ use Rattle.frames.specs.Messages.{iam2Of, iam3Of, mam2Of}
 use Rattle.frames.specs.Lengths.{lengthFits}
 use Rattle.offer.specs.declared.Fault.{Fault}
 use Rattle.offer.specs.declared.Fault.the-variants.{OtherError, NotSupported, MemoryOverrun, MemoryWriteError, ProofWrong}
-use Rattle.offer.specs.Records.{sizeOffered, modeSupported, keyNamed, slotNamed, blockAsked}
+use Rattle.keytable.specs.Named.{keyWith}
+use Rattle.offer.specs.Records.{sizeOffered, modeSupported, slotNamed, blockAsked}
 use Rattle.entry.specs.declared.Session.{Session}
 use Rattle.entry.specs.Opened.{iamProof, mamProof, iam3Proof}
 
@@ -37,13 +38,13 @@ closingChecks proof rfu kind m =
 -- 9.5.5
 unfoldable pub iam2Checks : List Key → Session → List ℕ → List (Check Fault)
 iam2Checks keys held m =
-    closingChecks (iamProof C-IAM2 held (aesEnc (keyNamed keys (held .keyid) .enc) (iam2Of m .iresponse)))
+    closingChecks (iamProof C-IAM2 held (aesEnc (keyWith (held .keyid) keys .enc) (iam2Of m .iresponse)))
     (iam2Of m .rfu) Iam2 m
 
 -- 9.6.5
 unfoldable pub mam2Checks : List Key → Session → List ℕ → List (Check Fault)
 mam2Checks keys held m =
-    closingChecks (mamProof held (aesEnc (keyNamed keys (held .keyid) .enc) (mam2Of m .iresponse)))
+    closingChecks (mamProof held (aesEnc (keyWith (held .keyid) keys .enc) (mam2Of m .iresponse)))
     (mam2Of m .rfu) Mam2 m
 
 -- IAM3, with the slot and the block that it names: profile, right, memory, lock. A block size that is not supported is a
@@ -72,5 +73,5 @@ iam3FieldChecks terms key m = (lengthFits Iam3 m else OtherError) ∷ iam3Middle
 -- 9.5.8
 unfoldable pub iam3Checks : Setup → Session → List ℕ → List (Check Fault)
 iam3Checks setup held m =
-    let key = keyNamed (setup .keys) (held .keyid) in
+    let key = keyWith (held .keyid) (setup .keys) in
     iam3FieldChecks (termsOf setup) key m ++ ((iam3Proof key held (iam3Of m) m else ProofWrong) ∷ [])

@@ -14,7 +14,8 @@ use Rattle.frames.specs.declared.Kind.{Kind}
 use Rattle.frames.specs.Lengths.{lengthFits, replyRoom}
 use Rattle.offer.specs.declared.Verdict.the-variants.{Fine}
 use Rattle.offer.specs.Checks.{judged}
-use Rattle.offer.specs.Records.{modeOffered, modeSupported, keyPresent}
+use Rattle.keytable.specs.Named.{hasKey}
+use Rattle.offer.specs.Records.{modeOffered, modeSupported}
 use Rattle.offer.specs.Judged.{drawBytes, benchChecks, openingChecks}
 use Rattle.offer.proofs.Lines.{first-holds, others-hold}
 
@@ -52,6 +53,6 @@ module _ (kind : Kind) (rfu keyid : ℕ) (keys : List Key) (m : List ℕ)
   unfolding openingChecks
   opening-length = first-holds _ _ h
 
-  pub opening-key : keyPresent keys keyid ≡ true
+  pub opening-key : hasKey keyid keys ≡ true
   unfolding openingChecks
   opening-key = first-holds _ _ (others-hold _ _ (others-hold _ _ h))

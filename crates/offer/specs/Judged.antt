@@ -10,7 +10,7 @@ use Rattle.frames.specs.declared.Kind.{Kind}
 use Rattle.frames.specs.Lengths.{lengthFits, replyRoom}
 use Rattle.offer.specs.declared.Fault.{Fault}
 use Rattle.offer.specs.declared.Fault.the-variants.{OtherError, NotSupported, BenchFault}
-use Rattle.offer.specs.Records.{keyPresent}
+use Rattle.keytable.specs.Named.{hasKey}
 
 -- The draws each call brings.
 abbrev pub drawBytes : ℕ
@@ -30,5 +30,5 @@ unfoldable pub openingChecks : Kind → ℕ → ℕ → List Key → List ℕ �
 openingChecks kind rfu keyid keys m =
     (lengthFits kind m else OtherError)
     ∷ (eqb rfu 0 else NotSupported)
-    ∷ (keyPresent keys keyid else NotSupported)
+    ∷ (hasKey keyid keys else NotSupported)
     ∷ []

@@ -12,7 +12,7 @@ use Rattle.sheet.specs.declared.Features.{Features}
 use Rattle.sheet.specs.declared.Key.{Key}
 use Rattle.sheet.specs.declared.Slot.{Slot}
 use Rattle.sheet.specs.Setups.{Setup}
-use Rattle.sheet.specs.Setups.{noKey, noSlot}
+use Rattle.sheet.specs.Setups.{noSlot}
 use Rattle.frames.specs.declared.Kind.{Kind}
 use Rattle.frames.specs.declared.Kind.the-variants.{Tam1, Tam2, Iam1, Iam2, Iam3, Mam1, Mam2, Unsupported}
 use Rattle.frames.specs.declared.Custom.{Custom}

@@ -22,7 +22,8 @@ use Rattle.offer.specs.declared.Verdict.the-variants.{Fine, Wrong}
 use Rattle.offer.specs.Outcomes.{sending, sent}
 use Rattle.offer.specs.Checks.{judged}
 use Rattle.offer.specs.Judged.{openingChecks}
-use Rattle.offer.specs.Records.{keyNamed, blockAsked}
+use Rattle.keytable.specs.Named.{keyWith}
+use Rattle.offer.specs.Records.{blockAsked}
 use Rattle.tam.specs.declared.Given.{Given}
 use Rattle.tam.specs.Replies.{tam1Reply, tam2Reply}
 use Rattle.tam.specs.Given.{Gives, tam1Verdict, tam1Sent, tam2Verdict, tam2Sent}
@@ -55,11 +56,11 @@ module _ (keys : List Key) (m draws : List ℕ) (v : Verdict) where
         → Gives (tam1Verdict keys m) (tam1Sent keys m draws) g
     tam1-wrong fault g x t = refuses _ _ g fault (tam1-judged ∙ x) t
 
-    pub tam1-fine : (k : Key) (block after : List ℕ) → v ≡ Fine → k ≡ keyNamed keys (f .keyid)
+    pub tam1-fine : (k : Key) (block after : List ℕ) → v ≡ Fine → k ≡ keyWith (f .keyid) keys
         → block ≡ tam1Reply k f draws → after ≡ take (length block) block ++ drop (length block) zeros
         → Gives (tam1Verdict keys m) (tam1Sent keys m draws) (record { outcome = Replied 16; reply = after })
     tam1-fine k block after x ke re h =
-        let full : k ≡ keyNamed keys (tam1Of m .keyid) = ke ∙ (λ j. keyNamed keys (e j .keyid)) in
+        let full : k ≡ keyWith (tam1Of m .keyid) keys = ke ∙ (λ j. keyWith (e j .keyid) keys) in
         let made : block ≡ tam1Sent keys m draws = re ∙ (λ j. tam1Reply (full j) (e j) draws) in
         gives _ _ _ (tam1-judged ∙ x) (ap Replied (sym (tam1-long _ (tam1Of m) draws)))
         (copied block zeros after h ∙ ap (λ (l : List ℕ). over l zeros) made)
@@ -72,11 +73,11 @@ module _ (setup : Setup) (m draws : List ℕ) (v : Verdict) where
     tam2-wrong fault g x t = refuses _ _ g fault (sym w ∙ x) t
 
     pub tam2-fine : (f : Tam2Fields) (k : Key) (b : Block) (words after : List ℕ) (n : ℕ) → v ≡ Fine → f ≡ tam2Of m
-        → k ≡ keyNamed (setup .keys) (f .keyid) → b ≡ blockAsked (setup .profiles) (f .custom) → words ≡ windowOf i u b
+        → k ≡ keyWith (f .keyid) (setup .keys) → b ≡ blockAsked (setup .profiles) (f .custom) → words ≡ windowOf i u b
         → n ≡ length (tam2Reply k f words draws) → after ≡ over (tam2Reply k f words draws) zeros
         → Gives (tam2Verdict setup m) (tam2Sent setup m draws i u) (record { outcome = Replied n; reply = after })
     tam2-fine f k b words after n x e ke be we ne h =
-        let full : k ≡ keyNamed (setup .keys) (tam2Of m .keyid) = ke ∙ (λ j. keyNamed (setup .keys) (e j .keyid)) in
+        let full : k ≡ keyWith (tam2Of m .keyid) (setup .keys) = ke ∙ (λ j. keyWith (e j .keyid) (setup .keys)) in
         let block : b ≡ blockAsked (setup .profiles) (tam2Of m .custom) = be ∙ (λ j. blockAsked (setup .profiles) (e j .custom)) in
         let asked : words ≡ windowOf i u (blockAsked (setup .profiles) (tam2Of m .custom)) = we ∙ ap (windowOf i u) block in
         let made : tam2Reply k f words draws ≡ tam2Sent setup m draws i u =

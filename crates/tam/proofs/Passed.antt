@@ -11,7 +11,8 @@ use Rattle.frames.specs.Messages.{tam2Of}
 use Rattle.frames.specs.Lengths.{tam2Length, lengthFits}
 use Rattle.offer.specs.declared.Verdict.the-variants.{Fine}
 use Rattle.offer.specs.Checks.{judged}
-use Rattle.offer.specs.Records.{modeSupported, keyPresent, keyNamed, slotNamed, blockAsked}
+use Rattle.keytable.specs.Named.{hasKey, keyWith}
+use Rattle.offer.specs.Records.{modeSupported, slotNamed, blockAsked}
 use Rattle.offer.proofs.Lines.{first-holds, others-hold}
 use Rattle.tam.specs.Judged.{tam2Checks}
 
@@ -20,7 +21,7 @@ module _ (setup : Setup) (m : List ℕ) (h : judged (tam2Checks setup m) ≡ Fin
   unfolding tam2Checks lengthFits
   tam2-length = eqb-true _ _ (first-holds _ _ h)
 
-  pub tam2-key : keyPresent (setup .keys) (tam2Of m .keyid) ≡ true
+  pub tam2-key : hasKey (tam2Of m .keyid) (setup .keys) ≡ true
   unfolding tam2Checks
   tam2-key = first-holds _ _ (others-hold _ _ (others-hold _ _ (others-hold _ _ (others-hold _ _ h))))
 
@@ -30,7 +31,7 @@ module _ (setup : Setup) (m : List ℕ) (h : judged (tam2Checks setup m) ≡ Fin
       let k = others-hold _ _ (others-hold _ _ (others-hold _ _ (others-hold _ _ h))) in
       not-true _ (first-holds _ _ (others-hold _ _ (others-hold _ _ (others-hold _ _ k))))
 
-  pub tam2-mode : modeSupported (setup .features) (keyNamed (setup .keys) (tam2Of m .keyid)) (tam2Of m .protmode) ≡ true
+  pub tam2-mode : modeSupported (setup .features) (keyWith (tam2Of m .keyid) (setup .keys)) (tam2Of m .protmode) ≡ true
   unfolding tam2Checks
   tam2-mode =
       let k = others-hold _ _ (others-hold _ _ (others-hold _ _ (others-hold _ _ h))) in

@@ -14,7 +14,8 @@ use Rattle.offer.specs.declared.Verdict.{Verdict}
 use Rattle.offer.specs.Outcomes.{sending, sent}
 use Rattle.offer.specs.Checks.{judged}
 use Rattle.offer.specs.Judged.{openingChecks}
-use Rattle.offer.specs.Records.{keyNamed, blockAsked}
+use Rattle.keytable.specs.Named.{keyWith}
+use Rattle.offer.specs.Records.{blockAsked}
 use Rattle.tam.specs.declared.Given.{Given}
 use Rattle.tam.specs.Judged.{tam2Checks}
 use Rattle.tam.specs.Replies.{tam1Reply, tam2Reply}
@@ -24,7 +25,7 @@ abbrev pub tam1Verdict : List Key → List ℕ → Verdict
 tam1Verdict keys m = let f = tam1Of m in judged (openingChecks Tam1 (f .rfu) (f .keyid) keys m)
 
 abbrev pub tam1Sent : List Key → List ℕ → List ℕ → List ℕ
-tam1Sent keys m draws = let f = tam1Of m in tam1Reply (keyNamed keys (f .keyid)) f draws
+tam1Sent keys m draws = let f = tam1Of m in tam1Reply (keyWith (f .keyid) keys) f draws
 
 -- 9.4.5, 9.4.6: the words are those of the block that the message names.
 abbrev pub tam2Verdict : Setup → List ℕ → Verdict
@@ -33,7 +34,7 @@ tam2Verdict setup m = judged (tam2Checks setup m)
 abbrev pub tam2Sent : Setup → List ℕ → List ℕ → List ℕ → List ℕ → List ℕ
 tam2Sent setup m draws identity user =
     let f = tam2Of m in
-    tam2Reply (keyNamed (setup .keys) (f .keyid)) f (windowOf identity user (blockAsked (setup .profiles) (f .custom))) draws
+    tam2Reply (keyWith (f .keyid) (setup .keys)) f (windowOf identity user (blockAsked (setup .profiles) (f .custom))) draws
 
 -- What is given: the outcome, and the bytes that are sent over zeros.
 pub record Gives (v : Verdict) (bytes : List ℕ) (g : Given) : Type 0 where

@@ -18,7 +18,8 @@ use Rattle.frames.specs.Lengths.{lengthFits}
 use Rattle.frames.specs.Messages.{tam2Of}
 use Rattle.offer.specs.declared.Fault.{Fault}
 use Rattle.offer.specs.declared.Fault.the-variants.{OtherError, NotSupported, MemoryOverrun}
-use Rattle.offer.specs.Records.{sizeOffered, revOffered, modeSupported, keyPresent, keyNamed, slotNamed, blockAsked}
+use Rattle.keytable.specs.Named.{hasKey, keyWith}
+use Rattle.offer.specs.Records.{sizeOffered, revOffered, modeSupported, slotNamed, blockAsked}
 
 -- With the slot and the block that it names: profile, right, memory, ProtMode.
 abbrev pub tam2BlockChecks : Features → Key → Tam2Fields → Slot → Block → List (Check Fault)
@@ -35,8 +36,8 @@ tam2FieldChecks setup f =
     (sizeOffered (setup .features) (f .custom .blocksize) else NotSupported)
     ∷ (revOffered (setup .features) (f .rev) else NotSupported)
     ∷ (eqb (f .rfu) 0 else NotSupported)
-    ∷ (keyPresent (setup .keys) (f .keyid) else NotSupported)
-    ∷ tam2BlockChecks (setup .features) (keyNamed (setup .keys) (f .keyid)) f (slotNamed (setup .profiles) (f .custom .profile))
+    ∷ (hasKey (f .keyid) (setup .keys) else NotSupported)
+    ∷ tam2BlockChecks (setup .features) (keyWith (f .keyid) (setup .keys)) f (slotNamed (setup .profiles) (f .custom .profile))
     (blockAsked (setup .profiles) (f .custom))
 
 unfoldable pub tam2Checks : Setup → List ℕ → List (Check Fault)
