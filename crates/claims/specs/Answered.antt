@@ -60,7 +60,7 @@ TagAnswers =
 
 -- ---- the reader's side
 
--- `reader::judged::judge`: 20 to 24, no data, no challenge, and the data room as it was.
+-- `reader_judge::judge`: 20 to 24, no data, no challenge, and the data room as it was.
 pub record JudgeRefused (room : List ℕ) (r : Judgement) (after : List ℕ) (f : ReaderFault) : Type 0 where
   pub number : FromTo 20 24 (reader.numberOf f)
   pub silent : after ≡ room

@@ -1,4 +1,5 @@
--- A line of checks: one that holds is passed over, the first that does not hold decides, and where all hold the end is given.
+-- A line of checks: one that holds is passed over, the first that does not hold decides, and where all hold the end is
+-- given.
 use mathlib.Core.Path.{_≡_, refl, ap}
 use mathlib.Core.Bool.{Bool, true, false}
 use mathlib.Core.List.{List, [], _∷_, _++_}
@@ -20,7 +21,8 @@ module _ {Fault Verdict : Type 0} (refused : Fault → Verdict) (end : Verdict) 
   ends = refl
 
   -- Two lines are one behind the other.
-  pub joined : (xs ys : List (Check Fault)) → judgedTo refused (xs ++ ys) end ≡ judgedTo refused xs (judgedTo refused ys end)
+  pub joined : (xs ys : List (Check Fault)) → judgedTo refused (xs ++ ys) end ≡ judgedTo refused xs
+      (judgedTo refused ys end)
   unfolding judgedTo
   joined [] ys = refl
   joined (c ∷ xs) ys = ap (λ (v : Verdict). pick (c .holds) v (refused (c .otherwise))) (joined xs ys)
@@ -38,7 +40,8 @@ module _ {Fault Verdict : Type 0} (refused : Fault → Verdict) (end : Verdict) 
 
     -- Where a line comes to what no refusal is, each of its checks holds.
     module _ (never : (f : Fault) → P (refused f) → ⊥) (c : Check Fault) (cs : List (Check Fault)) where
-      held : (b : Bool) → P (pick b (judgedTo refused cs end) (refused (c .otherwise))) → (b ≡ true) × P (judgedTo refused cs end)
+      held : (b : Bool) → P (pick b (judgedTo refused cs end) (refused (c .otherwise))) → (b ≡ true)
+          × P (judgedTo refused cs end)
       held true h = (refl, h)
       held false h = absurd (never (c .otherwise) h)
 

@@ -1,4 +1,5 @@
-// What the reader's side stands on (ISO/IEC 29167-10, the Interrogator): its keys, its numbers, and what it asks of its own message.
+// What the reader's side stands on (ISO/IEC 29167-10, the Interrogator): its keys, its numbers, and what it asks of its
+// own message.
 // reader_build makes the messages, reader_judge judges the replies.
 
 pub mod own; // own.rt: number 24, of the reader's own message

@@ -25,7 +25,8 @@ use Rattle.reader_build.specs.Builds.{response, iam3Whole, iam3Made, iam
 use Rattle.reader_build.specs.Makes.{Makes}
 use Rattle.reader_build.proofs.Making.{decided, partFits, parts-fit, part-count, part-select}
 
-module _ (keys : Keys) (custom : Custom) (protmode purpose : ℕ) (words room p : List ℕ) (answer : Bool) (large : length room ≡ 144)
+module _ (keys : Keys) (custom : Custom) (protmode purpose : ℕ) (words room p : List ℕ) (answer : Bool)
+    (large : length room ≡ 144)
     (part : partFits keys custom protmode purpose (length words) ≡ true)
     (b : Built (both (customFits custom) (leb (length words) (dataLength (custom .blocksize) (custom .blockcount))))
     (blocksLength (custom .blocksize) true (custom .blockcount)) (carriedData true custom words) room answer p)
@@ -38,10 +39,12 @@ module _ (keys : Keys) (custom : Custom) (protmode purpose : ℕ) (words room p 
     told true e =
         b .says
         ∙ ap₂ both (ap₂ both e (le-leb (length words) (dataLength (custom .blocksize) (custom .blockcount)) count))
-        (le-leb (blocksLength (custom .blocksize) true (custom .blockcount)) (length room) (omega (arith, blocks-fit true custom e)))
+        (le-leb (blocksLength (custom .blocksize) true (custom .blockcount)) (length room)
+        (omega (arith, blocks-fit true custom e)))
     told false e =
         b .says
-        ∙ ap (λ (x : Bool). both (both x (leb (length words) (dataLength (custom .blocksize) (custom .blockcount)))) (leb (blocksLength (custom .blocksize) true (custom .blockcount)) (length room))) e
+        ∙ ap (λ (x : Bool). both (both x (leb (length words) (dataLength (custom .blocksize) (custom .blockcount))))
+        (leb (blocksLength (custom .blocksize) true (custom .blockcount)) (length room))) e
 
     carried-told : answer ≡ customFits custom
     carried-told = told (customFits custom) refl
@@ -58,7 +61,9 @@ module _ (keys : Keys) (custom : Custom) (protmode purpose : ℕ) (words room p 
 
       front : take (blocksLength (custom .blocksize) true (custom .blockcount)) p ≡ carriedData true custom words
       front =
-          built-front (both (customFits custom) (leb (length words) (dataLength (custom .blocksize) (custom .blockcount)))) (blocksLength (custom .blocksize) true (custom .blockcount)) (carriedData true custom words)
+          built-front (both (customFits custom)
+          (leb (length words) (dataLength (custom .blocksize) (custom .blockcount))))
+          (blocksLength (custom .blocksize) true (custom .blockcount)) (carriedData true custom words)
           room p (carried-long true custom words count) (rw yes at b)
 
       module _ (n : ℕ) (blocks : n ≡ blocksLength (custom .blocksize) true (custom .blockcount)) where
@@ -71,13 +76,20 @@ module _ (keys : Keys) (custom : Custom) (protmode purpose : ℕ) (words room p 
         pub blocks-there : n ≤ length p
         blocks-there = omega (arith, data-long, length-take n p)
 
-        pub iam3-built : (irnd tchallenge k a out after : List ℕ) (result : ℕ) → k ≡ withPurpose (iam3Constant protmode) purpose → a ≡ response (keys .enc) k irnd tchallenge
+        pub iam3-built : (irnd tchallenge k a out after : List ℕ) (result : ℕ)
+            → k ≡ withPurpose (iam3Constant protmode) purpose → a ≡ response (keys .enc) k irnd tchallenge
             → messageRoom ≤ length out
-            → (result ≡ length (iam3Whole keys custom protmode a (take n p))) × (after ≡ over (iam3Whole keys custom protmode a (take n p)) out)
-            → Makes (iam3Fits keys custom protmode purpose (length words)) (iam3Made keys custom protmode purpose irnd tchallenge words) out (Message result) after
+            → (result ≡ length (iam3Whole keys custom protmode a (take n p)))
+            × (after ≡ over (iam3Whole keys custom protmode a (take n p)) out)
+            → Makes (iam3Fits keys custom protmode purpose (length words))
+            (iam3Made keys custom protmode purpose irnd tchallenge words) out (Message result) after
         unfolding iam3Made
         iam3-built irnd tchallenge k a out after result ek ea h r =
-            let e : iam3Whole keys custom protmode a (take n p) ≡ iam3Made keys custom protmode purpose irnd tchallenge words =
-            ap₂ (iam3Whole keys custom protmode) (ea ∙ ap (λ (x : List ℕ). response (keys .enc) x irnd tchallenge) ek) data-there in
-            decided (iam3Fits keys custom protmode purpose (length words)) true (iam3Made keys custom protmode purpose irnd tchallenge words) out after (Message result)
-            (sym (ap₂ both all-fit (le-leb messageRoom (length out) h))) (ap Message (r .0 ∙ ap length e)) (r .1 ∙ ap (λ (x : List ℕ). over x out) e)
+            let e : iam3Whole keys custom protmode a
+            (take n p) ≡ iam3Made keys custom protmode purpose irnd tchallenge words =
+            ap₂ (iam3Whole keys custom protmode)
+            (ea ∙ ap (λ (x : List ℕ). response (keys .enc) x irnd tchallenge) ek) data-there in
+            decided (iam3Fits keys custom protmode purpose (length words)) true
+            (iam3Made keys custom protmode purpose irnd tchallenge words) out after (Message result)
+            (sym (ap₂ both all-fit (le-leb messageRoom (length out) h))) (ap Message (r .0 ∙ ap length e))
+            (r .1 ∙ ap (λ (x : List ℕ). over x out) e)

@@ -29,7 +29,8 @@ numbered true n = refl
 numbered false n = refl
 
 -- by one test t that says whether the message is taken
-pub decided : (fit t : Bool) (message room after : List ℕ) (answer : Made) → t ≡ taken fit room → answer ≡ pick t (Message (length message)) (Refused OwnMessage)
+pub decided : (fit t : Bool) (message room after : List ℕ) (answer : Made) → t ≡ taken fit room
+    → answer ≡ pick t (Message (length message)) (Refused OwnMessage)
     → after ≡ pick t (over message room) room → Makes fit message room answer after
 decided fit t message room after answer e says holds = record {
   says = says ∙ ap (λ (b : Bool). pick b (Message (length message)) (Refused OwnMessage)) e;
@@ -45,23 +46,31 @@ room-enough : (fit : Bool) → both fit true ≡ fit
 room-enough true = refl
 room-enough false = refl
 
-pub short : (fit : Bool) (message room : List ℕ) → length room < messageRoom → Makes fit message room (Refused OwnMessage) room
-short fit message room h = decided fit false message room room (Refused OwnMessage) (sym (ap (both fit) (lt-leb messageRoom (length room) h) ∙ no-room fit)) refl refl
+pub short : (fit : Bool) (message room : List ℕ) → length room < messageRoom
+    → Makes fit message room (Refused OwnMessage) room
+short fit message room h = decided fit false message room room (Refused OwnMessage)
+    (sym (ap (both fit) (lt-leb messageRoom (length room) h) ∙ no-room fit)) refl refl
 
 pub unfit : (fit : Bool) (message room : List ℕ) → fit ≡ false → Makes fit message room (Refused OwnMessage) room
-unfit fit message room e = decided fit false message room room (Refused OwnMessage) (ap (λ (b : Bool). both b (leb messageRoom (length room))) (sym e)) refl refl
+unfit fit message room e = decided fit false message room room (Refused OwnMessage)
+    (ap (λ (b : Bool). both b (leb messageRoom (length room))) (sym e)) refl refl
 
 -- what frames built, in a room that has the bytes of the longest message
-pub built : (fit fields b : Bool) (n : ℕ) (message room after : List ℕ) (answer : Made) → messageRoom ≤ length room → fields ≡ fit → length message ≡ n → n ≤ messageRoom
-    → Built fields n message room b after → answer ≡ pick b (Message n) (Refused OwnMessage) → Makes fit message room answer after
+pub built : (fit fields b : Bool) (n : ℕ) (message room after : List ℕ) (answer : Made) → messageRoom ≤ length room
+    → fields ≡ fit → length message ≡ n → n ≤ messageRoom
+    → Built fields n message room b after → answer ≡ pick b (Message n) (Refused OwnMessage)
+    → Makes fit message room answer after
 built fit fields b n message room after answer h e l m r says =
-    let t : both fields (leb n (length room)) ≡ fit = ap (both fields) (le-leb n (length room) (omega arith)) ∙ room-enough fields ∙ e in
-    decided fit fit message room after answer (sym (ap (both fit) (le-leb messageRoom (length room) h) ∙ room-enough fit))
+    let t : both fields (leb n (length room)) ≡ fit = ap (both fields) (le-leb n (length room) (omega arith))
+    ∙ room-enough fields ∙ e in
+    decided fit fit message room after answer
+    (sym (ap (both fit) (le-leb messageRoom (length room) h) ∙ room-enough fit))
     (says ∙ ap₂ {C = Made} (λ x k. pick x (Message k) (Refused OwnMessage)) (r .says ∙ t) (sym l))
     (r .holds ∙ ap₂ {C = List ℕ} (λ x k. pick x (message ++ drop k room) room) t (sym l))
 
 -- the same message in other words
-pub in-words : (fit : Bool) (l message room after : List ℕ) (answer : Made) → l ≡ message → Makes fit l room answer after → Makes fit message room answer after
+pub in-words : (fit : Bool) (l message room after : List ℕ) (answer : Made) → l ≡ message
+    → Makes fit l room answer after → Makes fit message room answer after
 in-words fit l message room after answer e h = rw (← e) h
 
 -- ---- Purpose
@@ -82,7 +91,8 @@ module _ (keys : Keys) (protmode : ℕ) where
   mode-range e = leb-true protmode 3 (both-left (leb protmode 3) (implies (hasMac protmode) (keys .mac)) e)
 
   -- what frames asks of the fields, once the ProtMode fits
-  pub select-fit : (custom : Custom) → modeFits keys protmode ≡ true → selectFits 0 custom protmode ≡ both (modeFits keys protmode) (customFits custom)
+  pub select-fit : (custom : Custom) → modeFits keys protmode ≡ true
+      → selectFits 0 custom protmode ≡ both (modeFits keys protmode) (customFits custom)
   unfolding selectFits
   select-fit custom e =
       let l = mode-range e in
@@ -101,9 +111,11 @@ module _ (keys : Keys) (custom : Custom) (protmode purpose n : ℕ) where
   pub part-purpose : modeFits keys protmode ≡ true → 16 ≤ purpose → false ≡ partFits
   part-purpose e h = ap₂ (λ (b d : Bool). both b (both d (dataFits custom n))) (sym e) (sym (purpose-over purpose h))
 
-  pub part-data : (k : ℕ) → modeFits keys protmode ≡ true → purpose < 16 → k ≡ dataLength (custom .blocksize) (custom .blockcount) → eqb n k ≡ partFits
+  pub part-data : (k : ℕ) → modeFits keys protmode ≡ true → purpose < 16
+      → k ≡ dataLength (custom .blocksize) (custom .blockcount) → eqb n k ≡ partFits
   unfolding dataFits
-  part-data k e h q = ap (eqb n) q ∙ ap₂ (λ (b d : Bool). both b (both d (eqb n (dataLength (custom .blocksize) (custom .blockcount))))) (sym e) (purpose-in purpose h)
+  part-data k e h q = ap (eqb n) q ∙ ap₂ (λ (b d : Bool). both b
+      (both d (eqb n (dataLength (custom .blocksize) (custom .blockcount))))) (sym e) (purpose-in purpose h)
 
   grouped : (a b c d : Bool) → both (both a (both b c)) d ≡ both a (both b (both c d))
   grouped true true c d = refl
@@ -122,7 +134,8 @@ module _ (keys : Keys) (custom : Custom) (protmode purpose n : ℕ) where
   unfolding dataFits
   part-count e =
       let x = eqb n (dataLength (custom .blocksize) (custom .blockcount)) in
-      eqb-true _ _ (both-right (purposeFits purpose) x (both-right (modeFits keys protmode) (both (purposeFits purpose) x) e))
+      eqb-true _ _ (both-right (purposeFits purpose) x
+      (both-right (modeFits keys protmode) (both (purposeFits purpose) x) e))
 
   pub part-select : partFits ≡ true → customFits custom ≡ true → selectFits 0 custom protmode ≡ true
   part-select e f =
@@ -130,4 +143,5 @@ module _ (keys : Keys) (custom : Custom) (protmode purpose n : ℕ) where
       select-fit keys protmode custom m ∙ ap₂ both m f
 
   pub part-purposed : partFits ≡ true → purposeFits purpose ≡ true
-  part-purposed e = both-left (purposeFits purpose) (dataFits custom n) (both-right (modeFits keys protmode) (both (purposeFits purpose) (dataFits custom n)) e)
+  part-purposed e = both-left (purposeFits purpose) (dataFits custom n)
+      (both-right (modeFits keys protmode) (both (purposeFits purpose) (dataFits custom n)) e)

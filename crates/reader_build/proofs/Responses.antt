@@ -24,7 +24,8 @@ pub constant-two : (k purpose : ℕ) → length (withPurpose k purpose) ≡ 2
 unfolding withPurpose
 constant-two k purpose = omega arith
 
-module _ (enc constant middle tchallenge : List ℕ) (k : Bytes enc) (c : Bytes constant) (m : Bytes middle) (t : Bytes tchallenge)
+module _ (enc constant middle tchallenge : List ℕ) (k : Bytes enc) (c : Bytes constant) (m : Bytes middle)
+    (t : Bytes tchallenge)
     (c2 : length constant ≡ 2) (m4 : length middle ≡ 4) (t10 : length tchallenge ≡ 10)
   where
     in-clear : Block (constant ++ (middle ++ tchallenge))
@@ -46,10 +47,13 @@ module _ (keys : Keys) (purpose : ℕ) (tchallenge k r : List ℕ) where
   pub iam2-sent : (irnd : List ℕ) → k ≡ withPurpose C-IAM2 purpose → r ≡ response (keys .enc) k irnd tchallenge
       → iam2Message (record { rfu = 0; iresponse = r }) ≡ iam2Made keys purpose irnd tchallenge
   unfolding iam2Made
-  iam2-sent irnd e q = ap (λ (x : List ℕ). iam2Message (record { rfu = 0; iresponse = x })) (q ∙ ap (λ (x : List ℕ). response (keys .enc) x irnd tchallenge) e)
+  iam2-sent irnd e q = ap (λ (x : List ℕ). iam2Message (record { rfu = 0; iresponse = x }))
+      (q ∙ ap (λ (x : List ℕ). response (keys .enc) x irnd tchallenge) e)
 
-  pub mam2-sent : (ichallenge last : List ℕ) → k ≡ withPurpose C-MAM2 purpose → last ≡ drop 6 ichallenge → r ≡ response (keys .enc) k last tchallenge
+  pub mam2-sent : (ichallenge last : List ℕ) → k ≡ withPurpose C-MAM2 purpose → last ≡ drop 6 ichallenge
+      → r ≡ response (keys .enc) k last tchallenge
       → mam2Message (record { rfu = 0; iresponse = r }) ≡ mam2Made keys purpose ichallenge tchallenge
   unfolding mam2Made
   mam2-sent ichallenge last e l q =
-      ap (λ (x : List ℕ). mam2Message (record { rfu = 0; iresponse = x })) (q ∙ ap₂ {C = List ℕ} (λ x y. response (keys .enc) x y tchallenge) e l)
+      ap (λ (x : List ℕ). mam2Message (record { rfu = 0; iresponse = x }))
+      (q ∙ ap₂ {C = List ℕ} (λ x y. response (keys .enc) x y tchallenge) e l)

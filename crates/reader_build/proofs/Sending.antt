@@ -40,13 +40,16 @@ use Rattle.reader_build.specs.Builds.{sentData, iam3Response, iam3Whole}
 
 module _ (protmode : ℕ) (b : Bool) (enc a p room after : List ℕ) (told : b ≡ encrypts protmode) where
   pub data-chained : (answer : Chaining) → b ≡ true → length p % 16 ≡ 0 → length p ≤ length room
-      → Into (chains (length p) (length room)) (cbcEncAesInv a enc p) room answer after → after ≡ over (sentData enc protmode a p) room
+      → Into (chains (length p) (length room)) (cbcEncAesInv a enc p) room answer after
+      → after ≡ over (sentData enc protmode a p) room
   unfolding sentData
   data-chained answer t w h i =
-      i .leaves ∙ ap (λ (x : Bool). pick x (over (cbcEncAesInv a enc p) room) room) (enough (length p) (length room) w h)
+      i .leaves ∙ ap (λ (x : Bool). pick x (over (cbcEncAesInv a enc p) room) room)
+      (enough (length p) (length room) w h)
       ∙ ap (λ (x : Bool). over (pick x (cbcEncAesInv a enc p) p) room) (sym t ∙ told)
 
-  pub data-plain : b ≡ false → after ≡ take (length p) p ++ drop (length p) room → after ≡ over (sentData enc protmode a p) room
+  pub data-plain : b ≡ false → after ≡ take (length p) p ++ drop (length p) room
+      → after ≡ over (sentData enc protmode a p) room
   unfolding sentData
   data-plain f e = copied p room after e ∙ ap (λ (x : Bool). over (pick x (cbcEncAesInv a enc p) p) room) (sym f ∙ told)
 
@@ -64,7 +67,8 @@ chosen-long : (b : Bool) (a enc p : List ℕ) → length p % 16 ≡ 0 → length
 chosen-long true a enc p e = chained-long a enc p e
 chosen-long false a enc p e = refl
 
-pub data-sent-long : (protmode : ℕ) (enc a p : List ℕ) → length p % 16 ≡ 0 → length (sentData enc protmode a p) ≡ length p
+pub data-sent-long : (protmode : ℕ) (enc a p : List ℕ) → length p % 16 ≡ 0
+    → length (sentData enc protmode a p) ≡ length p
 unfolding sentData
 data-sent-long protmode enc a p = chosen-long (encrypts protmode) a enc p
 
@@ -74,7 +78,12 @@ module _ (keys : Keys) (protmode : ℕ) (a p : List ℕ) (sixteen : length a ≡
   covered = a ++ sentData (keys .enc) protmode a p
 
   covered-long : length covered ≡ 16 + length p
-  covered-long = omega (arith, length-append a (sentData (keys .enc) protmode a p), data-sent-long protmode (keys .enc) a p whole)
+  covered-long = omega (
+    arith,
+    length-append a (sentData (keys .enc) protmode a p),
+    data-sent-long protmode
+        (keys .enc) a p whole,
+  )
 
   pub response-long : length (iam3Response keys protmode a p) ≡ 16 + length p + macLength protmode
   unfolding iam3Response
@@ -84,7 +93,8 @@ module _ (keys : Keys) (protmode : ℕ) (a p : List ℕ) (sixteen : length a ≡
 
   mac-taken : (n : ℕ) → n ≡ 16 + length p → macTakes protmode n ≡ true
   unfolding macTakes
-  mac-taken n e = ap (implies (hasMac protmode)) (room-for-mac n 12 (omega arith) (omega arith) (omega arith)) ∙ any (hasMac protmode)
+  mac-taken n e = ap (implies (hasMac protmode)) (room-for-mac n 12 (omega arith) (omega arith) (omega arith))
+      ∙ any (hasMac protmode)
     where
       any : (b : Bool) → implies b true ≡ true
       any true = refl
@@ -98,12 +108,19 @@ module _ (keys : Keys) (protmode : ℕ) (a p : List ℕ) (sixteen : length a ≡
         tail-back 16 room x z e ∙ over-behind 16 x room (omega arith) ∙ ap (λ (l : List ℕ). over (l ++ x) room) first
 
     over-long : length (over covered room) ≡ length room
-    over-long = omega (arith, covered-long, length-append covered (drop (length covered) room), length-drop (length covered) room)
+    over-long = omega (
+      arith,
+      covered-long,
+      length-append covered (drop (length covered) room),
+      length-drop
+          (length covered) room,
+    )
 
     pub response-laid : (n : ℕ) (z after : List ℕ) (answer : Bool) → n ≡ 16 + length p
         → z ≡ over (sentData (keys .enc) protmode a p) (take (length room - 16) (drop 16 room))
         → (let r = take 16 room ++ (z ++ drop (length room - 16) (drop 16 room)) in
-        Built (macTakes protmode n) (n + macLength protmode) (withMac (keys .mackey) protmode (take n r)) r answer after)
+        Built (macTakes protmode n) (n + macLength protmode)
+        (withMac (keys .mackey) protmode (take n r)) r answer after)
         → after ≡ over (iam3Response keys protmode a p) room
     unfolding iam3Response withMac
     response-laid n z after answer e f b =
@@ -111,24 +128,31 @@ module _ (keys : Keys) (protmode : ℕ) (a p : List ℕ) (sixteen : length a ≡
         let q : r ≡ over covered room = data-laid z f in
         let l : length r ≡ length room = ap length q ∙ over-long in
         let t : length (take n r) ≡ n = length-take-le n r (omega arith) in
-        built-over (macTakes protmode n) (n + macLength protmode) (withMac (keys .mackey) protmode (take n r)) r (mac-taken n e) (omega (arith, mac-bound protmode))
+        built-over (macTakes protmode n) (n + macLength protmode) (withMac (keys .mackey) protmode (take n r)) r
+        (mac-taken n e) (omega (arith, mac-bound protmode))
         (with-mac-long protmode (keys .mackey) (take n r) ∙ ap (λ (k : ℕ). k + macLength protmode) t) after answer b
-        ∙ front-finished covered room r n (λ s. pick (hasMac protmode) (cmac96 (keys .mackey) s) []) (covered-long ∙ sym e) q
+        ∙ front-finished covered room r n (λ s. pick (hasMac protmode) (cmac96 (keys .mackey) s) [])
+        (covered-long ∙ sym e) q
 
 -- ---- the whole
 
 -- the part behind a room's first k bytes made anew, where it covers what was put there before
-made-anew : (h d room : List ℕ) (k : ℕ) → k ≤ length h → length h ≤ k + length d → take k (over h room) ++ over d (drop k (over h room)) ≡ over (take k h ++ d) room
+made-anew : (h d room : List ℕ) (k : ℕ) → k ≤ length h → length h ≤ k + length d
+    → take k (over h room) ++ over d (drop k (over h room)) ≡ over (take k h ++ d) room
 made-anew h d room k l m =
     let j = k + length d - length h in
     let e : k + length d ≡ length h + j = omega arith in
-    let t : length (take k h ++ d) ≡ k + length d = length-append (take k h) d ∙ ap (λ (i : ℕ). i + length d) (length-take-le k h l) in
+    let t : length (take k h ++ d) ≡ k + length d = length-append (take k h) d
+    ∙ ap (λ (i : ℕ). i + length d) (length-take-le k h l) in
     let rest : drop (length d) (drop k (over h room)) ≡ drop (length (take k h ++ d)) room =
-    drop-drop (length d) k (over h room) ∙ ap (λ (i : ℕ). drop i (over h room)) e ∙ drop-append-add h (drop (length h) room) j ∙ drop-drop j (length h) room
+    drop-drop (length d) k (over h room) ∙ ap (λ (i : ℕ). drop i (over h room)) e
+    ∙ drop-append-add h (drop (length h) room) j ∙ drop-drop j (length h) room
     ∙ ap (λ (i : ℕ). drop i room) (sym e ∙ sym t) in
-    ap₂ {C = List ℕ} (λ x y. x ++ (d ++ y)) (take-append-le k h (drop (length h) room) l) rest ∙ sym (append-assoc (take k h) d (drop (length (take k h ++ d)) room))
+    ap₂ {C = List ℕ} (λ x y. x ++ (d ++ y)) (take-append-le k h (drop (length h) room) l) rest
+    ∙ sym (append-assoc (take k h) d (drop (length (take k h ++ d)) room))
 
-module _ (keys : Keys) (custom : Custom) (protmode : ℕ) (a p : List ℕ) (sixteen : length a ≡ 16) (blocks : length p ≡ blocksLength (custom .blocksize) true (custom .blockcount)) where
+module _ (keys : Keys) (custom : Custom) (protmode : ℕ) (a p : List ℕ) (sixteen : length a ≡ 16)
+    (blocks : length p ≡ blocksLength (custom .blocksize) true (custom .blockcount)) where
   -- the fields, and the first block
   abbrev head : Iam3
   head = record { rfu = 0; custom = custom; protmode = protmode; iresponse = a }
@@ -136,29 +160,45 @@ module _ (keys : Keys) (custom : Custom) (protmode : ℕ) (a p : List ℕ) (sixt
   pub whole-blocks : length p % 16 ≡ 0
   whole-blocks = ap (λ (k : ℕ). k % 16) blocks ∙ blocks-whole (custom .blocksize) true (custom .blockcount)
 
-  pub whole-long : length (iam3Whole keys custom protmode a p) ≡ iam3Length (custom .blocksize) (custom .blockcount) protmode
+  pub whole-long : length (iam3Whole keys custom protmode a p) ≡ iam3Length (custom .blocksize)
+      (custom .blockcount) protmode
   unfolding iam3Whole iam3Length iam3MacAt
   whole-long =
-      let t : length (take 4 (iam3Head head)) ≡ 4 = length-take-le 4 (iam3Head head) (omega (arith, iam3-head head sixteen)) in
-      omega (arith, length-append (take 4 (iam3Head head)) (iam3Response keys protmode a p), response-long keys protmode a p sixteen whole-blocks)
+      let t : length (take 4 (iam3Head head)) ≡ 4 =
+      length-take-le 4 (iam3Head head) (omega (arith, iam3-head head sixteen)) in
+      omega (
+        arith,
+        length-append (take 4 (iam3Head head))
+            (iam3Response keys protmode a p),
+        response-long keys protmode a p sixteen whole-blocks,
+      )
 
   module _ (room r : List ℕ) (answer : Bool) (fit : selectFits 0 custom protmode ≡ true) (h : messageRoom ≤ length room)
       (b : Built (selectFits 0 custom protmode) 20 (iam3Head head) room answer r)
     where
       head-laid : r ≡ over (iam3Head head) room
-      head-laid = built-over (selectFits 0 custom protmode) 20 (iam3Head head) room fit (omega arith) (iam3-head head sixteen) r answer b
+      head-laid = built-over (selectFits 0 custom protmode) 20 (iam3Head head) room fit (omega arith)
+          (iam3-head head sixteen) r answer b
 
       -- the first block stands behind the fields
       pub block-first : take 16 (take (length r - 4) (drop 4 r)) ≡ a
       unfolding iam3Head selectBytes
       block-first =
-          ap (take 16) (take-all (length r - 4) (drop 4 r) (omega (arith, length-drop 4 r)) ∙ ap (drop 4) head-laid) ∙ take-at a (drop (length (iam3Head head)) room) 16 sixteen
+          ap (take 16) (take-all (length r - 4) (drop 4 r) (omega (arith, length-drop 4 r)) ∙ ap (drop 4) head-laid)
+          ∙ take-at a (drop (length (iam3Head head)) room) 16 sixteen
 
       -- and there is room for the rest of the longest message
       pub room-left : 28 + length p ≤ length (take (length r - 4) (drop 4 r))
       room-left =
           let s = iam3Head head in
-          let l : length r ≡ length room = ap length head-laid ∙ omega (arith, length-append s (drop (length s) room), length-drop (length s) room, iam3-head head sixteen) in
+          let l : length r ≡ length room = ap length head-laid
+          ∙ omega (
+            arith,
+            length-append s (drop (length s) room),
+            length-drop
+                (length s) room,
+            iam3-head head sixteen,
+          ) in
           let m = blocks-fit true custom (select-range 0 custom protmode fit .custom) in
           let t = length-take-le (length r - 4) (drop 4 r) (omega (arith, length-drop 4 r)) in
           omega (arith, l, m, t)
@@ -170,4 +210,5 @@ module _ (keys : Keys) (custom : Custom) (protmode : ℕ) (a p : List ℕ) (sixt
           let d = iam3Response keys protmode a p in
           let n = iam3-head head sixteen in
           tail-back 4 r d z e ∙ ap (λ (l : List ℕ). take 4 l ++ over d (drop 4 l)) head-laid
-          ∙ made-anew (iam3Head head) d room 4 (omega arith) (omega (arith, response-long keys protmode a p sixteen whole-blocks))
+          ∙ made-anew (iam3Head head) d room 4 (omega arith)
+          (omega (arith, response-long keys protmode a p sixteen whole-blocks))

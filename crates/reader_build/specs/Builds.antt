@@ -12,7 +12,8 @@ use Rattle.frames.specs.Blocks.{dataLength}
 use Rattle.frames.specs.Constants.{C-IAM2, C-MAM2, iam3Constant, withPurpose}
 use Rattle.frames.specs.Fields.{customFits}
 use Rattle.frames.specs.Lengths.{iam3FieldsLength}
-use Rattle.frames.specs.Messages.{tam1Message, tam2Message, iam1Message, iam2Message, iam3Head, mam1Message, mam2Message}
+use Rattle.frames.specs.Messages.{tam1Message, tam2Message, iam1Message, iam2Message, iam3Head, mam1Message}
+use Rattle.frames.specs.Messages.{mam2Message}
 use Rattle.payload.specs.Data.{carriedData}
 use Rattle.payload.specs.Protected.{encrypts, withMac}
 use Rattle.reader.specs.declared.Keys.{Keys}
@@ -37,7 +38,15 @@ tam1Made keyid ichallenge = tam1Message (record { rfu = 0; keyid = keyid; ichall
 -- 9.4.5, Table 6
 unfoldable pub tam2Made : ℕ → List ℕ → Bool → Custom → ℕ → List ℕ
 tam2Made keyid ichallenge rev custom protmode =
-    tam2Message (record { rev = rev; rfu = 0; keyid = keyid; ichallenge = ichallenge; custom = custom; protmode = protmode })
+    tam2Message (record {
+      rev = rev;
+      rfu = 0;
+      keyid = keyid;
+      ichallenge = ichallenge;
+      custom = custom;
+      protmode =
+          protmode;
+    })
 
 -- 9.5.2, Table 15
 unfoldable pub iam1Made : ℕ → List ℕ
@@ -49,7 +58,8 @@ mam1Made keyid ichallenge = mam1Message (record { rfu = 0; keyid = keyid; ichall
 
 -- ---- what the reader proves to the tag
 
--- 9.5.5, 9.5.8.1 a), 9.6.5: constant and Purpose, four bytes, TChallenge, by AES-DEC. The reader decrypts to send, so that the tag encrypts to read.
+-- 9.5.5, 9.5.8.1 a), 9.6.5: constant and Purpose, four bytes, TChallenge, by AES-DEC. The reader decrypts to send, so
+-- that the tag encrypts to read.
 unfoldable pub response : List ℕ → List ℕ → List ℕ → List ℕ → List ℕ
 response enc constant middle tchallenge = aesDec enc (constant ++ (middle ++ tchallenge))
 
@@ -61,7 +71,11 @@ iam2Made keys purpose irnd tchallenge =
 -- 9.6.5, Table 25: IChallenge[31:0], the last four bytes of the reader's own challenge, in the place of IRnd
 unfoldable pub mam2Made : Keys → ℕ → List ℕ → List ℕ → List ℕ
 mam2Made keys purpose ichallenge tchallenge =
-    mam2Message (record { rfu = 0; iresponse = response (keys .enc) (withPurpose C-MAM2 purpose) (drop 6 ichallenge) tchallenge })
+    mam2Message (record {
+      rfu = 0;
+      iresponse =
+          response (keys .enc) (withPurpose C-MAM2 purpose) (drop 6 ichallenge) tchallenge;
+    })
 
 -- 9.5.8.1 b): header, data and filler as they are, or chained to the AuthenticationBlock A by CBC_ENC_AES_INV (Table 3)
 unfoldable pub sentData : List ℕ → ℕ → List ℕ → List ℕ → List ℕ
@@ -74,11 +88,18 @@ iam3Response keys protmode a p = withMac (keys .mackey) protmode (a ++ sentData 
 -- 9.5.8, Table 18: the fields of four bytes, and IResponse
 unfoldable pub iam3Whole : Keys → Custom → ℕ → List ℕ → List ℕ → List ℕ
 iam3Whole keys custom protmode a p =
-    take iam3FieldsLength (iam3Head (record { rfu = 0; custom = custom; protmode = protmode; iresponse = a })) ++ iam3Response keys protmode a p
+    take iam3FieldsLength (iam3Head (record {
+      rfu = 0;
+      custom = custom;
+      protmode = protmode;
+      iresponse =
+          a;
+    })) ++ iam3Response keys protmode a p
 
 unfoldable pub iam3Made : Keys → Custom → ℕ → ℕ → List ℕ → List ℕ → List ℕ → List ℕ
 iam3Made keys custom protmode purpose irnd tchallenge words =
-    iam3Whole keys custom protmode (response (keys .enc) (withPurpose (iam3Constant protmode) purpose) irnd tchallenge) (carriedData true custom words)
+    iam3Whole keys custom protmode (response (keys .enc) (withPurpose (iam3Constant protmode) purpose) irnd tchallenge)
+    (carriedData true custom words)
 
 -- what must be fit for it, with n bytes of data
 unfoldable pub iam3Fits : Keys → Custom → ℕ → ℕ → ℕ → Bool

@@ -18,7 +18,8 @@ abbrev pub madeNumber : Made → ℕ
 madeNumber (Message n) = 0
 madeNumber (Refused f) = numberOf f
 
--- Number 24: a message is built where what it says is fit and the room has the bytes of the longest message, whatever the message's own length.
+-- Number 24: a message is built where what it says is fit and the room has the bytes of the longest message, whatever
+-- the message's own length.
 abbrev pub taken : Bool → List ℕ → Bool
 taken fit room = both fit (leb messageRoom (length room))
 

@@ -98,7 +98,8 @@ pub fn tam2(
     protmode: u8,
     room: &mut [u8],
 ) -> Made
-    ensures { λ r. ⌜ Makes (both (modeFits keys protmode) (customFits custom)) (tam2Made keyid ichallenge rev custom protmode) (now (room .entry)) r (now (room .exit)) ⌝ }
+    ensures { λ r. ⌜ Makes (both (modeFits keys protmode) (customFits custom))
+        (tam2Made keyid ichallenge rev custom protmode) (now (room .entry)) r (now (room .exit)) ⌝ }
 {
     if room.len() < 176 {
         return Made::Refused(Fault::OwnMessage);
@@ -149,7 +150,8 @@ pub fn mam1(keyid: u8, ichallenge: [u8; 10], room: &mut [u8]) -> Made
 
 /// IAM2 (9.5.4, 9.5.5). Ruled out: IResponse by AES-ENC; a Purpose of five bits carried into the constant.
 pub fn iam2(keys: Keys, purpose: u8, irnd: [u8; 4], tchallenge: [u8; 10], room: &mut [u8]) -> Made
-    ensures { λ r. ⌜ Makes (purposeFits purpose) (iam2Made keys purpose irnd tchallenge) (now (room .entry)) r (now (room .exit)) ⌝ }
+    ensures { λ r. ⌜ Makes (purposeFits purpose) (iam2Made keys purpose irnd tchallenge) (now (room .entry)) r
+        (now (room .exit)) ⌝ }
 {
     if room.len() < 176 {
         return Made::Refused(Fault::OwnMessage);
@@ -170,7 +172,8 @@ pub fn mam2(
     tchallenge: [u8; 10],
     room: &mut [u8],
 ) -> Made
-    ensures { λ r. ⌜ Makes (purposeFits purpose) (mam2Made keys purpose ichallenge tchallenge) (now (room .entry)) r (now (room .exit)) ⌝ }
+    ensures { λ r. ⌜ Makes (purposeFits purpose) (mam2Made keys purpose ichallenge tchallenge) (now (room .entry)) r
+        (now (room .exit)) ⌝ }
 {
     if room.len() < 176 {
         return Made::Refused(Fault::OwnMessage);
@@ -184,7 +187,8 @@ pub fn mam2(
     answer(mam2_into(Mam2 { rfu: 0, iresponse }, room), 17)
 }
 
-/// IAM3 (9.5.4, 9.5.8). Ruled out: the MAC over the data before they are chained; fewer bytes of data than BlockCount says, filled up.
+/// IAM3 (9.5.4, 9.5.8). Ruled out: the MAC over the data before they are chained; fewer bytes of data than BlockCount
+/// says, filled up.
 pub fn iam3(
     keys: Keys,
     custom: Custom,
@@ -195,7 +199,9 @@ pub fn iam3(
     words: &[u8],
     room: &mut [u8],
 ) -> Made
-    ensures { λ r. ⌜ Makes (iam3Fits keys custom protmode purpose (length (now (words .entry)))) (iam3Made keys custom protmode purpose irnd tchallenge (now (words .entry))) (now (room .entry)) r (now (room .exit)) ⌝ }
+    ensures { λ r. ⌜ Makes (iam3Fits keys custom protmode purpose (length (now (words .entry))))
+        (iam3Made keys custom protmode purpose irnd tchallenge (now (words .entry))) (now (room .entry)) r
+        (now (room .exit)) ⌝ }
 {
     if room.len() < 176 {
         return Made::Refused(Fault::OwnMessage);

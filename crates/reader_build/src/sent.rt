@@ -1,4 +1,5 @@
-// What only a reader that has the keys can send: the block that the tag opens by encryption, and behind it, in IAM3, data and MAC.
+// What only a reader that has the keys can send: the block that the tag opens by encryption, and behind it, in IAM3,
+// data and MAC.
 use frames::Custom;
 use frames::Iam3;
 use frames::build::iam3_into;
@@ -45,7 +46,8 @@ fn sent_data(enc: [u8; 16], protmode: u8, a: [u8; 16], p: &[u8], room: &mut [u8]
     bytes::copy(p, room);
 }
 
-// IResponse of IAM3 into a room that starts with the block a already: the data behind it, and the MAC over both (9.5.8.1).
+// IResponse of IAM3 into a room that starts with the block a already: the data behind it, and the MAC over both
+// (9.5.8.1).
 fn iam3_response(keys: Keys, protmode: u8, a: [u8; 16], p: &[u8], room: &mut [u8])
     requires { ⌜ (take 16 (now room) ≡ a) × (length (now p) % 16 ≡ 0) × (28 + length (now p) ≤ length (now room)) ⌝ }
     ensures { λ _. ⌜ now (room .exit) ≡ over (iam3Response keys protmode a (now (p .entry))) (now (room .entry)) ⌝ }
@@ -67,8 +69,11 @@ pub fn iam3_whole(
     p: &[u8],
     room: &mut [u8],
 ) -> usize
-    requires { ⌜ (selectFits 0 custom protmode ≡ true) × (length (now p) ≡ blocksLength (custom .blocksize) true (custom .blockcount)) × (messageRoom ≤ length (now room)) ⌝ }
-    ensures { λ r. ⌜ (r ≡ length (iam3Whole keys custom protmode a (now (p .entry)))) × (now (room .exit) ≡ over (iam3Whole keys custom protmode a (now (p .entry))) (now (room .entry))) ⌝ }
+    requires { ⌜ (selectFits 0 custom protmode ≡ true)
+        × (length (now p) ≡ blocksLength (custom .blocksize) true (custom .blockcount))
+        × (messageRoom ≤ length (now room)) ⌝ }
+    ensures { λ r. ⌜ (r ≡ length (iam3Whole keys custom protmode a (now (p .entry))))
+        × (now (room .exit) ≡ over (iam3Whole keys custom protmode a (now (p .entry))) (now (room .entry))) ⌝ }
 {
     let f = Iam3 {
         rfu: 0,

@@ -33,16 +33,21 @@ unfolding emptyFinding
 empty-quiet reply = line-quiet _ nothingMore refl
 
 module _ (keys : Keys) (m reply room : List ℕ) (kind : Kind) (r : Judgement) where
-  arm : (k : Kind) (f : Finding) → kind ≡ k → byKind keys m reply k ≡ f → f .bytes ≡ [] → r ≡ saidOf f → Judges (byKind keys m reply kind) room r room
+  arm : (k : Kind) (f : Finding) → kind ≡ k → byKind keys m reply k ≡ f → f .bytes ≡ [] → r ≡ saidOf f
+      → Judges (byKind keys m reply kind) room r room
   arm k f e q n s = judges-as (sym (ap (byKind keys m reply) e ∙ q)) (quiet f room r n s)
 
-  pub tam1-arm : (f : Tam1Fields) → kind ≡ Tam1 → f ≡ tam1Of m → r ≡ saidOf (tam1Finding keys f reply) → Judges (byKind keys m reply kind) room r room
+  pub tam1-arm : (f : Tam1Fields) → kind ≡ Tam1 → f ≡ tam1Of m → r ≡ saidOf (tam1Finding keys f reply)
+      → Judges (byKind keys m reply kind) room r room
   unfolding byKind
-  tam1-arm f e q s = arm Tam1 (tam1Finding keys f reply) e (ap (λ (g : Tam1Fields). tam1Finding keys g reply) (sym q)) (tam1-quiet keys f reply) s
+  tam1-arm f e q s = arm Tam1 (tam1Finding keys f reply) e (ap (λ (g : Tam1Fields). tam1Finding keys g reply) (sym q))
+      (tam1-quiet keys f reply) s
 
-  pub tam2-arm : (f : Tam2Fields) (after : List ℕ) → kind ≡ Tam2 → f ≡ tam2Of m → Judges (tam2Finding keys f reply) room r after → Judges (byKind keys m reply kind) room r after
+  pub tam2-arm : (f : Tam2Fields) (after : List ℕ) → kind ≡ Tam2 → f ≡ tam2Of m
+      → Judges (tam2Finding keys f reply) room r after → Judges (byKind keys m reply kind) room r after
   unfolding byKind
-  tam2-arm f after e q h = judges-as (ap (λ (g : Tam2Fields). tam2Finding keys g reply) q ∙ sym (ap (byKind keys m reply) e)) h
+  tam2-arm f after e q h = judges-as (ap (λ (g : Tam2Fields). tam2Finding keys g reply) q
+      ∙ sym (ap (byKind keys m reply) e)) h
 
   pub iam1-arm : kind ≡ Iam1 → r ≡ saidOf (iam1Finding reply) → Judges (byKind keys m reply kind) room r room
   unfolding byKind
@@ -56,9 +61,11 @@ module _ (keys : Keys) (m reply room : List ℕ) (kind : Kind) (r : Judgement) w
   unfolding byKind
   iam3-arm e s = arm Iam3 (emptyFinding reply) e refl (empty-quiet reply) s
 
-  pub mam1-arm : (f : Mam1Fields) → kind ≡ Mam1 → f ≡ mam1Of m → r ≡ saidOf (mam1Finding keys f reply) → Judges (byKind keys m reply kind) room r room
+  pub mam1-arm : (f : Mam1Fields) → kind ≡ Mam1 → f ≡ mam1Of m → r ≡ saidOf (mam1Finding keys f reply)
+      → Judges (byKind keys m reply kind) room r room
   unfolding byKind
-  mam1-arm f e q s = arm Mam1 (mam1Finding keys f reply) e (ap (λ (g : Mam1Fields). mam1Finding keys g reply) (sym q)) (mam1-quiet keys f reply) s
+  mam1-arm f e q s = arm Mam1 (mam1Finding keys f reply) e (ap (λ (g : Mam1Fields). mam1Finding keys g reply) (sym q))
+      (mam1-quiet keys f reply) s
 
   pub mam2-arm : kind ≡ Mam2 → r ≡ saidOf (emptyFinding reply) → Judges (byKind keys m reply kind) room r room
   unfolding byKind

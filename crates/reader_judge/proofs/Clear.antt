@@ -42,11 +42,13 @@ use Rattle.reader_judge.proofs.Judging.{judges, judges-as}
 -- ---- lengths
 
 -- a reply of its length has the authentication block and the data before the MAC
-pub mac-place : (s : BlockSize) (rev : Bool) (n protmode k : ℕ) → k ≡ tam2ReplyLength s rev n protmode → tam2MacAt s rev n ≤ k
+pub mac-place : (s : BlockSize) (rev : Bool) (n protmode k : ℕ) → k ≡ tam2ReplyLength s rev n protmode
+    → tam2MacAt s rev n ≤ k
 unfolding tam2ReplyLength
 mac-place s rev n protmode k e = omega arith
 
-pub data-place : (s : BlockSize) (rev : Bool) (n protmode k : ℕ) → k ≡ tam2ReplyLength s rev n protmode → 16 + blocksLength s rev n ≤ k
+pub data-place : (s : BlockSize) (rev : Bool) (n protmode k : ℕ) → k ≡ tam2ReplyLength s rev n protmode
+    → 16 + blocksLength s rev n ≤ k
 unfolding tam2ReplyLength tam2MacAt
 data-place s rev n protmode k e = omega arith
 
@@ -62,18 +64,21 @@ words-most rev c p fit =
 
 -- ---- what is opened
 
-module _ (keys : Keys) (f : Tam2) (reply : List ℕ) (h : 16 + blocksLength (f .custom .blocksize) (f .rev) (f .custom .blockcount) ≤ length reply) where
+module _ (keys : Keys) (f : Tam2) (reply : List ℕ)
+    (h : 16 + blocksLength (f .custom .blocksize) (f .rev) (f .custom .blockcount) ≤ length reply) where
   sent-long : length (dataSent f reply) ≡ blocksLength (f .custom .blocksize) (f .rev) (f .custom .blockcount)
   sent-long = length-take-le _ (drop 16 reply) (omega (arith, length-drop 16 reply))
 
   sent-whole : length (dataSent f reply) % 16 ≡ 0
   sent-whole = omega (arith, sent-long, blocks-whole (f .custom .blocksize) (f .rev) (f .custom .blockcount))
 
-  pub opened-long : length (openedData keys f reply) ≡ blocksLength (f .custom .blocksize) (f .rev) (f .custom .blockcount)
+  pub opened-long : length (openedData keys f reply) ≡ blocksLength (f .custom .blocksize) (f .rev)
+      (f .custom .blockcount)
   unfolding openedData cbcDecAesInv
   opened-long =
       picked (encrypts (f .protmode)) _ _
-      (dec-joined (aesDec (keys .enc)) (wholeBlocks (dataSent f reply)) (take 16 reply) ∙ omega (arith, whole-count (dataSent f reply), sent-whole, sent-long)) sent-long
+      (dec-joined (aesDec (keys .enc)) (wholeBlocks (dataSent f reply)) (take 16 reply)
+      ∙ omega (arith, whole-count (dataSent f reply), sent-whole, sent-long)) sent-long
     where
       picked : {n : ℕ} (t : Bool) (a b : List ℕ) → length a ≡ n → length b ≡ n → length (pick t a b) ≡ n
       picked true a b p q = p
@@ -86,7 +91,8 @@ module _ (keys : Keys) (f : Tam2) (reply : List ℕ) (h : 16 + blocksLength (f .
     sent = let k : 16 + r - 16 ≡ r = omega arith in ap (λ (j : ℕ). take j (drop 16 reply)) (k ∙ e)
 
     pub opened-chained : (iv : List ℕ) (answer : Chaining) → encrypts (f .protmode) ≡ true → iv ≡ firstBlock reply
-        → Into (chains (length (take (16 + r - 16) (drop 16 reply))) (length room)) (cbcDecAesInv iv (keys .enc) (take (16 + r - 16) (drop 16 reply))) room answer after
+        → Into (chains (length (take (16 + r - 16) (drop 16 reply))) (length room))
+        (cbcDecAesInv iv (keys .enc) (take (16 + r - 16) (drop 16 reply))) room answer after
         → after ≡ over (openedData keys f reply) room
     unfolding openedData
     opened-chained iv answer t v i =
@@ -95,11 +101,14 @@ module _ (keys : Keys) (f : Tam2) (reply : List ℕ) (h : 16 + blocksLength (f .
         let whole : length part % 16 ≡ 0 = omega (arith, sent-whole) in
         let small : length part ≤ length room = omega (arith, sent-long) in
         let opens : cbcDecAesInv (take 16 reply) (keys .enc) (dataSent f reply) ≡ openedData keys f reply = rw t in
-        into-taken (chains (length part) (length room)) (cbcDecAesInv iv (keys .enc) part) room after answer i (enough (length part) (length room) whole small)
-        ∙ ap (λ (d : List ℕ). over d room) (ap₂ (λ (x y : List ℕ). cbcDecAesInv x (keys .enc) y) (v ∙ first-block-is reply (omega arith)) sent ∙ opens)
+        into-taken (chains (length part) (length room)) (cbcDecAesInv iv (keys .enc) part) room after answer i
+        (enough (length part) (length room) whole small)
+        ∙ ap (λ (d : List ℕ). over d room) (ap₂ (λ (x y : List ℕ). cbcDecAesInv x (keys .enc) y)
+        (v ∙ first-block-is reply (omega arith)) sent ∙ opens)
 
     pub opened-plain : encrypts (f .protmode) ≡ false
-        → after ≡ take (length (take (16 + r - 16) (drop 16 reply))) (take (16 + r - 16) (drop 16 reply)) ++ drop (length (take (16 + r - 16) (drop 16 reply))) room
+        → after ≡ take (length (take (16 + r - 16) (drop 16 reply))) (take (16 + r - 16) (drop 16 reply)) ++ drop
+        (length (take (16 + r - 16) (drop 16 reply))) room
         → after ≡ over (openedData keys f reply) room
     unfolding openedData
     opened-plain t q =
@@ -107,19 +116,24 @@ module _ (keys : Keys) (f : Tam2) (reply : List ℕ) (h : 16 + blocksLength (f .
         copied (take (16 + r - 16) (drop 16 reply)) room after q ∙ ap (λ (d : List ℕ). over d room) (sent ∙ opens)
 
   -- the front of a room that holds it
-  pub opened-front : (n : ℕ) (room after : List ℕ) → n ≡ blocksLength (f .custom .blocksize) (f .rev) (f .custom .blockcount) → after ≡ over (openedData keys f reply) room
+  pub opened-front : (n : ℕ) (room after : List ℕ)
+      → n ≡ blocksLength (f .custom .blocksize) (f .rev) (f .custom .blockcount)
+      → after ≡ over (openedData keys f reply) room
       → take n after ≡ openedData keys f reply
   opened-front n room after e q = ap (take n) q ∙ over-taken (openedData keys f reply) room n (opened-long ∙ sym e)
 
 -- ---- what is handed over
 
-pub stored : (f : Tam2) (p words room after : List ℕ) (r : Judgement) → headerFits (f .rev) (f .custom) p ≡ true → fillerFits (f .rev) (f .custom) p ≡ true
-    → words ≡ wordsIn (f .rev) (f .custom) p → r ≡ saidOf (carries (worthOf (f .protmode)) words) → after ≡ take (length words) words ++ drop (length words) room
+pub stored : (f : Tam2) (p words room after : List ℕ) (r : Judgement) → headerFits (f .rev) (f .custom) p ≡ true
+    → fillerFits (f .rev) (f .custom) p ≡ true
+    → words ≡ wordsIn (f .rev) (f .custom) p → r ≡ saidOf (carries (worthOf (f .protmode)) words)
+    → after ≡ take (length words) words ++ drop (length words) room
     → Judges (dataFinding f p) room r after
 unfolding dataFinding
 stored f p words room after r h k e s q =
     judges-as (passes _ _ _ _ h (passes _ _ _ _ k (ends _ _)))
-    (judges (carries (worthOf (f .protmode)) (wordsIn (f .rev) (f .custom) p)) room after r (s ∙ ap (λ (l : List ℕ). saidOf (carries (worthOf (f .protmode)) l)) e)
+    (judges (carries (worthOf (f .protmode)) (wordsIn (f .rev) (f .custom) p)) room after r
+    (s ∙ ap (λ (l : List ℕ). saidOf (carries (worthOf (f .protmode)) l)) e)
     (copied words room after q ∙ ap (λ (l : List ℕ). over l room) e))
 
 -- the fields of a message of bytes fit their bits

@@ -24,8 +24,14 @@ use Rattle.reader_judge.specs.Judged.{byKind, ofKind, judgementOf}
 use Rattle.reader.specs.Own.{dataRoom, fieldsFit, ownFits}
 
 -- Data over the room's first bytes, as many as are said.
-pub judges : (f : Finding) (room after : List ℕ) (r : Judgement) → r ≡ saidOf f → after ≡ over (f .bytes) room → Judges f room r after
-judges f room after r e h = record { says = e; number = ap (λ (j : Judgement). verdictNumber (j .verdict)) e; holds = h }
+pub judges : (f : Finding) (room after : List ℕ) (r : Judgement) → r ≡ saidOf f → after ≡ over (f .bytes) room
+    → Judges f room r after
+judges f room after r e h = record {
+  says = e;
+  number = ap (λ (j : Judgement). verdictNumber (j .verdict)) e;
+  holds =
+      h;
+}
 
 -- No data: no byte of the room changes.
 pub quiet : (f : Finding) (room : List ℕ) (r : Judgement) → f .bytes ≡ [] → r ≡ saidOf f → Judges f room r room
@@ -35,7 +41,8 @@ quiet f room r n e = judges f room room r e (rw n)
 pub told : {r : Judgement} {g h : Finding} → g ≡ h → r ≡ saidOf g → r ≡ saidOf h
 told q e = e ∙ ap saidOf q
 
-pub judges-as : {f g : Finding} {room after : List ℕ} {r : Judgement} → f ≡ g → Judges f room r after → Judges g room r after
+pub judges-as : {f g : Finding} {room after : List ℕ} {r : Judgement} → f ≡ g → Judges f room r after
+    → Judges g room r after
 judges-as e h = rw (← e) h
 
 -- A line of checks brings no data of its own.
@@ -43,21 +50,28 @@ pub line-quiet : (cs : List (Check Fault)) (found : Finding) → found .bytes �
 line-quiet cs found e = keeps refused found (λ (f : Finding). f .bytes ≡ []) (λ f. refl) e cs
 
 -- The judge, from the message's first byte on.
-pub no-message : (keys : Keys) (m reply : List ℕ) (room : ℕ) → length m ≡ 0 → refused OwnMessage ≡ judgementOf keys m reply room
+pub no-message : (keys : Keys) (m reply : List ℕ) (room : ℕ) → length m ≡ 0
+    → refused OwnMessage ≡ judgementOf keys m reply room
 unfolding judgementOf
 no-message keys [] reply room e = refl
 no-message keys (x ∷ m) reply room e = absurd (let w : ⊥ = omega arith in w)
 
-by-first : (keys : Keys) (m reply : List ℕ) (room : ℕ) → (length m ≡ 0 → ⊥) → judgementOf keys m reply room ≡ ofKind keys m reply room (kindOf (getD m 0 0))
+by-first : (keys : Keys) (m reply : List ℕ) (room : ℕ) → (length m ≡ 0 → ⊥)
+    → judgementOf keys m reply room ≡ ofKind keys m reply room (kindOf (getD m 0 0))
 unfolding judgementOf
 by-first keys [] reply room h = absurd (h refl)
 by-first keys (x ∷ m) reply room h = refl
 
-module _ (keys : Keys) (m reply : List ℕ) (room : ℕ) (kind : Kind) (some : length m ≡ 0 → ⊥) (e : kind ≡ kindOf (getD m 0 0)) where
-  pub own-told : {b : Bool} → ownFits keys kind m room ≡ b → judgementOf keys m reply room ≡ pick b (byKind keys m reply kind) (refused OwnMessage)
+module _ (keys : Keys) (m reply : List ℕ) (room : ℕ) (kind : Kind) (some : length m ≡ 0 → ⊥)
+    (e : kind ≡ kindOf (getD m 0 0)) where
+  pub own-told : {b : Bool} → ownFits keys kind m room ≡ b
+      → judgementOf keys m reply room ≡ pick b (byKind keys m reply kind) (refused OwnMessage)
   unfolding ofKind
-  own-told h = by-first keys m reply room some ∙ ap (ofKind keys m reply room) (sym e) ∙ ap (λ (b : Bool). pick b (byKind keys m reply kind) (refused OwnMessage)) h
+  own-told h = by-first keys m reply room some ∙ ap (ofKind keys m reply room) (sym e)
+      ∙ ap (λ (b : Bool). pick b (byKind keys m reply kind) (refused OwnMessage)) h
 
-pub room-enough : (keys : Keys) (kind : Kind) (m : List ℕ) (room : ℕ) → ownFits keys kind m room ≡ true → dataRoom ≤ room
+pub room-enough : (keys : Keys) (kind : Kind) (m : List ℕ) (room : ℕ) → ownFits keys kind m room ≡ true
+    → dataRoom ≤ room
 unfolding ownFits
-room-enough keys kind m room h = leb-true dataRoom room (both-left (leb dataRoom room) (both (lengthFits kind m) (fieldsFit keys kind m)) h)
+room-enough keys kind m room h = leb-true dataRoom room
+    (both-left (leb dataRoom room) (both (lengthFits kind m) (fieldsFit keys kind m)) h)

@@ -46,7 +46,13 @@ issues challenge = record { verdict = Accepted; bytes = []; worth = NoData; issu
 
 -- A finding as the judge says it.
 abbrev pub saidOf : Finding → Judgement
-saidOf f = record { verdict = f .verdict; «data» = length (f .bytes); worth = f .worth; issued = f .issued; challenge = f .challenge }
+saidOf f = record {
+  verdict = f .verdict;
+  «data» = length (f .bytes);
+  worth = f .worth;
+  issued = f .issued;
+  challenge = f .challenge;
+}
 
 -- The scope paper's number of a verdict; 0 where nothing is refused.
 abbrev pub verdictNumber : Verdict → ℕ

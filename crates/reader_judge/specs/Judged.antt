@@ -1,4 +1,5 @@
--- The judge of a reply to the reader's own message. Read from the top: 24, and then by kind 20, 21, 22 and 23 (the scope paper, "Numbers the reader's side gives").
+-- The judge of a reply to the reader's own message: 24, and then by kind 20, 21, 22 and 23 (the scope paper, "Numbers
+-- the reader's side gives"). `judgementOf`, at the end, is the whole of it.
 -- 9.4.7.1 judges the MAC before the block is opened; the scope paper's order is kept, and what is accepted is the same.
 use Prim.Native.Nat.{ℕ}
 use mathlib.Core.List.{List, [], _∷_}
@@ -13,7 +14,8 @@ use Rattle.frames.specs.declared.Tam2.{Tam2 as Tam2Fields}
 use Rattle.frames.specs.declared.Mam1.{Mam1 as Mam1Fields}
 use Rattle.frames.specs.Constants.{C-TAM1, C-MAM1, tam2Constant, twoBytes}
 use Rattle.frames.specs.Kinds.{kindOf}
-use Rattle.frames.specs.Lengths.{tam1ReplyLength, tam2ReplyLength, tam2MacAt, iam1ReplyLength, mam1ReplyLength, emptyReplyLength}
+use Rattle.frames.specs.Lengths.{tam1ReplyLength, tam2ReplyLength, tam2MacAt, iam1ReplyLength, mam1ReplyLength}
+use Rattle.frames.specs.Lengths.{emptyReplyLength}
 use Rattle.frames.specs.Messages.{tam1Of, tam2Of, mam1Of}
 use Rattle.payload.specs.Protected.{macFits}
 use Rattle.payload.specs.Data.{headerFits, fillerFits, wordsIn}
@@ -52,10 +54,13 @@ tam1Finding keys f reply =
 -- 9.4.7
 unfoldable pub tam2Finding : Keys → Tam2Fields → List ℕ → Finding
 tam2Finding keys f reply =
-    let at = tam2MacAt (f .custom .blocksize) (f .rev) (f .custom .blockcount) in
+    let c = f .custom in
+    let at = tam2MacAt (c .blocksize) (f .rev) (c .blockcount) in
+    let long = tam2ReplyLength (c .blocksize) (f .rev) (c .blockcount) (f .protmode) in
+    let constant = twoBytes (tam2Constant (f .rev) (f .protmode)) in
     judgedTo refused
-    ((eqb (length reply) (tam2ReplyLength (f .custom .blocksize) (f .rev) (f .custom .blockcount) (f .protmode)) else ReplyLength)
-    ∷ (blockFits (twoBytes (tam2Constant (f .rev) (f .protmode))) (f .ichallenge) (openedBlock keys reply) else ChallengeWrong)
+    ((eqb (length reply) long else ReplyLength)
+    ∷ (blockFits constant (f .ichallenge) (openedBlock keys reply) else ChallengeWrong)
     ∷ (macFits (keys .mackey) (f .protmode) (take at reply) (drop at reply) else MacWrong)
     ∷ [])
     (dataFinding f (openedData keys f reply))

@@ -1,4 +1,5 @@
--- What the reader opens of a reply: 9.4.4, 9.4.7, 9.6.4. The tag made its block by AES-ENC, so the reader opens it by AES-DEC.
+-- What the reader opens of a reply: 9.4.4, 9.4.7, 9.6.4. The tag made its block by AES-ENC, so the reader opens it by
+-- AES-DEC.
 use Prim.Native.Nat.{ℕ}
 use mathlib.Core.Bool.{Bool}
 use mathlib.Core.List.{List, _++_}
@@ -17,7 +18,8 @@ use Rattle.reader.specs.declared.Keys.{Keys}
 unfoldable pub openedBlock : Keys → List ℕ → List ℕ
 openedBlock keys reply = aesDec (keys .enc) (take 16 reply)
 
--- 9.4.4, 9.4.7, 9.6.4: it starts with the constant and ends with the reader's own challenge. The four bytes between them are the tag's.
+-- 9.4.4, 9.4.7, 9.6.4: it starts with the constant and ends with the reader's own challenge. The four bytes between
+-- them are the tag's.
 unfoldable pub blockFits : List ℕ → List ℕ → List ℕ → Bool
 blockFits constant ichallenge b = both (same (take 2 b) constant) (same (drop 6 b) ichallenge)
 
@@ -31,4 +33,5 @@ dataSent f reply = take (blocksLength (f .custom .blocksize) (f .rev) (f .custom
 
 -- 9.4.7: header, data and filler in the clear. The chain starts with the authentication block as it came.
 unfoldable pub openedData : Keys → Tam2 → List ℕ → List ℕ
-openedData keys f reply = pick (encrypts (f .protmode)) (cbcDecAesInv (take authLength reply) (keys .enc) (dataSent f reply)) (dataSent f reply)
+openedData keys f reply = pick (encrypts (f .protmode))
+    (cbcDecAesInv (take authLength reply) (keys .enc) (dataSent f reply)) (dataSent f reply)

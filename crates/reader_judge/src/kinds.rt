@@ -52,7 +52,8 @@ pub fn iam1(reply: &[u8]) -> Judgement
     ])
 }
 
-/// MAM1 (9.6.4): length, then constant and challenge. Ruled out: the challenge out of the clear part alone; another reader's IChallenge.
+/// MAM1 (9.6.4): length, then constant and challenge. Ruled out: the challenge out of the clear part alone; another
+/// reader's IChallenge.
 pub fn mam1(keys: Keys, f: Mam1, reply: &[u8]) -> Judgement
     ensures { λ r. ⌜ r ≡ saidOf (mam1Finding keys f (now (reply .entry))) ⌝ }
 {
@@ -67,7 +68,8 @@ pub fn mam1(keys: Keys, f: Mam1, reply: &[u8]) -> Judgement
     issues(challenge_in(b, reply))
 }
 
-/// IAM2, IAM3, MAM2 (9.5.6, 9.5.9, 9.6.6): the reply is empty. Ruled out: a reply of one byte taken; an empty reply refused.
+/// IAM2, IAM3, MAM2 (9.5.6, 9.5.9, 9.6.6): the reply is empty. Ruled out: a reply of one byte taken; an empty reply
+/// refused.
 pub fn empty(reply: &[u8]) -> Judgement
     ensures { λ r. ⌜ r ≡ saidOf (emptyFinding (now (reply .entry))) ⌝ }
 {

@@ -48,7 +48,8 @@ pub struct Judgement {
 // A reply to a message that is one of the table, by its kind.
 fn by_kind(keys: Keys, kind: Kind, message: &[u8], reply: &[u8], room: &mut [u8]) -> Judgement
     requires { ⌜ dataRoom ≤ length (now room) ⌝ }
-    ensures { λ r. ⌜ Judges (byKind keys (now (message .entry)) (now (reply .entry)) kind) (now (room .entry)) r (now (room .exit)) ⌝ }
+    ensures { λ r. ⌜ Judges (byKind keys (now (message .entry)) (now (reply .entry)) kind) (now (room .entry)) r
+        (now (room .exit)) ⌝ }
 {
     match kind {
         Kind::Tam1 => {
@@ -83,7 +84,8 @@ fn by_kind(keys: Keys, kind: Kind, message: &[u8], reply: &[u8], room: &mut [u8]
 ///
 /// Ruled out: data that are handed over though the MAC is wrong; a reply to one message taken as the reply to another.
 pub fn judge(keys: Keys, message: &[u8], reply: &[u8], room: &mut [u8]) -> Judgement
-    ensures { λ r. ⌜ Judges (judgementOf keys (now (message .entry)) (now (reply .entry)) (length (now (room .entry)))) (now (room .entry)) r (now (room .exit)) ⌝ }
+    ensures { λ r. ⌜ Judges (judgementOf keys (now (message .entry)) (now (reply .entry)) (length (now (room .entry))))
+        (now (room .entry)) r (now (room .exit)) ⌝ }
 {
     if message.len() == 0 {
         return refused(Fault::OwnMessage);

@@ -23,7 +23,8 @@ pub fn opened_block(keys: Keys, reply: &[u8]) -> [u8; 16]
     aes_inverse::decrypt(enc, field::first_block(reply))
 }
 
-/// Does it start with the constant and end with the reader's own challenge? Ruled out: a constant that is not looked at; a challenge of which
+/// Does it start with the constant and end with the reader's own challenge? Ruled out: a constant that is not looked
+/// at; a challenge of which
 /// only the first bytes count.
 pub fn block_fits(constant: [u8; 2], ichallenge: [u8; 10], b: [u8; 16]) -> bool
     ensures { λ r. ⌜ r ≡ blockFits constant ichallenge b ⌝ }
@@ -56,7 +57,8 @@ pub fn challenge_in(b: [u8; 16], reply: &[u8]) -> [u8; 10]
 /// Header, data and filler of a TAM2 reply in the clear, over the first bytes of `out` (9.4.7).
 /// Ruled out: the chain started at the opened block; data that are opened in ProtMode 2.
 pub fn open_data(keys: Keys, f: Tam2, reply: &[u8], out: &mut [u8])
-    requires { ⌜ (authLength + blocksLength (f .custom .blocksize) (f .rev) (f .custom .blockcount) ≤ length (now reply)) × (blocksLength (f .custom .blocksize) (f .rev) (f .custom .blockcount) ≤ length (now out)) ⌝ }
+    requires { ⌜ (authLength + blocksLength (f .custom .blocksize) (f .rev) (f .custom .blockcount) ≤ length
+        (now reply)) × (blocksLength (f .custom .blocksize) (f .rev) (f .custom .blockcount) ≤ length (now out)) ⌝ }
     ensures { λ _. ⌜ now (out .exit) ≡ over (openedData keys f (now (reply .entry))) (now (out .entry)) ⌝ }
 {
     let custom = f.custom;
@@ -75,7 +77,8 @@ pub fn open_data(keys: Keys, f: Tam2, reply: &[u8], out: &mut [u8])
 /// Ruled out: a MAC over the data in the clear; one that leaves the authentication block out.
 pub fn mac_fits(keys: Keys, f: Tam2, reply: &[u8]) -> bool
     requires { ⌜ tam2MacAt (f .custom .blocksize) (f .rev) (f .custom .blockcount) ≤ length (now reply) ⌝ }
-    ensures { λ r. ⌜ r ≡ macFits (keys .mackey) (f .protmode) (take (tam2MacAt (f .custom .blocksize) (f .rev) (f .custom .blockcount)) (now (reply .entry)))
+    ensures { λ r. ⌜ r ≡ macFits (keys .mackey) (f .protmode)
+        (take (tam2MacAt (f .custom .blocksize) (f .rev) (f .custom .blockcount)) (now (reply .entry)))
         (drop (tam2MacAt (f .custom .blocksize) (f .rev) (f .custom .blockcount)) (now (reply .entry))) ⌝ }
 {
     let custom = f.custom;

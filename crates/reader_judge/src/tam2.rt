@@ -47,7 +47,8 @@ fn open_and_judge(keys: Keys, f: Tam2, reply: &[u8], room: &mut [u8]) -> Judgeme
     requires { ⌜ (customFits (f .custom) ≡ true)
         × (authLength + blocksLength (f .custom .blocksize) (f .rev) (f .custom .blockcount) ≤ length (now reply))
         × (dataRoom ≤ length (now room)) ⌝ }
-    ensures { λ r. ⌜ Judges (dataFinding f (openedData keys f (now (reply .entry)))) (now (room .entry)) r (now (room .exit)) ⌝ }
+    ensures { λ r. ⌜ Judges (dataFinding f (openedData keys f (now (reply .entry)))) (now (room .entry)) r
+        (now (room .exit)) ⌝ }
 {
     let mut clear = [0u8; 144];
     open_data(keys, f, reply, &mut clear);
@@ -57,7 +58,8 @@ fn open_and_judge(keys: Keys, f: Tam2, reply: &[u8], room: &mut [u8]) -> Judgeme
     judge_data(f, &clear[..n], room)
 }
 
-/// TAM2 (9.4.7): length, constant and challenge, MAC, header and filler. Ruled out: the MAC judged before the block; the constant of another ProtMode.
+/// TAM2 (9.4.7): length, constant and challenge, MAC, header and filler. Ruled out: the MAC judged before the block;
+/// the constant of another ProtMode.
 pub fn tam2(keys: Keys, f: Tam2, reply: &[u8], room: &mut [u8]) -> Judgement
     requires { ⌜ (customFits (f .custom) ≡ true) × (dataRoom ≤ length (now room)) ⌝ }
     ensures { λ r. ⌜ Judges (tam2Finding keys f (now (reply .entry))) (now (room .entry)) r (now (room .exit)) ⌝ }

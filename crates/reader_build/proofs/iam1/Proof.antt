@@ -22,7 +22,8 @@ same-length c = search needs
 
 returns-2 : tie.Need-returns-2
 unfolding iam1Made
-returns-2 c = built _ _ _ _ _ _ _ _ (c .before .before .before .before .before .if1 .left) refl (iam1-shape _ (omega arith) .0) (omega arith) (c .before .before .before .iam1-into .ensures) (c .answer .ensures)
+returns-2 c = built _ _ _ _ _ _ _ _ (c .before .before .before .before .before .if1 .left) refl
+    (iam1-shape _ (omega arith) .0) (omega arith) (c .before .before .before .iam1-into .ensures) (c .answer .ensures)
 
 pub iam1-spec : {M : Type 1} → statement M
 iam1-spec = tie.close (tie.spec returns iam1-into-requires answer-requires same-length returns-2)

@@ -32,8 +32,14 @@ same-length c = search needs
 returns-3 : tie.Need-returns-3
 returns-3 c =
     let a = c .before .before .before .before .before .before .before .before .before .before .before in
-    in-words _ _ _ _ _ _ (iam2-sent (a .args .keys) (a .args .purpose) (a .args .tchallenge) _ _ (a .args .irnd) (c .before .before .before .before .before .before .iam2-constant .ensures) (c .before .before .before .before .before .response .ensures))
-    (built _ _ _ _ _ _ _ _ (c .before .before .before .before .before .before .before .before .before .if1 .left) (purpose-in _ (c .before .before .before .before .before .before .before .before .if2 .left)) (iam2-shape _ (array-length 16 (c .before .before .before .before .before .response .result) _ (c .before .before .before .before .before .response .ok)) (omega arith) .0) (omega arith) (c .before .before .before .iam2-into .ensures) (c .answer .ensures))
+    in-words _ _ _ _ _ _ (iam2-sent (a .args .keys) (a .args .purpose) (a .args .tchallenge) _ _ (a .args .irnd)
+    (c .before .before .before .before .before .before .iam2-constant .ensures)
+    (c .before .before .before .before .before .response .ensures))
+    (built _ _ _ _ _ _ _ _ (c .before .before .before .before .before .before .before .before .before .if1 .left)
+    (purpose-in _ (c .before .before .before .before .before .before .before .before .if2 .left))
+    (iam2-shape _ (array-length 16 (c .before .before .before .before .before .response .result) _
+    (c .before .before .before .before .before .response .ok)) (omega arith) .0) (omega arith)
+    (c .before .before .before .iam2-into .ensures) (c .answer .ensures))
 
 pub iam2-spec : {M : Type 1} → statement M
 iam2-spec =

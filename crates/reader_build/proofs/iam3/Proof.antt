@@ -17,7 +17,8 @@ iam3-fits-requires c κs = search needs
 returns-2 : tie.Need-returns-2
 returns-2 c =
     let a = c .before .before .before .before .before .args in
-    unfit _ _ _ (part-unfit (a .keys) (a .custom) (a .protmode) (a .purpose) _ (no (c .before .iam3-fits .ensures) (c .if2 .taken)))
+    unfit _ _ _ (part-unfit (a .keys) (a .custom) (a .protmode) (a .purpose) _
+    (no (c .before .iam3-fits .ensures) (c .if2 .taken)))
 
 slice-aggregate-carried-into : tie.Need-slice-aggregate-carried-into
 slice-aggregate-carried-into c = search needs
@@ -28,9 +29,11 @@ carried-into-requires c κs = search needs
 returns-3 : tie.Need-returns-3
 returns-3 c =
     let a = c .before .before .before .before .before .before .before .before .before in
-    let part = yes (c .before .before .before .before .before .iam3-fits .ensures) (c .before .before .before .before .if2 .left) in
+    let part = yes (c .before .before .before .before .before .iam3-fits .ensures)
+    (c .before .before .before .before .if2 .left) in
     let b = c .before .before .carried-into .ensures in
-    unfit _ _ _ (iam3-unfit (a .args .keys) (a .args .custom) (a .args .protmode) (a .args .purpose) (a .args .words .now) _ _ _ refl part b (not-true _ (c .if3 .taken)))
+    unfit _ _ _ (iam3-unfit (a .args .keys) (a .args .custom) (a .args .protmode) (a .args .purpose)
+    (a .args .words .now) _ _ _ refl part b (not-true _ (c .if3 .taken)))
 
 iam3-constant-requires : tie.Need-iam3-constant-requires
 iam3-constant-requires c κs = search needs
@@ -43,26 +46,38 @@ blocks-length-requires c κs = search needs
 
 array-share-prefix-p : tie.Need-array-share-prefix-p
 array-share-prefix-p c =
-    let a = c .before .before .before .before .before .before .before .before .before .before .before .before .before in
-    let part = yes (c .before .before .before .before .before .before .before .before .before .iam3-fits .ensures) (c .before .before .before .before .before .before .before .before .if2 .left) in
-    let b = c .before .before .before .before .before .before .carried-into .ensures in
-    blocks-there (a .args .keys) (a .args .custom) (a .args .protmode) (a .args .purpose) (a .args .words .now) _ _ _ refl part b (not-false _ (c .before .before .before .before .if3 .left)) _ (c .blocks-length .ensures)
+    let t = c .before .before .before .before in
+    let f = t .before .before .before .before .before in
+    let a = f .before .before .before .before .args in
+    let part = yes (f .iam3-fits .ensures) (t .before .before .before .before .if2 .left) in
+    let b = t .before .before .carried-into .ensures in
+    blocks-there (a .keys) (a .custom) (a .protmode) (a .purpose) (a .words .now) _ _ _ refl part b
+    (not-false _ (t .if3 .left)) _ (c .blocks-length .ensures)
 
 slice-aggregate-iam3-whole : tie.Need-slice-aggregate-iam3-whole
 slice-aggregate-iam3-whole c =
-    let a = c .before .before .before .before .before .before .before .before .before .before .before .before .before .before in
-    let part = yes (c .before .before .before .before .before .before .before .before .before .before .iam3-fits .ensures) (c .before .before .before .before .before .before .before .before .before .if2 .left) in
-    let b = c .before .before .before .before .before .before .before .carried-into .ensures in
-    sym (data-long (a .args .keys) (a .args .custom) (a .args .protmode) (a .args .purpose) (a .args .words .now) _ _ _ refl part b (not-false _ (c .before .before .before .before .before .if3 .left)) _ (c .before .blocks-length .ensures))
+    let l = c .before in
+    let t = l .before .before .before .before in
+    let f = t .before .before .before .before .before in
+    let a = f .before .before .before .before .args in
+    let part = yes (f .iam3-fits .ensures) (t .before .before .before .before .if2 .left) in
+    let b = t .before .before .carried-into .ensures in
+    sym (data-long (a .keys) (a .custom) (a .protmode) (a .purpose) (a .words .now) _ _ _ refl part b
+    (not-false _ (t .if3 .left)) _ (l .blocks-length .ensures))
 
 iam3-whole-requires : tie.Need-iam3-whole-requires
 iam3-whole-requires c κs =
-    let a = c .before .before .before .before .before .before .before .before .before .before .before .before .before .before .before in
-    let part = yes (c .before .before .before .before .before .before .before .before .before .before .before .iam3-fits .ensures) (c .before .before .before .before .before .before .before .before .before .before .if2 .left) in
-    let b = c .before .before .before .before .before .before .before .before .carried-into .ensures in (
-      fields-fit (a .args .keys) (a .args .custom) (a .args .protmode) (a .args .purpose) (a .args .words .now) _ _ _ refl part b (not-false _ (c .before .before .before .before .before .before .if3 .left)),
-      data-long (a .args .keys) (a .args .custom) (a .args .protmode) (a .args .purpose) (a .args .words .now) _ _ _ refl part b (not-false _ (c .before .before .before .before .before .before .if3 .left)) _ (c .before .before .blocks-length .ensures) ∙ c .before .before .blocks-length .ensures,
-      c .before .before .before .before .before .before .before .before .before .before .before .before .if1 .left,
+    let l = c .before .before in
+    let t = l .before .before .before .before in
+    let f = t .before .before .before .before .before in
+    let a = f .before .before .before .before .args in
+    let part = yes (f .iam3-fits .ensures) (t .before .before .before .before .if2 .left) in
+    let b = t .before .before .carried-into .ensures in (
+      fields-fit (a .keys) (a .custom) (a .protmode) (a .purpose) (a .words .now) _ _ _ refl part b
+          (not-false _ (t .if3 .left)),
+      data-long (a .keys) (a .custom) (a .protmode) (a .purpose) (a .words .now) _ _ _ refl part b
+          (not-false _ (t .if3 .left)) _ (l .blocks-length .ensures) ∙ l .blocks-length .ensures,
+      f .before .if1 .left,
     )
 
 same-length : tie.Need-same-length
@@ -70,10 +85,16 @@ same-length c = search needs
 
 returns-4 : tie.Need-returns-4
 returns-4 c =
-    let a = c .before .before .before .before .before .before .before .before .before .before .before .before .before .before .before .before .before .before in
-    let part = yes (c .before .before .before .before .before .before .before .before .before .before .before .before .before .before .iam3-fits .ensures) (c .before .before .before .before .before .before .before .before .before .before .before .before .before .if2 .left) in
-    let b = c .before .before .before .before .before .before .before .before .before .before .before .carried-into .ensures in
-    iam3-built (a .args .keys) (a .args .custom) (a .args .protmode) (a .args .purpose) (a .args .words .now) _ _ _ refl part b (not-false _ (c .before .before .before .before .before .before .before .before .before .if3 .left)) _ (c .before .before .before .before .before .blocks-length .ensures) _ _ _ _ _ _ _ (c .before .before .before .before .before .before .before .iam3-constant .ensures) (c .before .before .before .before .before .before .response .ensures) (c .before .before .before .before .before .before .before .before .before .before .before .before .before .before .before .if1 .left) (c .before .before .iam3-whole .ensures)
+    let l = c .before .before .before .before .before in
+    let t = l .before .before .before .before in
+    let f = t .before .before .before .before .before in
+    let a = f .before .before .before .before .args in
+    let part = yes (f .iam3-fits .ensures) (t .before .before .before .before .if2 .left) in
+    let b = t .before .before .carried-into .ensures in
+    iam3-built (a .keys) (a .custom) (a .protmode) (a .purpose) (a .words .now) _ _ _ refl part b
+    (not-false _ (t .if3 .left)) _ (l .blocks-length .ensures) _ _ _ _ _ _ _
+    (l .before .before .iam3-constant .ensures) (l .before .response .ensures) (f .before .if1 .left)
+    (c .before .before .iam3-whole .ensures)
 
 pub iam3-spec : {M : Type 1} → statement M
 iam3-spec =

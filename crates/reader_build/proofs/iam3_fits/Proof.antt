@@ -11,12 +11,14 @@ mode-fits-requires c κs = search needs
 returns : tie.Need-returns
 returns c =
     let a = c .before .before .args in
-    part-mode (a .keys) (a .custom) (a .protmode) (a .purpose) (a .n) (no (c .before .mode-fits .ensures) (c .if1 .taken))
+    part-mode (a .keys) (a .custom) (a .protmode) (a .purpose) (a .n)
+    (no (c .before .mode-fits .ensures) (c .if1 .taken))
 
 returns-2 : tie.Need-returns-2
 returns-2 c =
     let a = c .before .before .before .args in
-    part-purpose (a .keys) (a .custom) (a .protmode) (a .purpose) (a .n) (yes (c .before .before .mode-fits .ensures) (c .before .if1 .left)) (c .if2 .taken)
+    part-purpose (a .keys) (a .custom) (a .protmode) (a .purpose) (a .n)
+    (yes (c .before .before .mode-fits .ensures) (c .before .if1 .left)) (c .if2 .taken)
 
 data-length-requires : tie.Need-data-length-requires
 data-length-requires c κs = search needs
@@ -24,7 +26,9 @@ data-length-requires c κs = search needs
 returns-3 : tie.Need-returns-3
 returns-3 c =
     let a = c .before .before .before .before .args in
-    part-data (a .keys) (a .custom) (a .protmode) (a .purpose) (a .n) _ (yes (c .before .before .before .mode-fits .ensures) (c .before .before .if1 .left)) (c .before .if2 .left) (c .data-length .ensures)
+    part-data (a .keys) (a .custom) (a .protmode) (a .purpose) (a .n) _
+    (yes (c .before .before .before .mode-fits .ensures) (c .before .before .if1 .left)) (c .before .if2 .left)
+    (c .data-length .ensures)
 
 pub iam3-fits-spec : {M : Type 1} → statement M
 iam3-fits-spec =

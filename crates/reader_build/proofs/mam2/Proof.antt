@@ -45,8 +45,15 @@ same-length c = search needs
 returns-3 : tie.Need-returns-3
 returns-3 c =
     let a = c .before .before .before .before .before .before .before .before .before .before .before in
-    in-words _ _ _ _ _ _ (mam2-sent (a .args .keys) (a .args .purpose) (a .args .tchallenge) _ _ (a .args .t3) _ (c .before .before .before .before .before .before .mam2-constant .ensures) (last-four (a .args .t3) (array-length 10 (a .args .t3) _ (a .good .1 .1 .0))) (c .before .before .before .before .before .response .ensures))
-    (built _ _ _ _ _ _ _ _ (c .before .before .before .before .before .before .before .before .before .if1 .left) (purpose-in _ (c .before .before .before .before .before .before .before .before .if2 .left)) (mam2-shape _ (array-length 16 (c .before .before .before .before .before .response .result) _ (c .before .before .before .before .before .response .ok)) (omega arith) .0) (omega arith) (c .before .before .before .mam2-into .ensures) (c .answer .ensures))
+    in-words _ _ _ _ _ _ (mam2-sent (a .args .keys) (a .args .purpose) (a .args .tchallenge) _ _ (a .args .t3) _
+    (c .before .before .before .before .before .before .mam2-constant .ensures)
+    (last-four (a .args .t3) (array-length 10 (a .args .t3) _ (a .good .1 .1 .0)))
+    (c .before .before .before .before .before .response .ensures))
+    (built _ _ _ _ _ _ _ _ (c .before .before .before .before .before .before .before .before .before .if1 .left)
+    (purpose-in _ (c .before .before .before .before .before .before .before .before .if2 .left))
+    (mam2-shape _ (array-length 16 (c .before .before .before .before .before .response .result) _
+    (c .before .before .before .before .before .response .ok)) (omega arith) .0) (omega arith)
+    (c .before .before .before .mam2-into .ensures) (c .answer .ensures))
 
 pub mam2-spec : {M : Type 1} → statement M
 mam2-spec =

@@ -20,7 +20,8 @@ mode-fits-requires : tie.Need-mode-fits-requires
 mode-fits-requires c κs = search needs
 
 returns-2 : tie.Need-returns-2
-returns-2 c = unfit _ _ _ (ap (λ (b : Bool). both b (customFits (c .before .before .before .before .args .custom))) (no (c .before .mode-fits .ensures) (c .if2 .taken)))
+returns-2 c = unfit _ _ _ (ap (λ (b : Bool). both b (customFits (c .before .before .before .before .args .custom)))
+    (no (c .before .mode-fits .ensures) (c .if2 .taken)))
 
 tam2-into-requires : tie.Need-tam2-into-requires
 tam2-into-requires c κs = search needs
@@ -35,9 +36,12 @@ returns-3 : tie.Need-returns-3
 unfolding tam2Made
 returns-3 c =
     let a = c .before .before .before .before .before .before .before .before .before in
-    let fit = yes (c .before .before .before .before .before .before .mode-fits .ensures) (c .before .before .before .before .before .if2 .left) in
-    built _ _ _ _ _ _ _ _ (c .before .before .before .before .before .before .before .if1 .left) (select-fit (a .args .keys) (a .args .protmode) (a .args .custom) fit)
-    (tam2-shape _ (array-length 10 (a .args .ichallenge) _ (a .good .1 .1 .0)) (omega arith) .0) (omega arith) (c .before .before .before .tam2-into .ensures) (c .answer .ensures)
+    let fit = yes (c .before .before .before .before .before .before .mode-fits .ensures)
+    (c .before .before .before .before .before .if2 .left) in
+    built _ _ _ _ _ _ _ _ (c .before .before .before .before .before .before .before .if1 .left)
+    (select-fit (a .args .keys) (a .args .protmode) (a .args .custom) fit)
+    (tam2-shape _ (array-length 10 (a .args .ichallenge) _ (a .good .1 .1 .0)) (omega arith) .0) (omega arith)
+    (c .before .before .before .tam2-into .ensures) (c .answer .ensures)
 
 pub tam2-spec : {M : Type 1} → statement M
 tam2-spec =

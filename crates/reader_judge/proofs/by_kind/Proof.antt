@@ -2,7 +2,8 @@
 use mathlib.Core.Path.{ap, _∙_}
 use Rattle.frames.specs.declared.Tam2.{Tam2}
 use Rattle.frames.specs.Fields.{customFits}
-use Rattle.reader_judge.proofs.Arms.{tam1-arm, tam2-arm, iam1-arm, iam2-arm, iam3-arm, mam1-arm, mam2-arm, none-arm}
+use Rattle.reader_judge.proofs.Arms.{tam1-arm, tam2-arm, iam1-arm, iam2-arm, iam3-arm, mam1-arm, mam2-arm}
+use Rattle.reader_judge.proofs.Arms.{none-arm}
 use Rattle.reader_judge.proofs.Clear.{tam2-in-range}
 use borrow.Author.Needs.{needs}
 use Rattle.reader_judge.proofs.by_kind.Statement.{statement}
@@ -18,7 +19,8 @@ tam1-requires : tie.Need-tam1-requires
 tam1-requires c κs = search needs
 
 returns : tie.Need-returns
-returns c = tam1-arm _ _ _ _ _ _ _ (c .before .before .enum-told .given .1) (c .before .tam1-of .ensures) (c .tam1 .ensures)
+returns c = tam1-arm _ _ _ _ _ _ _ (c .before .before .enum-told .given .1) (c .before .tam1-of .ensures)
+    (c .tam1 .ensures)
 
 enum-told-2 : tie.Need-enum-told-2
 enum-told-2 c = search needs
@@ -27,14 +29,18 @@ tam2-of-requires : tie.Need-tam2-of-requires
 tam2-of-requires c κs = search needs
 
 tam2-requires : tie.Need-tam2-requires
-tam2-requires c κs = let s = c .before .before .before .before .before .before in
-    (ap (λ (f : Tam2). customFits (f .custom)) (c .before .tam2-of .ensures) ∙ tam2-in-range (s .before .args .message .now) (λ i. s .shared-slice-known .given i .fits), s .before .pre)
+tam2-requires c κs = let s = c .before .before .before .before .before .before in (
+  ap (λ (f : Tam2). customFits (f .custom)) (c .before .tam2-of .ensures)
+      ∙ tam2-in-range (s .before .args .message .now) (λ i. s .shared-slice-known .given i .fits),
+  s .before .pre,
+)
 
 same-length : tie.Need-same-length
 same-length c = search needs
 
 returns-2 : tie.Need-returns-2
-returns-2 c = tam2-arm _ _ _ _ _ _ _ _ (c .before .before .before .before .before .enum-told2 .given .1) (c .before .before .before .before .tam2-of .ensures) (c .before .before .tam2 .ensures)
+returns-2 c = tam2-arm _ _ _ _ _ _ _ _ (c .before .before .before .before .before .enum-told2 .given .1)
+    (c .before .before .before .before .tam2-of .ensures) (c .before .before .tam2 .ensures)
 
 enum-told-3 : tie.Need-enum-told-3
 enum-told-3 c = search needs
@@ -73,7 +79,8 @@ mam1-requires : tie.Need-mam1-requires
 mam1-requires c κs = search needs
 
 returns-6 : tie.Need-returns-6
-returns-6 c = mam1-arm _ _ _ _ _ _ _ (c .before .before .enum-told6 .given .1) (c .before .mam1-of .ensures) (c .mam1 .ensures)
+returns-6 c = mam1-arm _ _ _ _ _ _ _ (c .before .before .enum-told6 .given .1) (c .before .mam1-of .ensures)
+    (c .mam1 .ensures)
 
 enum-told-7 : tie.Need-enum-told-7
 enum-told-7 c = search needs

@@ -13,7 +13,8 @@ refused-requires c κs = search needs
 
 returns : tie.Need-returns
 returns c = let a = c .before .before .before .before .before .args in
-    judges-as (no-message (a .keys) (a .message .now) (a .reply .now) (length (a .room .now)) (c .before .if1 .taken)) (quiet (refused _) _ _ refl (c .refused .ensures))
+    judges-as (no-message (a .keys) (a .message .now) (a .reply .now) (length (a .room .now)) (c .before .if1 .taken))
+    (quiet (refused _) _ _ refl (c .refused .ensures))
 
 shared-slice-read-kind-of : tie.Need-shared-slice-read-kind-of
 shared-slice-read-kind-of c = search needs
@@ -31,14 +32,16 @@ returns-2 : tie.Need-returns-2
 returns-2 c = let k = c .before .before .before in
     let a = k .before .before .before .before .before .before .args in
     judges-as
-    (sym (own-told (a .keys) (a .message .now) (a .reply .now) (length (a .room .now)) (k .kind-of .result) (k .before .before .if1 .left) (k .kind-of .ensures)
+    (sym (own-told (a .keys) (a .message .now) (a .reply .now) (length (a .room .now)) (k .kind-of .result)
+    (k .before .before .if1 .left) (k .kind-of .ensures)
     (no (c .before .before .own-fits .ensures) (c .before .if2 .taken))))
     (quiet (refused _) _ _ refl (c .refused2 .ensures))
 
 by-kind-requires : tie.Need-by-kind-requires
 by-kind-requires c κs = let k = c .before .before .before in
     let a = k .before .before .before .before .before .before .args in
-    room-enough (a .keys) (k .kind-of .result) (a .message .now) (length (a .room .now)) (yes (c .before .before .own-fits .ensures) (c .before .if2 .left))
+    room-enough (a .keys) (k .kind-of .result) (a .message .now) (length (a .room .now))
+    (yes (c .before .before .own-fits .ensures) (c .before .if2 .left))
 
 same-length : tie.Need-same-length
 same-length c = search needs
@@ -48,7 +51,8 @@ returns-3 c = let o = c .before .before .before .before .before in
     let k = o .before in
     let a = k .before .before .before .before .before .before .args in
     judges-as
-    (sym (own-told (a .keys) (a .message .now) (a .reply .now) (length (a .room .now)) (k .kind-of .result) (k .before .before .if1 .left) (k .kind-of .ensures)
+    (sym (own-told (a .keys) (a .message .now) (a .reply .now) (length (a .room .now)) (k .kind-of .result)
+    (k .before .before .if1 .left) (k .kind-of .ensures)
     (yes (o .own-fits .ensures) (c .before .before .before .before .if2 .left))))
     (c .before .before .by-kind .ensures)
 

@@ -22,7 +22,11 @@ fields-fit-requires c κs = search needs
 
 returns-3 : tie.Need-returns-3
 unfolding ownFits
-returns-3 c = rw (le-leb _ _ (c .before .before .before .if1 .left), yes (c .before .before .length-fits .ensures) (c .before .if2 .left)) (c .fields-fit .ensures)
+returns-3 c = rw (
+  le-leb _ _ (c .before .before .before .if1 .left),
+  yes (c .before .before .length-fits .ensures)
+      (c .before .if2 .left),
+) (c .fields-fit .ensures)
 
 pub own-fits-spec : {M : Type 1} → statement M
 own-fits-spec =

@@ -56,7 +56,8 @@ returns-2 : tie.Need-returns-2
 unfolding iam1Finding
 returns-2 c = let s = c .before .before .before .before .before .before .before .before .before .before .before in
     told (passes _ _ _ _ (eq-eqb _ _ (s .if1 .left)) (ends _ _))
-    (c .issues .ensures ∙ ap (λ (l : List ℕ). saidOf (issues l)) (listed (s .before .before .args .reply .now) 10 (s .if1 .left)))
+    (c .issues .ensures ∙ ap (λ (l : List ℕ). saidOf (issues l))
+    (listed (s .before .before .args .reply .now) 10 (s .if1 .left)))
 
 pub iam1-spec : {M : Type 1} → statement M
 iam1-spec =

@@ -37,8 +37,10 @@ refused-requires-2 c κs = search needs
 returns-2 : tie.Need-returns-2
 unfolding mam1Finding
 returns-2 c = let b = c .before .before .before in
-    let fact = block-told (b .mam1-constant .ensures) refl (b .before .opened-block .ensures) (c .before .before .block-fits .ensures) in
-    told (passes _ _ _ _ (eq-eqb _ _ (b .before .before .before .if1 .left)) (fails _ _ _ _ (no fact (c .before .if2 .taken)))) (c .refused2 .ensures)
+    let fact = block-told (b .mam1-constant .ensures) refl (b .before .opened-block .ensures)
+    (c .before .before .block-fits .ensures) in
+    told (passes _ _ _ _ (eq-eqb _ _ (b .before .before .before .if1 .left))
+    (fails _ _ _ _ (no fact (c .before .if2 .taken)))) (c .refused2 .ensures)
 
 challenge-in-requires : tie.Need-challenge-in-requires
 challenge-in-requires c κs = search needs
@@ -50,10 +52,13 @@ returns-3 : tie.Need-returns-3
 unfolding mam1Finding
 returns-3 c = let b = c .before .before .before .before in
     let l = b .before .before .before in
-    let fact = block-told (b .mam1-constant .ensures) refl (b .before .opened-block .ensures) (c .before .before .before .block-fits .ensures) in
-    told (passes _ _ _ _ (eq-eqb _ _ (l .if1 .left)) (passes _ _ _ _ (yes fact (c .before .before .if2 .left)) (ends _ _)))
+    let fact = block-told (b .mam1-constant .ensures) refl (b .before .opened-block .ensures)
+    (c .before .before .before .block-fits .ensures) in
+    told (passes _ _ _ _ (eq-eqb _ _ (l .if1 .left))
+    (passes _ _ _ _ (yes fact (c .before .before .if2 .left)) (ends _ _)))
     (c .issues .ensures
-    ∙ ap (λ (d : List ℕ). saidOf (issues d)) (c .before .challenge-in .ensures ∙ ap (λ (d : List ℕ). challengeIn d (l .before .before .args .reply .now)) (b .before .opened-block .ensures)))
+    ∙ ap (λ (d : List ℕ). saidOf (issues d)) (c .before .challenge-in .ensures
+    ∙ ap (λ (d : List ℕ). challengeIn d (l .before .before .args .reply .now)) (b .before .opened-block .ensures)))
 
 pub mam1-spec : {M : Type 1} → statement M
 mam1-spec =

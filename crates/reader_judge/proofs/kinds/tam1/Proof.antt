@@ -32,8 +32,10 @@ refused-requires-2 c κs = search needs
 returns-2 : tie.Need-returns-2
 unfolding tam1Finding
 returns-2 c = let b = c .before .before .before in
-    let fact = block-told (b .before .tam1-constant .ensures) refl (b .opened-block .ensures) (c .before .before .block-fits .ensures) in
-    told (passes _ _ _ _ (eq-eqb _ _ (b .before .before .before .if1 .left)) (fails _ _ _ _ (no fact (c .before .if2 .taken)))) (c .refused2 .ensures)
+    let fact = block-told (b .before .tam1-constant .ensures) refl (b .opened-block .ensures)
+    (c .before .before .block-fits .ensures) in
+    told (passes _ _ _ _ (eq-eqb _ _ (b .before .before .before .if1 .left))
+    (fails _ _ _ _ (no fact (c .before .if2 .taken)))) (c .refused2 .ensures)
 
 silent-requires : tie.Need-silent-requires
 silent-requires c κs = search needs
@@ -41,8 +43,10 @@ silent-requires c κs = search needs
 returns-3 : tie.Need-returns-3
 unfolding tam1Finding
 returns-3 c = let b = c .before .before .before in
-    let fact = block-told (b .before .tam1-constant .ensures) refl (b .opened-block .ensures) (c .before .before .block-fits .ensures) in
-    told (passes _ _ _ _ (eq-eqb _ _ (b .before .before .before .if1 .left)) (passes _ _ _ _ (yes fact (c .before .if2 .left)) (ends _ _))) (c .silent .ensures)
+    let fact = block-told (b .before .tam1-constant .ensures) refl (b .opened-block .ensures)
+    (c .before .before .block-fits .ensures) in
+    told (passes _ _ _ _ (eq-eqb _ _ (b .before .before .before .if1 .left))
+    (passes _ _ _ _ (yes fact (c .before .if2 .left)) (ends _ _))) (c .silent .ensures)
 
 pub tam1-spec : {M : Type 1} → statement M
 tam1-spec =

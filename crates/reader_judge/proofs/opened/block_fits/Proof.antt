@@ -13,7 +13,8 @@ array-share-prefix-b : tie.Need-array-share-prefix-b
 array-share-prefix-b c = search needs
 
 slice-aggregate-same : tie.Need-slice-aggregate-same
-slice-aggregate-same c = sym (length-take-le 2 (c .before .args .t3) (omega (arith, array-length 16 (c .before .args .t3) _ (c .before .good .1 .1 .0))))
+slice-aggregate-same c = sym (length-take-le 2 (c .before .args .t3)
+    (omega (arith, array-length 16 (c .before .args .t3) _ (c .before .good .1 .1 .0))))
 
 slice-aggregate-same-2 : tie.Need-slice-aggregate-same-2
 slice-aggregate-same-2 c = search needs

@@ -16,7 +16,8 @@ tam2-mac-at-requires c κs = search needs
 
 slice-aggregate-mac-fits : tie.Need-slice-aggregate-mac-fits
 slice-aggregate-mac-fits c = let s = c .before .before .before .before .before in
-    sym (length-take-le (c .before .before .tam2-mac-at .result) (s .args .reply .now) (omega (arith, c .before .before .tam2-mac-at .ensures, s .pre)))
+    sym (length-take-le (c .before .before .tam2-mac-at .result) (s .args .reply .now)
+    (omega (arith, c .before .before .tam2-mac-at .ensures, s .pre)))
 
 sub-mac-fits : tie.Need-sub-mac-fits
 sub-mac-fits c = search needs
@@ -35,7 +36,8 @@ returns c = let p = c .before .before .before .before in
     let a = p .before .before .before .args in
     let reply = a .reply .now in
     c .mac-fits .ensures
-    ∙ ap₂ (λ (x y : List ℕ). macFits (a .keys .mackey) (a .f .protmode) x y) (ap (λ (k : ℕ). take k reply) (p .tam2-mac-at .ensures))
+    ∙ ap₂ (λ (x y : List ℕ). macFits (a .keys .mackey) (a .f .protmode) x y)
+    (ap (λ (k : ℕ). take k reply) (p .tam2-mac-at .ensures))
     (rest-sent reply (p .tam2-mac-at .result) ∙ ap (λ (k : ℕ). drop k reply) (p .tam2-mac-at .ensures))
 
 pub mac-fits-spec : {M : Type 1} → statement M

@@ -16,7 +16,8 @@ decrypt-requires c κs = search needs
 returns : tie.Need-returns
 unfolding openedBlock
 returns c = let s = c .before .before .before .before in
-    c .decrypt .ensures ∙ ap (aesDec (s .args .keys .enc)) (c .before .first-block .ensures ∙ first-block-is (s .args .reply .now) (s .pre))
+    c .decrypt .ensures ∙ ap (aesDec (s .args .keys .enc))
+    (c .before .first-block .ensures ∙ first-block-is (s .args .reply .now) (s .pre))
 
 pub opened-block-spec : {M : Type 1} → statement M
 opened-block-spec = tie.close (tie.spec first-block-requires decrypt-requires returns)

@@ -20,7 +20,8 @@ refused-requires c κs = search needs
 
 returns : tie.Need-returns
 unfolding dataFinding
-returns c = judges-as (fails _ _ _ _ (no (c .before .before .header-fits .ensures) (c .before .if1 .taken))) (quiet (refused _) _ _ refl (c .refused .ensures))
+returns c = judges-as (fails _ _ _ _ (no (c .before .before .header-fits .ensures) (c .before .if1 .taken)))
+    (quiet (refused _) _ _ refl (c .refused .ensures))
 
 filler-fits-requires : tie.Need-filler-fits-requires
 filler-fits-requires c κs = search needs
@@ -31,7 +32,8 @@ refused-requires-2 c κs = search needs
 returns-2 : tie.Need-returns-2
 unfolding dataFinding
 returns-2 c = let t = c .before .before .before in
-    judges-as (passes _ _ _ _ (yes (t .before .header-fits .ensures) (t .if1 .left)) (fails _ _ _ _ (no (c .before .before .filler-fits .ensures) (c .before .if2 .taken))))
+    judges-as (passes _ _ _ _ (yes (t .before .header-fits .ensures) (t .if1 .left))
+    (fails _ _ _ _ (no (c .before .before .filler-fits .ensures) (c .before .if2 .taken))))
     (quiet (refused _) _ _ refl (c .refused2 .ensures))
 
 words-in-requires : tie.Need-words-in-requires
@@ -39,7 +41,12 @@ words-in-requires c κs = search needs
 
 copy-requires : tie.Need-copy-requires
 copy-requires c κs = let s = c .before .before .before .before .before .before .before .before .before in
-    omega (arith, ap length (c .before .words-in .ensures), words-most (s .args .f .rev) (s .args .f .custom) (s .args .p .now) (s .pre .0))
+    omega (
+      arith,
+      ap length (c .before .words-in .ensures),
+      words-most (s .args .f .rev) (s .args .f .custom)
+          (s .args .p .now) (s .pre .0),
+    )
 
 carries-requires : tie.Need-carries-requires
 carries-requires c κs = search needs

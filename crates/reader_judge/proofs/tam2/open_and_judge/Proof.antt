@@ -15,17 +15,20 @@ slice-aggregate-open-data : tie.Need-slice-aggregate-open-data
 slice-aggregate-open-data c = search needs
 
 open-data-requires : tie.Need-open-data-requires
-open-data-requires c κs = let s = c .before .before .before in (s .pre .1, blocks-fit (s .args .f .rev) (s .args .f .custom) (s .pre .0))
+open-data-requires c κs = let s = c .before .before .before in
+    (s .pre .1, blocks-fit (s .args .f .rev) (s .args .f .custom) (s .pre .0))
 
 blocks-length-requires : tie.Need-blocks-length-requires
 blocks-length-requires c κs = search needs
 
 array-share-prefix-clear : tie.Need-array-share-prefix-clear
-array-share-prefix-clear c = let s = c .before .before .before .before .before .before .before in omega (arith, c .blocks-length .ensures, blocks-fit (s .args .f .rev) (s .args .f .custom) (s .pre .0))
+array-share-prefix-clear c = let s = c .before .before .before .before .before .before .before in
+    omega (arith, c .blocks-length .ensures, blocks-fit (s .args .f .rev) (s .args .f .custom) (s .pre .0))
 
 slice-aggregate-judge-data : tie.Need-slice-aggregate-judge-data
 slice-aggregate-judge-data c = let s = c .before .before .before .before .before .before .before .before in
-    sym (length-take-le (c .before .blocks-length .result) (c .before .before .before .before .open-data .last .1 .1 .1 .0)
+    sym (length-take-le (c .before .blocks-length .result)
+    (c .before .before .before .before .open-data .last .1 .1 .1 .0)
     (omega (arith, c .before .blocks-length .ensures, blocks-fit (s .args .f .rev) (s .args .f .custom) (s .pre .0))))
 
 judge-data-requires : tie.Need-judge-data-requires
@@ -38,7 +41,8 @@ returns : tie.Need-returns
 returns c = let b = c .before .before .before .before .before in
     let o = b .before .before .before in
     let s = o .before .before .before .before in
-    judges-as (ap (dataFinding (s .args .f)) (opened-front (s .args .keys) (s .args .f) (s .args .reply .now) (s .pre .1) (b .blocks-length .result)
+    judges-as (ap (dataFinding (s .args .f)) (opened-front (s .args .keys) (s .args .f) (s .args .reply .now)
+    (s .pre .1) (b .blocks-length .result)
     (replicate 144 0) (o .open-data .last .1 .1 .1 .0) (b .blocks-length .ensures) (o .open-data .ensures)))
     (c .before .before .judge-data .ensures)
 

@@ -21,7 +21,9 @@ refused-requires c κs = search needs
 
 returns : tie.Need-returns
 unfolding tam2Finding
-returns c = judges-as (fails _ _ _ _ (ne-eqb _ _ (λ e. c .before .if1 .taken (e ∙ sym (c .before .before .tam2-reply-length .ensures))))) (quiet (refused _) _ _ refl (c .refused .ensures))
+returns c = judges-as (fails _ _ _ _ (ne-eqb _ _
+    (λ e. c .before .if1 .taken (e ∙ sym (c .before .before .tam2-reply-length .ensures)))))
+    (quiet (refused _) _ _ refl (c .refused .ensures))
 
 tam2-constant-requires : tie.Need-tam2-constant-requires
 tam2-constant-requires c κs = search needs
@@ -29,7 +31,11 @@ tam2-constant-requires c κs = search needs
 opened-block-requires : tie.Need-opened-block-requires
 opened-block-requires c κs = let l = c .before .before in
     let f = l .before .before .before .before .before .args .f in
-    omega (arith, data-place (f .custom .blocksize) (f .rev) (f .custom .blockcount) (f .protmode) _ (l .if1 .left ∙ l .before .tam2-reply-length .ensures))
+    omega (
+      arith,
+      data-place (f .custom .blocksize) (f .rev) (f .custom .blockcount) (f .protmode) _
+          (l .if1 .left ∙ l .before .tam2-reply-length .ensures),
+    )
 
 block-fits-requires : tie.Need-block-fits-requires
 block-fits-requires c κs = search needs
@@ -41,13 +47,16 @@ returns-2 : tie.Need-returns-2
 unfolding tam2Finding
 returns-2 c = let b = c .before .before .before in
     let l = b .before .before .before in
-    let fact = block-told (b .before .tam2-constant .ensures) refl (b .opened-block .ensures) (c .before .before .block-fits .ensures) in
-    judges-as (passes _ _ _ _ (eq-eqb _ _ (l .if1 .left ∙ l .before .tam2-reply-length .ensures)) (fails _ _ _ _ (no fact (c .before .if2 .taken)))) (quiet (refused _) _ _ refl (c .refused2 .ensures))
+    let fact = block-told (b .before .tam2-constant .ensures) refl (b .opened-block .ensures)
+    (c .before .before .block-fits .ensures) in
+    judges-as (passes _ _ _ _ (eq-eqb _ _ (l .if1 .left ∙ l .before .tam2-reply-length .ensures))
+    (fails _ _ _ _ (no fact (c .before .if2 .taken)))) (quiet (refused _) _ _ refl (c .refused2 .ensures))
 
 mac-fits-requires : tie.Need-mac-fits-requires
 mac-fits-requires c κs = let l = c .before .before .before .before .before in
     let f = l .before .before .before .before .before .args .f in
-    mac-place (f .custom .blocksize) (f .rev) (f .custom .blockcount) (f .protmode) _ (l .if1 .left ∙ l .before .tam2-reply-length .ensures)
+    mac-place (f .custom .blocksize) (f .rev) (f .custom .blockcount) (f .protmode) _
+    (l .if1 .left ∙ l .before .tam2-reply-length .ensures)
 
 refused-requires-3 : tie.Need-refused-requires-3
 refused-requires-3 c κs = search needs
@@ -57,17 +66,23 @@ unfolding tam2Finding
 returns-3 c = let i = c .before .before .before in
     let b = i .before .before in
     let l = b .before .before .before in
-    let fact = block-told (b .before .tam2-constant .ensures) refl (b .opened-block .ensures) (i .before .block-fits .ensures) in
+    let fact = block-told (b .before .tam2-constant .ensures) refl (b .opened-block .ensures)
+    (i .before .block-fits .ensures) in
     judges-as
     (passes _ _ _ _ (eq-eqb _ _ (l .if1 .left ∙ l .before .tam2-reply-length .ensures))
-    (passes _ _ _ _ (yes fact (i .if2 .left)) (fails _ _ _ _ (no (c .before .before .mac-fits .ensures) (c .before .if3 .taken)))))
+    (passes _ _ _ _ (yes fact (i .if2 .left))
+    (fails _ _ _ _ (no (c .before .before .mac-fits .ensures) (c .before .if3 .taken)))))
     (quiet (refused _) _ _ refl (c .refused3 .ensures))
 
 open-and-judge-requires : tie.Need-open-and-judge-requires
 open-and-judge-requires c κs = let l = c .before .before .before .before .before .before .before .before in
     let s = l .before .before .before .before .before in
-    let f = s .args .f in
-    (s .pre .0, data-place (f .custom .blocksize) (f .rev) (f .custom .blockcount) (f .protmode) _ (l .if1 .left ∙ l .before .tam2-reply-length .ensures), s .pre .1)
+    let f = s .args .f in (
+      s .pre .0,
+      data-place (f .custom .blocksize) (f .rev) (f .custom .blockcount) (f .protmode) _
+          (l .if1 .left ∙ l .before .tam2-reply-length .ensures),
+      s .pre .1,
+    )
 
 same-length : tie.Need-same-length
 same-length c = search needs
@@ -78,10 +93,12 @@ returns-4 c = let k = c .before .before .before .before in
     let i = k .before .before in
     let b = i .before .before in
     let l = b .before .before .before in
-    let fact = block-told (b .before .tam2-constant .ensures) refl (b .opened-block .ensures) (i .before .block-fits .ensures) in
+    let fact = block-told (b .before .tam2-constant .ensures) refl (b .opened-block .ensures)
+    (i .before .block-fits .ensures) in
     judges-as
     (passes _ _ _ _ (eq-eqb _ _ (l .if1 .left ∙ l .before .tam2-reply-length .ensures))
-    (passes _ _ _ _ (yes fact (i .if2 .left)) (passes _ _ _ _ (yes (k .before .mac-fits .ensures) (k .if3 .left)) (ends _ _))))
+    (passes _ _ _ _ (yes fact (i .if2 .left))
+    (passes _ _ _ _ (yes (k .before .mac-fits .ensures) (k .if3 .left)) (ends _ _))))
     (c .before .before .open-and-judge .ensures)
 
 pub tam2-spec : {M : Type 1} → statement M
