@@ -37,7 +37,8 @@ module _ (s : List ℕ) (h : Bytes s) where
 
   pub mix-block : Block (mixColumns s)
   unfolding mixColumns mixedByte
-  mix-block = block-of (λ i. mixedByte s (i % 4) (i / 4)) (λ i. byte-xor (byte-xor (times2-byte _ (h _)) (times3-byte _ (h _))) (byte-xor (h _) (h _)))
+  mix-block = block-of (λ i. mixedByte s (i % 4) (i / 4))
+      (λ i. byte-xor (byte-xor (times2-byte _ (h _)) (times3-byte _ (h _))) (byte-xor (h _) (h _)))
 
 -- ---- the round keys
 
@@ -61,7 +62,8 @@ rcon-bytes j (suc (suc (suc (suc i)))) = lit< tt
 turned-bytes : (b : Bool) (j : ℕ) (t : List ℕ) → Bytes t → Bytes (turned b j t)
 turned-bytes true j t h =
     tabulated-bytes (λ i. bitXor (getD (subWord (rotWord t)) i 0) (getD (rcon j) i 0))
-    (λ i. byte-xor (tabulated-bytes (λ k. sbox (getD (rotWord t) k 0)) (λ k. sbox-byte _ (tabulated-bytes (λ m. getD t ((m + 1) % 4) 0) (λ m. h _) 4 k)) 4 i) (rcon-bytes j i)) 4
+    (λ i. byte-xor (tabulated-bytes (λ k. sbox (getD (rotWord t) k 0))
+    (λ k. sbox-byte _ (tabulated-bytes (λ m. getD t ((m + 1) % 4) 0) (λ m. h _) 4 k)) 4 i) (rcon-bytes j i)) 4
 turned-bytes false j t h = h
 
 w-bytes : (key : List ℕ) → Bytes key → (i : ℕ) → Bytes (w key i)
@@ -73,11 +75,13 @@ w-bytes key h (suc (suc (suc zero))) = tabulated-bytes (λ i. getD key (12 + i) 
 w-bytes key h (suc (suc (suc (suc i)))) =
     let t = turned (eqb ((4 + i) % 4) 0) ((4 + i) / 4) (w key (suc (suc (suc i)))) in
     tabulated-bytes (λ k. bitXor (getD (w key i) k 0) (getD t k 0))
-    (λ k. byte-xor (w-bytes key h i k) (turned-bytes (eqb ((4 + i) % 4) 0) ((4 + i) / 4) (w key (suc (suc (suc i)))) (w-bytes key h (suc (suc (suc i)))) k)) 4
+    (λ k. byte-xor (w-bytes key h i k) (turned-bytes (eqb ((4 + i) % 4) 0) ((4 + i) / 4) (w key (suc (suc (suc i))))
+    (w-bytes key h (suc (suc (suc i)))) k)) 4
 
 roundKey-bytes : (key : List ℕ) → Bytes key → (n : ℕ) → Bytes (roundKey key n)
 unfolding roundKey
-roundKey-bytes key h n = block-of (λ i. getD (w key (4 * n + i / 4)) (i % 4) 0) (λ i. w-bytes key h (4 * n + i / 4) (i % 4)) .bytes
+roundKey-bytes key h n = block-of (λ i. getD (w key (4 * n + i / 4)) (i % 4) 0)
+    (λ i. w-bytes key h (4 * n + i / 4) (i % 4)) .bytes
 
 keys-from : (key : List ℕ) → Bytes key → (n j i : ℕ) → Bytes (getD (tabulatedFrom (roundKey key) j n) i [])
 keys-from key h zero j i = λ k. zero-lt-suc 255
@@ -98,13 +102,15 @@ module _ (k : List (List ℕ)) (hk : Keys k) where
       let t = rounds k s n in
       let sub = sub-block t (rounds-block s b n .bytes) in
       let shift = shift-block (subBytes t) (sub .bytes) in
-      xor-is-block (mixColumns (shiftRows (subBytes t))) (getD k (suc n) []) (mix-block (shiftRows (subBytes t)) (shift .bytes) .bytes) (hk (suc n))
+      xor-is-block (mixColumns (shiftRows (subBytes t))) (getD k (suc n) [])
+      (mix-block (shiftRows (subBytes t)) (shift .bytes) .bytes) (hk (suc n))
 
   pub cipher-block : (s : List ℕ) → Block s → Block (cipher k s)
   unfolding cipher
   cipher-block s b =
       let t = rounds k (xor s (getD k 0 [])) 9 in
-      let sub = sub-block t (rounds-block (xor s (getD k 0 [])) (xor-is-block s (getD k 0 []) (b .bytes) (hk 0)) 9 .bytes) in
+      let sub = sub-block t (rounds-block (xor s (getD k 0 []))
+      (xor-is-block s (getD k 0 []) (b .bytes) (hk 0)) 9 .bytes) in
       xor-is-block (shiftRows (subBytes t)) (getD k 10 []) (shift-block (subBytes t) (sub .bytes) .bytes) (hk 10)
 
 pub enc-block : (key s : List ℕ) → Bytes key → Block s → Block (aesEnc key s)

@@ -10,7 +10,8 @@ use Rattle.aes.specs.KeyExpansion.{word, xorWord, turned, roundConstant,
 use Rattle.aes.specs.NextRoundKey.{columns, nextRoundKey}
 
 -- word i + 4, where i is j words into the four of round n
-step : (key : List ℕ) (n j i m r : ℕ) → i ≡ suc (suc (suc (suc j))) → (4 + j) % 4 ≡ r → (4 + j) / 4 ≡ suc n → m ≡ suc (suc (suc j))
+step : (key : List ℕ) (n j i m r : ℕ) → i ≡ suc (suc (suc (suc j))) → (4 + j) % 4 ≡ r → (4 + j) / 4 ≡ suc n
+    → m ≡ suc (suc (suc j))
     → w key i ≡ xorWord (w key j) (turned (eqb r 0) (suc n) (w key m))
 unfolding w
 step key n j i m r e f g h =
@@ -18,15 +19,21 @@ step key n j i m r e f g h =
 
 -- the sixteen bytes of four words
 abbrev fourWords : List ℕ → List ℕ → List ℕ → List ℕ → List ℕ
-fourWords a b c d = columns (word (λ i. getD a i 0)) (word (λ i. getD b i 0)) (word (λ i. getD c i 0)) (word (λ i. getD d i 0))
+fourWords a b c d = columns (word (λ i. getD a i 0)) (word (λ i. getD b i 0)) (word (λ i. getD c i 0))
+    (word (λ i. getD d i 0))
 
-pub next-round-key : (key : List ℕ) (n : ℕ) → roundKey key (suc n) ≡ nextRoundKey (roundConstant (suc n)) (roundKey key n)
+pub next-round-key : (key : List ℕ) (n : ℕ) → roundKey key (suc n) ≡ nextRoundKey (roundConstant (suc n))
+    (roundKey key n)
 unfolding roundKey nextRoundKey
 next-round-key key n =
-    let e0 = step key n (4 * n + 0) (4 * suc n + 0) (4 * n + 3) 0 (omega arith) (omega arith) (omega arith) (omega arith) in
-    let e1 = step key n (4 * n + 1) (4 * suc n + 1) (4 * suc n + 0) 1 (omega arith) (omega arith) (omega arith) (omega arith) ∙ ap (xorWord (w key (4 * n + 1))) e0 in
-    let e2 = step key n (4 * n + 2) (4 * suc n + 2) (4 * suc n + 1) 2 (omega arith) (omega arith) (omega arith) (omega arith) ∙ ap (xorWord (w key (4 * n + 2))) e1 in
-    let e3 = step key n (4 * n + 3) (4 * suc n + 3) (4 * suc n + 2) 3 (omega arith) (omega arith) (omega arith) (omega arith) ∙ ap (xorWord (w key (4 * n + 3))) e2 in
+    let e0 = step key n (4 * n + 0) (4 * suc n + 0) (4 * n + 3) 0 (omega arith) (omega arith) (omega arith)
+    (omega arith) in
+    let e1 = step key n (4 * n + 1) (4 * suc n + 1) (4 * suc n + 0) 1 (omega arith) (omega arith) (omega arith)
+    (omega arith) ∙ ap (xorWord (w key (4 * n + 1))) e0 in
+    let e2 = step key n (4 * n + 2) (4 * suc n + 2) (4 * suc n + 1) 2 (omega arith) (omega arith) (omega arith)
+    (omega arith) ∙ ap (xorWord (w key (4 * n + 2))) e1 in
+    let e3 = step key n (4 * n + 3) (4 * suc n + 3) (4 * suc n + 2) 3 (omega arith) (omega arith) (omega arith)
+    (omega arith) ∙ ap (xorWord (w key (4 * n + 3))) e2 in
     λ k. fourWords (e0 k) (e1 k) (e2 k) (e3 k)
 
 pub first-round-key : (key : List ℕ) → length key ≡ 16 → roundKey key 0 ≡ key

@@ -35,7 +35,8 @@ firstOnly c = c ∷ 0 ∷ 0 ∷ 0 ∷ []
 abbrev pub rcon : ℕ → List ℕ
 rcon j = firstOnly (roundConstant j)
 
--- What is added to w[i - 4]: w[i - 1], and at each fourth word that word turned, substituted and with Rcon[i / 4] added.
+-- What is added to w[i - 4]: w[i - 1], and at each fourth word that word turned, substituted and with Rcon[i / 4]
+-- added.
 abbrev pub turned : Bool → ℕ → List ℕ → List ℕ
 turned true j t = xorWord (subWord (rotWord t)) (rcon j)
 turned false j t = t
@@ -46,7 +47,8 @@ w key zero = word (λ i. getD key i 0)
 w key (suc zero) = word (λ i. getD key (4 + i) 0)
 w key (suc (suc zero)) = word (λ i. getD key (8 + i) 0)
 w key (suc (suc (suc zero))) = word (λ i. getD key (12 + i) 0)
-w key (suc (suc (suc (suc i)))) = xorWord (w key i) (turned (eqb ((4 + i) % 4) 0) ((4 + i) / 4) (w key (suc (suc (suc i)))))
+w key (suc (suc (suc (suc i)))) = xorWord (w key i)
+    (turned (eqb ((4 + i) % 4) 0) ((4 + i) / 4) (w key (suc (suc (suc i)))))
 
 -- The round key of round n: w[4n] to w[4n + 3], each a column.
 unfoldable pub roundKey : List ℕ → ℕ → List ℕ

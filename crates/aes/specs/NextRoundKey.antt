@@ -1,4 +1,5 @@
--- Four words of KeyExpansion at once, as the code makes them: a round key from the one before it. `proofs/Schedule.antt` shows that the round keys of FIPS 197,
+-- Four words of KeyExpansion at once, as the code makes them: a round key from the one before it.
+-- `proofs/Schedule.antt` shows that the round keys of FIPS 197,
 -- section 5.2, follow one another so.
 use Prim.Native.Nat.{ℕ, _+_}
 use mathlib.Core.List.{List, _++_}

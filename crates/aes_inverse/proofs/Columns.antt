@@ -1,4 +1,5 @@
--- The maps of one column, of four bytes. Each is additive in the four together, so two are equal where they agree on each byte by itself,
+-- The maps of one column, of four bytes. Each is additive in the four together, so two are equal where they agree on
+-- each byte by itself,
 -- and there they agree where they agree at the eight bits.
 use mathlib.Core.Path.{_≡_, refl, sym, ap, ap₂, _∙_}
 use Prim.Native.Nat.{ℕ, _^_, _<_}
@@ -15,18 +16,23 @@ abbrev pub Column : Type 0
 Column = ℕ → ℕ → ℕ → ℕ → ℕ
 
 abbrev pub Additive : Column → Type 0
-Additive F = (a b c d a′ b′ c′ d′ : ℕ) → F (bitXor a a′) (bitXor b b′) (bitXor c c′) (bitXor d d′) ≡ bitXor (F a b c d) (F a′ b′ c′ d′)
+Additive F = (a b c d a′ b′ c′ d′ : ℕ) → F (bitXor a a′) (bitXor b b′) (bitXor c c′) (bitXor d d′) ≡ bitXor (F a b c d)
+    (F a′ b′ c′ d′)
 
 sum-additive : (F G : Column) → Additive F → Additive G → Additive (λ a b c d. bitXor (F a b c d) (G a b c d))
 sum-additive F G f g a b c d a′ b′ c′ d′ =
-    ap₂ bitXor (f a b c d a′ b′ c′ d′) (g a b c d a′ b′ c′ d′) ∙ xor-swap (F a b c d) (F a′ b′ c′ d′) (G a b c d) (G a′ b′ c′ d′)
+    ap₂ bitXor (f a b c d a′ b′ c′ d′) (g a b c d a′ b′ c′ d′)
+    ∙ xor-swap (F a b c d) (F a′ b′ c′ d′) (G a b c d) (G a′ b′ c′ d′)
 
 times-additive : (k : ℕ) (F : Column) → Additive F → Additive (λ a b c d. times k (F a b c d))
-times-additive k F f a b c d a′ b′ c′ d′ = ap (times k) (f a b c d a′ b′ c′ d′) ∙ times-linear k (F a b c d) (F a′ b′ c′ d′)
+times-additive k F f a b c d a′ b′ c′ d′ = ap (times k) (f a b c d a′ b′ c′ d′)
+    ∙ times-linear k (F a b c d) (F a′ b′ c′ d′)
 
-sum4-additive : (F G H K : Column) → Additive F → Additive G → Additive H → Additive K → Additive (λ a b c d. bitXor (bitXor (F a b c d) (G a b c d)) (bitXor (H a b c d) (K a b c d)))
+sum4-additive : (F G H K : Column) → Additive F → Additive G → Additive H → Additive K
+    → Additive (λ a b c d. bitXor (bitXor (F a b c d) (G a b c d)) (bitXor (H a b c d) (K a b c d)))
 sum4-additive F G H K f g h k =
-    sum-additive (λ a b c d. bitXor (F a b c d) (G a b c d)) (λ a b c d. bitXor (H a b c d) (K a b c d)) (sum-additive F G f g) (sum-additive H K h k)
+    sum-additive (λ a b c d. bitXor (F a b c d) (G a b c d)) (λ a b c d. bitXor (H a b c d) (K a b c d))
+    (sum-additive F G f g) (sum-additive H K h k)
 
 module _ (F : Column) (f : Additive F) where
   on-axes : (a b c d : ℕ) → F a b c d ≡ bitXor (F a 0 0 0) (bitXor (F 0 b 0 0) (bitXor (F 0 0 c 0) (F 0 0 0 d)))
@@ -44,19 +50,24 @@ module _ (F G : Column) (f : Additive F) (g : Additive G) where
       → (a b c d : ℕ) → a < 256 → b < 256 → c < 256 → d < 256 → F a b c d ≡ G a b c d
   column-same e₁ e₂ e₃ e₄ a b c d ha hb hc hd =
       on-axes F f a b c d
-      ∙ ap₂ bitXor (linear-same (λ x. F x 0 0 0) (λ x. G x 0 0 0) (λ x y. f x 0 0 0 y 0 0 0) (λ x y. g x 0 0 0 y 0 0 0) e₁ a ha)
-      (ap₂ bitXor (linear-same (λ x. F 0 x 0 0) (λ x. G 0 x 0 0) (λ x y. f 0 x 0 0 0 y 0 0) (λ x y. g 0 x 0 0 0 y 0 0) e₂ b hb)
-      (ap₂ bitXor (linear-same (λ x. F 0 0 x 0) (λ x. G 0 0 x 0) (λ x y. f 0 0 x 0 0 0 y 0) (λ x y. g 0 0 x 0 0 0 y 0) e₃ c hc)
+      ∙ ap₂ bitXor (linear-same (λ x. F x 0 0 0) (λ x. G x 0 0 0) (λ x y. f x 0 0 0 y 0 0 0)
+      (λ x y. g x 0 0 0 y 0 0 0) e₁ a ha)
+      (ap₂ bitXor (linear-same (λ x. F 0 x 0 0) (λ x. G 0 x 0 0) (λ x y. f 0 x 0 0 0 y 0 0)
+      (λ x y. g 0 x 0 0 0 y 0 0) e₂ b hb)
+      (ap₂ bitXor (linear-same (λ x. F 0 0 x 0) (λ x. G 0 0 x 0) (λ x y. f 0 0 x 0 0 0 y 0)
+      (λ x y. g 0 0 x 0 0 0 y 0) e₃ c hc)
       (linear-same (λ x. F 0 0 0 x) (λ x. G 0 0 0 x) (λ x y. f 0 0 0 x 0 0 0 y) (λ x y. g 0 0 0 x 0 0 0 y) e₄ d hd)))
       ∙ sym (on-axes G g a b c d)
 
 module _ (A B C D : Column) (ha : Additive A) (hb : Additive B) (hc : Additive C) (hd : Additive D) where
   mixed-additive : Additive (λ a b c d. mixed (A a b c d) (B a b c d) (C a b c d) (D a b c d))
-  mixed-additive = sum4-additive (λ a b c d. times 2 (A a b c d)) (λ a b c d. times 3 (B a b c d)) C D (times-additive 2 A ha) (times-additive 3 B hb) hc hd
+  mixed-additive = sum4-additive (λ a b c d. times 2 (A a b c d)) (λ a b c d. times 3 (B a b c d)) C D
+      (times-additive 2 A ha) (times-additive 3 B hb) hc hd
 
   unmixed-additive : Additive (λ a b c d. unmixed (A a b c d) (B a b c d) (C a b c d) (D a b c d))
   unmixed-additive =
-      sum4-additive (λ a b c d. times 0x0E (A a b c d)) (λ a b c d. times 0x0B (B a b c d)) (λ a b c d. times 0x0D (C a b c d)) (λ a b c d. times 0x09 (D a b c d))
+      sum4-additive (λ a b c d. times 0x0E (A a b c d)) (λ a b c d. times 0x0B (B a b c d))
+      (λ a b c d. times 0x0D (C a b c d)) (λ a b c d. times 0x09 (D a b c d))
       (times-additive 0x0E A ha) (times-additive 0x0B B hb) (times-additive 0x0D C hc) (times-additive 0x09 D hd)
 
 -- the four bytes of a column, from row 0, 1, 2 and 3 downwards
@@ -107,20 +118,25 @@ pub unmixed-mixed : (a b c d : ℕ) → a < 256 → b < 256 → c < 256 → d < 
 unfolding times remainder polynomialProduct
 unmixed-mixed =
     column-same (after unmixed mixed) row0
-    (unmixed-additive mixed (λ a b c d. mixed b c d a) (λ a b c d. mixed c d a b) (λ a b c d. mixed d a b c) M-additive (turn mixed M-additive) (turn2 mixed M-additive) (turn3 mixed M-additive))
+    (unmixed-additive mixed (λ a b c d. mixed b c d a) (λ a b c d. mixed c d a b) (λ a b c d. mixed d a b c) M-additive
+    (turn mixed M-additive) (turn2 mixed M-additive) (turn3 mixed M-additive))
     row0-additive refl refl refl refl
 
 pub mixed-unmixed : (a b c d : ℕ) → a < 256 → b < 256 → c < 256 → d < 256 → after mixed unmixed a b c d ≡ a
 unfolding times remainder polynomialProduct
 mixed-unmixed =
     column-same (after mixed unmixed) row0
-    (mixed-additive unmixed (λ a b c d. unmixed b c d a) (λ a b c d. unmixed c d a b) (λ a b c d. unmixed d a b c) U-additive (turn unmixed U-additive) (turn2 unmixed U-additive) (turn3 unmixed U-additive))
+    (mixed-additive unmixed (λ a b c d. unmixed b c d a) (λ a b c d. unmixed c d a b)
+    (λ a b c d. unmixed d a b c) U-additive (turn unmixed U-additive) (turn2 unmixed U-additive)
+    (turn3 unmixed U-additive))
     row0-additive refl refl refl refl
 
 -- four times the sum of two bytes
-times4-additive : (A B : Column) → Additive A → Additive B → Additive (λ a b c d. times 2 (times 2 (bitXor (A a b c d) (B a b c d))))
+times4-additive : (A B : Column) → Additive A → Additive B
+    → Additive (λ a b c d. times 2 (times 2 (bitXor (A a b c d) (B a b c d))))
 times4-additive A B ha hb =
-    times-additive 2 (λ a b c d. times 2 (bitXor (A a b c d) (B a b c d))) (times-additive 2 (λ a b c d. bitXor (A a b c d) (B a b c d)) (sum-additive A B ha hb))
+    times-additive 2 (λ a b c d. times 2 (bitXor (A a b c d) (B a b c d)))
+    (times-additive 2 (λ a b c d. bitXor (A a b c d) (B a b c d)) (sum-additive A B ha hb))
 
 -- InvMixColumns by way of MixColumns: 4(a + c) is added to a and c, and 4(b + d) to b and d
 abbrev even : Column
@@ -140,15 +156,21 @@ pub unmixed-by-mixed : (a b c d e o : ℕ) → a < 256 → b < 256 → c < 256 �
 unfolding times remainder polynomialProduct
 unmixed-by-mixed a b c d e o ha hb hc hd p q =
     (λ i. mixed (bitXor a (p i)) (bitXor b (q i)) (bitXor c (p i)) (bitXor d (q i)))
-    ∙ column-same (λ a b c d. mixed (bitXor a (even a b c d)) (bitXor b (odd a b c d)) (bitXor c (even a b c d)) (bitXor d (odd a b c d))) unmixed
-    (mixed-additive (λ a b c d. bitXor a (even a b c d)) (λ a b c d. bitXor b (odd a b c d)) (λ a b c d. bitXor c (even a b c d)) (λ a b c d. bitXor d (odd a b c d))
-    (sum-additive row0 even row0-additive even-additive) (sum-additive row1 odd row1-additive odd-additive) (sum-additive row2 even row2-additive even-additive) (sum-additive row3 odd row3-additive odd-additive))
+    ∙ column-same (λ a b c d. mixed (bitXor a (even a b c d)) (bitXor b (odd a b c d)) (bitXor c (even a b c d))
+    (bitXor d (odd a b c d))) unmixed
+    (mixed-additive (λ a b c d. bitXor a (even a b c d)) (λ a b c d. bitXor b (odd a b c d))
+    (λ a b c d. bitXor c (even a b c d)) (λ a b c d. bitXor d (odd a b c d))
+    (sum-additive row0 even row0-additive even-additive) (sum-additive row1 odd row1-additive odd-additive)
+    (sum-additive row2 even row2-additive even-additive) (sum-additive row3 odd row3-additive odd-additive))
     U-additive refl refl refl refl a b c d ha hb hc hd
 
 -- the four rows of a column, with the rest of the state below it
-pub unmixed-column : (a b c d e o : ℕ) (rest rest′ : List ℕ) → a < 256 → b < 256 → c < 256 → d < 256 → e ≡ even a b c d → o ≡ odd a b c d → rest ≡ rest′
-    → mixed (bitXor a e) (bitXor b o) (bitXor c e) (bitXor d o) ∷ mixed (bitXor b o) (bitXor c e) (bitXor d o) (bitXor a e)
-    ∷ mixed (bitXor c e) (bitXor d o) (bitXor a e) (bitXor b o) ∷ mixed (bitXor d o) (bitXor a e) (bitXor b o) (bitXor c e) ∷ rest
+pub unmixed-column : (a b c d e o : ℕ) (rest rest′ : List ℕ) → a < 256 → b < 256 → c < 256 → d < 256 → e ≡ even a b c d
+    → o ≡ odd a b c d → rest ≡ rest′
+    → mixed (bitXor a e) (bitXor b o) (bitXor c e) (bitXor d o)
+    ∷ mixed (bitXor b o) (bitXor c e) (bitXor d o) (bitXor a e)
+    ∷ mixed (bitXor c e) (bitXor d o) (bitXor a e) (bitXor b o)
+    ∷ mixed (bitXor d o) (bitXor a e) (bitXor b o) (bitXor c e) ∷ rest
     ≡ unmixed a b c d ∷ unmixed b c d a ∷ unmixed c d a b ∷ unmixed d a b c ∷ rest′
 unmixed-column a b c d e o rest rest′ ha hb hc hd p q below =
     let p′ : e ≡ even c d a b = p ∙ ap (λ (x : ℕ). times 2 (times 2 x)) (xor-comm a c) in

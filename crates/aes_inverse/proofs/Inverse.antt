@@ -11,7 +11,8 @@ use Rattle.aes.specs.AesEnc.{aesEnc}
 use Rattle.aes.proofs.Forward.{Keys, sub-block, shift-block, mix-block, rounds-block, expanded-bytes}
 use Rattle.aes_inverse.specs.InvCipher.{invSubBytes, invShiftRows, invMixColumns, invRounds, invCipher}
 use Rattle.aes_inverse.specs.AesDec.{aesDec}
-use Rattle.aes_inverse.proofs.Maps.{inv-sub-block, inv-shift-block, inv-mix-block, inv-sub-sub, sub-inv-sub, inv-shift-shift, shift-inv-shift, inv-mix-mix, mix-inv-mix}
+use Rattle.aes_inverse.proofs.Maps.{inv-sub-block, inv-shift-block, inv-mix-block, inv-sub-sub, sub-inv-sub}
+use Rattle.aes_inverse.proofs.Maps.{inv-shift-shift, shift-inv-shift, inv-mix-mix, mix-inv-mix}
 
 -- SubBytes and ShiftRows together, and back
 abbrev forth : List ℕ → List ℕ
@@ -40,7 +41,8 @@ module _ (w : List (List ℕ)) (hw : Keys w) where
   inv-rounds-block : (n : ℕ) (s : List ℕ) → Block s → Block (invRounds w n s)
   unfolding invRounds
   inv-rounds-block zero s b = b
-  inv-rounds-block (suc n) s b = inv-rounds-block n (invMixColumns (xor (back s) (getD w (suc n) []))) (inv-round-block s (getD w (suc n) []) b (hw (suc n)))
+  inv-rounds-block (suc n) s b = inv-rounds-block n (invMixColumns (xor (back s) (getD w (suc n) [])))
+      (inv-round-block s (getD w (suc n) []) b (hw (suc n)))
 
   -- the rounds of InvCipher take the state before the last round of Cipher back to its start
   inv-rounds-rounds : (n : ℕ) (s : List ℕ) → Block s → invRounds w n (forth (rounds w s n)) ≡ forth s
@@ -51,7 +53,8 @@ module _ (w : List (List ℕ)) (hw : Keys w) where
       let k = getD w (suc n) [] in
       let ht = forth-block t (rounds-block w hw s b n) in
       let hm = mix-block (forth t) (ht .bytes) in
-      ap (λ (x : List ℕ). invRounds w n (invMixColumns (xor x k))) (back-forth (xor (mixColumns (forth t)) k) (xor-is-block (mixColumns (forth t)) k (hm .bytes) (hw (suc n))))
+      ap (λ (x : List ℕ). invRounds w n (invMixColumns (xor x k)))
+      (back-forth (xor (mixColumns (forth t)) k) (xor-is-block (mixColumns (forth t)) k (hm .bytes) (hw (suc n))))
       ∙ ap (λ (x : List ℕ). invRounds w n (invMixColumns x)) (xor-undone (mixColumns (forth t)) k (hm .sixteen))
       ∙ ap (invRounds w n) (inv-mix-mix (forth t) ht)
       ∙ inv-rounds-rounds n s b
@@ -77,7 +80,8 @@ module _ (w : List (List ℕ)) (hw : Keys w) where
       let k10 = getD w 10 [] in
       let h0 = xor-is-block s k0 (b .bytes) (hw 0) in
       let t = rounds w (xor s k0) 9 in
-      ap (λ (x : List ℕ). xor (back (invRounds w 9 x)) k0) (xor-undone (forth t) k10 (forth-block t (rounds-block w hw (xor s k0) h0 9) .sixteen))
+      ap (λ (x : List ℕ). xor (back (invRounds w 9 x)) k0)
+      (xor-undone (forth t) k10 (forth-block t (rounds-block w hw (xor s k0) h0 9) .sixteen))
       ∙ ap (λ (x : List ℕ). xor (back x) k0) (inv-rounds-rounds 9 (xor s k0) h0)
       ∙ ap (λ (x : List ℕ). xor x k0) (back-forth (xor s k0) h0)
       ∙ xor-undone s k0 (b .sixteen)
@@ -89,7 +93,8 @@ module _ (w : List (List ℕ)) (hw : Keys w) where
       let k10 = getD w 10 [] in
       let h10 = xor-is-block s k10 (b .bytes) (hw 10) in
       let t = invRounds w 9 (xor s k10) in
-      ap (λ (x : List ℕ). xor (forth (rounds w x 9)) k10) (xor-undone (back t) k0 (back-block t (inv-rounds-block 9 (xor s k10) h10) .sixteen))
+      ap (λ (x : List ℕ). xor (forth (rounds w x 9)) k10)
+      (xor-undone (back t) k0 (back-block t (inv-rounds-block 9 (xor s k10) h10) .sixteen))
       ∙ ap (λ (x : List ℕ). xor (forth x) k10) (rounds-inv-rounds 9 (xor s k10) h10)
       ∙ ap (λ (x : List ℕ). xor x k10) (forth-back (xor s k10) h10)
       ∙ xor-undone s k10 (b .sixteen)
@@ -99,7 +104,8 @@ module _ (w : List (List ℕ)) (hw : Keys w) where
   inv-cipher-block s b =
       let k0 = getD w 0 [] in
       let t = invRounds w 9 (xor s (getD w 10 [])) in
-      xor-is-block (back t) k0 (back-block t (inv-rounds-block 9 (xor s (getD w 10 [])) (xor-is-block s (getD w 10 []) (b .bytes) (hw 10))) .bytes) (hw 0)
+      xor-is-block (back t) k0 (back-block t (inv-rounds-block 9 (xor s (getD w 10 []))
+      (xor-is-block s (getD w 10 []) (b .bytes) (hw 10))) .bytes) (hw 0)
 
 pub dec-block : (key s : List ℕ) → Bytes key → Block s → Block (aesDec key s)
 unfolding aesDec

@@ -1,11 +1,13 @@
 -- The inverse S-box undoes the S-box, and the S-box the inverse S-box, at every byte.
-use mathlib.Core.Path.{_≡_, refl, ap, _∙_}
+use mathlib.Core.Path.{_≡_, refl, sym, ap, _∙_}
 use Prim.Native.Nat.{ℕ, _/_, _<_}
 use native.Mathlib.Omega.{arith}
 use lib.ListN.{getD}
 use Rattle.field.specs.Field.{inverse}
 use Rattle.field.specs.Sbox.{sbox, sboxTable, affine, affineBit, bit, fromBits}
-use Rattle.field.proofs.Table.{same-at, entry-at}
+use Rattle.field.specs.Block.{tabulated}
+use Rattle.field.proofs.Table.{same-at, same-table, entry-at}
+use Rattle.field.proofs.Inverses.{inverses, inverse-is}
 use Rattle.field.proofs.Inverse.{inverse-byte, inverse-twice, sbox-byte, sbox-entry}
 use Rattle.aes_inverse.specs.InvSbox.{invAffine, invAffineBit, invSbox, invSboxTable}
 
@@ -28,6 +30,12 @@ pub invSbox-byte : (b : ℕ) → b < 256 → invSbox b < 256
 unfolding invSbox
 invSbox-byte b h = inverse-byte (invAffine b) (invAffine-byte b h)
 
+-- the whole table, from the inverses
+pub inverse-listed : tabulated (λ b. getD inverses (invAffine b) 0) 256 ≡ invSboxTable
+unfolding invSboxTable invSbox
+inverse-listed = same-table (λ b. getD inverses (invAffine b) 0) invSbox 256
+    (λ b h. sym (inverse-is (invAffine b) (invAffine-byte b h)))
+
 pub invSbox-sbox : (b : ℕ) → b < 256 → invSbox (sbox b) ≡ b
 unfolding invSbox sbox
 invSbox-sbox b h = ap inverse (invAffine-affine (inverse b) (inverse-byte b h)) ∙ inverse-twice b h
@@ -42,7 +50,9 @@ unfolding invSboxTable
 inverse-entry b h = entry-at 0 invSbox 256 b h
 
 pub tables-back : (b : ℕ) → b < 256 → getD invSboxTable (getD sboxTable b 0) 0 ≡ b
-tables-back b h = ap (λ (x : ℕ). getD invSboxTable x 0) (sbox-entry b h) ∙ inverse-entry (sbox b) (sbox-byte b h) ∙ invSbox-sbox b h
+tables-back b h = ap (λ (x : ℕ). getD invSboxTable x 0) (sbox-entry b h) ∙ inverse-entry (sbox b) (sbox-byte b h)
+    ∙ invSbox-sbox b h
 
 pub tables-forth : (b : ℕ) → b < 256 → getD sboxTable (getD invSboxTable b 0) 0 ≡ b
-tables-forth b h = ap (λ (x : ℕ). getD sboxTable x 0) (inverse-entry b h) ∙ sbox-entry (invSbox b) (invSbox-byte b h) ∙ sbox-invSbox b h
+tables-forth b h = ap (λ (x : ℕ). getD sboxTable x 0) (inverse-entry b h) ∙ sbox-entry (invSbox b) (invSbox-byte b h)
+    ∙ sbox-invSbox b h

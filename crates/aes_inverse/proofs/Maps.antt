@@ -1,4 +1,5 @@
--- What each map of InvCipher makes of bytes is a block of bytes; and each map of the one cipher is undone by that of the other.
+-- What each map of InvCipher makes of bytes is a block of bytes; and each map of the one cipher is undone by that of
+-- the other.
 use mathlib.Core.Path.{_≡_, refl, _∙_}
 use mathlib.Core.List.{List}
 use Prim.Native.Nat.{ℕ, _+_, _-_, _*_, _/_, _%_, _<_}
@@ -43,16 +44,20 @@ module _ (s : List ℕ) (h : Bytes s) where
   pub inv-mix-block : Block (invMixColumns s)
   unfolding invMixColumns unmixedByte
   inv-mix-block =
-      block-of (λ i. unmixedByte s (i % 4) (i / 4)) (λ i. byte-xor (byte-xor (timesE-byte _ (h _)) (timesB-byte _ (h _))) (byte-xor (timesD-byte _ (h _)) (times9-byte _ (h _))))
+      block-of (λ i. unmixedByte s (i % 4) (i / 4))
+      (λ i. byte-xor (byte-xor (timesE-byte _ (h _)) (timesB-byte _ (h _)))
+      (byte-xor (timesD-byte _ (h _)) (times9-byte _ (h _))))
 
 module _ (s : List ℕ) (b : Block s) where
   pub inv-sub-sub : invSubBytes (subBytes s) ≡ s
   unfolding invSubBytes subBytes
-  inv-sub-sub = block-same (λ i. invSbox (sbox (getD s i 0))) (λ i. getD s i 0) (λ i. invSbox-sbox (getD s i 0) (b .bytes i)) ∙ whole s (b .sixteen)
+  inv-sub-sub = block-same (λ i. invSbox (sbox (getD s i 0))) (λ i. getD s i 0)
+      (λ i. invSbox-sbox (getD s i 0) (b .bytes i)) ∙ whole s (b .sixteen)
 
   pub sub-inv-sub : subBytes (invSubBytes s) ≡ s
   unfolding invSubBytes subBytes
-  sub-inv-sub = block-same (λ i. sbox (invSbox (getD s i 0))) (λ i. getD s i 0) (λ i. sbox-invSbox (getD s i 0) (b .bytes i)) ∙ whole s (b .sixteen)
+  sub-inv-sub = block-same (λ i. sbox (invSbox (getD s i 0))) (λ i. getD s i 0)
+      (λ i. sbox-invSbox (getD s i 0) (b .bytes i)) ∙ whole s (b .sixteen)
 
   pub inv-shift-shift : invShiftRows (shiftRows s) ≡ s
   unfolding invShiftRows shiftRows
@@ -65,12 +70,16 @@ module _ (s : List ℕ) (b : Block s) where
   -- a law of one column, at the bytes of s from place i on: turned by none, one, two and three rows
   module _ (F : Column) (same : (a b c d : ℕ) → a < 256 → b < 256 → c < 256 → d < 256 → F a b c d ≡ a) where
     at-places : (i j k l : ℕ) → F (getD s i 0) (getD s j 0) (getD s k 0) (getD s l 0) ≡ getD s i 0
-    at-places i j k l = same (getD s i 0) (getD s j 0) (getD s k 0) (getD s l 0) (b .bytes i) (b .bytes j) (b .bytes k) (b .bytes l)
+    at-places i j k l = same (getD s i 0) (getD s j 0) (getD s k 0) (getD s l 0) (b .bytes i) (b .bytes j) (b .bytes k)
+        (b .bytes l)
 
-    all-columns : block (λ i. F (at s (i % 4) (i / 4)) (at s ((i % 4 + 1) % 4) (i / 4)) (at s ((i % 4 + 2) % 4) (i / 4)) (at s ((i % 4 + 3) % 4) (i / 4))) ≡ s
+    all-columns : block (λ i. F (at s (i % 4) (i / 4)) (at s ((i % 4 + 1) % 4) (i / 4)) (at s ((i % 4 + 2) % 4) (i / 4))
+        (at s ((i % 4 + 3) % 4) (i / 4))) ≡ s
     all-columns =
-        block-same (λ i. F (at s (i % 4) (i / 4)) (at s ((i % 4 + 1) % 4) (i / 4)) (at s ((i % 4 + 2) % 4) (i / 4)) (at s ((i % 4 + 3) % 4) (i / 4))) (λ i. at s (i % 4) (i / 4))
-        (λ i. at-places (i % 4 + 4 * (i / 4)) ((i % 4 + 1) % 4 + 4 * (i / 4)) ((i % 4 + 2) % 4 + 4 * (i / 4)) ((i % 4 + 3) % 4 + 4 * (i / 4)))
+        block-same (λ i. F (at s (i % 4) (i / 4)) (at s ((i % 4 + 1) % 4) (i / 4)) (at s ((i % 4 + 2) % 4) (i / 4))
+        (at s ((i % 4 + 3) % 4) (i / 4))) (λ i. at s (i % 4) (i / 4))
+        (λ i. at-places (i % 4 + 4 * (i / 4)) ((i % 4 + 1) % 4 + 4 * (i / 4)) ((i % 4 + 2) % 4 + 4 * (i / 4))
+        ((i % 4 + 3) % 4 + 4 * (i / 4)))
         ∙ whole s (b .sixteen)
 
   pub inv-mix-mix : invMixColumns (mixColumns s) ≡ s

@@ -30,8 +30,10 @@ invMixColumns s = state (unmixedByte s)
 -- The rounds n down to 1; `keys` has the round key of each round.
 unfoldable pub invRounds : List (List ℕ) → ℕ → List ℕ → List ℕ
 invRounds keys zero s = s
-invRounds keys (suc n) s = invRounds keys n (invMixColumns (addRoundKey (invSubBytes (invShiftRows s)) (getD keys (suc n) [])))
+invRounds keys (suc n) s = invRounds keys n (invMixColumns
+    (addRoundKey (invSubBytes (invShiftRows s)) (getD keys (suc n) [])))
 
 -- 5.3: the last round key is added, nine rounds, and a last one without InvMixColumns.
 unfoldable pub invCipher : List (List ℕ) → List ℕ → List ℕ
-invCipher keys s = addRoundKey (invSubBytes (invShiftRows (invRounds keys 9 (addRoundKey s (getD keys 10 []))))) (getD keys 0 [])
+invCipher keys s = addRoundKey (invSubBytes (invShiftRows (invRounds keys 9 (addRoundKey s (getD keys 10 [])))))
+    (getD keys 0 [])

@@ -5,7 +5,8 @@ use Rattle.field.specs.Field.{inverse}
 use Rattle.field.specs.Sbox.{bit, fromBits}
 use Rattle.field.specs.Block.{tabulated}
 
--- Bit i of the inverse affine map: the sum of three bits of b and of bit i of 0x05. `proofs/InverseSbox.antt` shows that it undoes the affine map.
+-- Bit i of the inverse affine map: the sum of three bits of b and of bit i of 0x05. `proofs/InverseSbox.antt` shows
+-- that it undoes the affine map.
 unfoldable pub invAffineBit : ℕ → ℕ → ℕ
 invAffineBit b i = (bit b ((i + 2) % 8) + bit b ((i + 5) % 8) + bit b ((i + 7) % 8) + bit 0x05 i) % 2
 

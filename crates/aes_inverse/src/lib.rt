@@ -59,7 +59,8 @@ fn inv_sub_bytes(table: &[u8; 256], s: [u8; 16]) -> [u8; 16]
     field::substitute(table, s)
 }
 
-// InvMixColumns, as MixColumns of a column to which 4(s0 + s2) is added in the even rows and 4(s1 + s3) in the odd ones.
+// InvMixColumns, as MixColumns of a column to which 4(s0 + s2) is added in the even rows and 4(s1 + s3) in the odd
+// ones.
 fn inv_mix_columns(s: [u8; 16]) -> [u8; 16]
     ensures { λ r. ⌜ r ≡ invMixColumns s ⌝ }
 {

@@ -13,13 +13,13 @@ use Rattle.field.specs.Block.{firstBlock}
 use Rattle.field.proofs.Block.{first-block-is}
 use Rattle.frames.specs.Fields.{bit}
 use Rattle.reader.specs.declared.Fault.the-variants.{OwnMessage}
-use Rattle.reader.specs.declared.Judgement.{Judgement}
+use Rattle.reader_judge.specs.declared.Judgement.{Judgement}
 use Rattle.reader.specs.declared.Keys.{Keys}
-use Rattle.reader.specs.declared.Made.{Made}
-use Rattle.reader.specs.declared.Made.the-variants.{Message, Refused}
-use Rattle.reader.specs.Findings.{verdictNumber, Judges}
-use Rattle.reader.specs.Judged.{judgementOf}
-use Rattle.reader.specs.Makes.{taken, Makes}
+use Rattle.reader_build.specs.declared.Made.{Made}
+use Rattle.reader_build.specs.declared.Made.the-variants.{Message, Refused}
+use Rattle.reader_judge.specs.Findings.{verdictNumber, Judges}
+use Rattle.reader_judge.specs.Judged.{judgementOf}
+use Rattle.reader_build.specs.Makes.{taken, Makes}
 use Rattle.capi.specs.Reader.{macGiven, keysOf, madeLength, worthNumber, findingOf, Builds, Finds}
 
 -- keys with a MAC key

@@ -11,13 +11,13 @@ use Rattle.frames.specs.declared.Custom.{Custom}
 use Rattle.frames.specs.Fields.{bit, sizeOf}
 use Rattle.reader.specs.declared.Fault.the-variants.{OwnMessage}
 use Rattle.reader.specs.declared.Keys.{Keys}
-use Rattle.reader.specs.declared.Made.{Made}
-use Rattle.reader.specs.declared.Made.the-variants.{Message, Refused}
-use Rattle.reader.specs.declared.Worth.{Worth}
-use Rattle.reader.specs.declared.Worth.the-variants.{NoData, Unproved, Proved}
-use Rattle.reader.specs.Findings.{Finding, refused, verdictNumber}
-use Rattle.reader.specs.Judged.{judgementOf}
-use Rattle.reader.specs.Makes.{taken}
+use Rattle.reader_build.specs.declared.Made.{Made}
+use Rattle.reader_build.specs.declared.Made.the-variants.{Message, Refused}
+use Rattle.reader_judge.specs.declared.Worth.{Worth}
+use Rattle.reader_judge.specs.declared.Worth.the-variants.{NoData, Unproved, Proved}
+use Rattle.reader_judge.specs.Findings.{Finding, refused, verdictNumber}
+use Rattle.reader_judge.specs.Judged.{judgementOf}
+use Rattle.reader_build.specs.Makes.{taken}
 
 -- ---- what is given
 

@@ -1,13 +1,12 @@
 // The seven messages of the reader's side, from plain numbers, over the first bytes of a lent room. Each answers the message's length;
 // or 0, which is number 24: a field out of its range, ProtMode 2 or 3 with no MAC key, or a room of under 176 bytes. Then no byte of the room changes.
 use super::given;
-use reader::build;
 ghost use mathlib.Core.Bool.{true};
 ghost use lib.ListN.{length};
 ghost use Rattle.ground.specs.Choice.{both};
 ghost use Rattle.frames.specs.Fields.{flag, customFits};
 ghost use Rattle.reader.specs.Own.{modeFits};
-ghost use Rattle.reader.specs.Builds.{purposeFits, tam1Made, tam2Made, iam1Made, mam1Made, iam2Made, mam2Made, iam3Made, iam3Fits};
+ghost use Rattle.reader_build.specs.Builds.{purposeFits, tam1Made, tam2Made, iam1Made, mam1Made, iam2Made, mam2Made, iam3Made, iam3Fits};
 ghost use Rattle.capi.specs.Reader.{macGiven, sizeGiven, bitsGiven, keysOf, customOf, Builds};
 
 /// TAM1. Ruled out: a message in a room of 175 bytes; the challenge cut.
@@ -15,7 +14,7 @@ ghost use Rattle.capi.specs.Reader.{macGiven, sizeGiven, bitsGiven, keys
 pub extern "C" fn roualint_build_tam1(keyid: u8, ichallenge: &[u8; 10], room: &mut [u8]) -> usize
     ensures { λ r. ⌜ Builds true (tam1Made keyid (now (ichallenge .entry))) (now (room .entry)) r (now (room .exit)) ⌝ }
 {
-    given::length_of(build::tam1(keyid, *ichallenge, room))
+    given::length_of(reader_build::tam1(keyid, *ichallenge, room))
 }
 
 /// TAM2, by the reader's keys: BlockSize 0 (64-bit blocks) or 1 (16-bit blocks), Rev 0 or 1.
@@ -41,7 +40,7 @@ pub extern "C" fn roualint_build_tam2(
     }
     let keys = given::keys_of(*enc, mac);
     let custom = given::custom_of(blocksize, profile, offset, blockcount);
-    given::length_of(build::tam2(keys, keyid, *ichallenge, rev == 1, custom, protmode, room))
+    given::length_of(reader_build::tam2(keys, keyid, *ichallenge, rev == 1, custom, protmode, room))
 }
 
 /// IAM1. Ruled out: the first byte of MAM1; bytes behind the message cleared.
@@ -49,7 +48,7 @@ pub extern "C" fn roualint_build_tam2(
 pub extern "C" fn roualint_build_iam1(keyid: u8, room: &mut [u8]) -> usize
     ensures { λ r. ⌜ Builds true (iam1Made keyid) (now (room .entry)) r (now (room .exit)) ⌝ }
 {
-    given::length_of(build::iam1(keyid, room))
+    given::length_of(reader_build::iam1(keyid, room))
 }
 
 /// IAM2, by the reader's keys: the answer to the challenge of an IAM1.
@@ -69,7 +68,7 @@ pub extern "C" fn roualint_build_iam2(
         return 0;
     }
     let keys = given::keys_of(*enc, mac);
-    given::length_of(build::iam2(keys, purpose, *irnd, *tchallenge, room))
+    given::length_of(reader_build::iam2(keys, purpose, *irnd, *tchallenge, room))
 }
 
 /// IAM3, by the reader's keys: the same answer, and data to be written.
@@ -96,7 +95,7 @@ pub extern "C" fn roualint_build_iam3(
     }
     let keys = given::keys_of(*enc, mac);
     let custom = given::custom_of(blocksize, profile, offset, blockcount);
-    given::length_of(build::iam3(
+    given::length_of(reader_build::iam3(
         keys,
         custom,
         protmode,
@@ -113,7 +112,7 @@ pub extern "C" fn roualint_build_iam3(
 pub extern "C" fn roualint_build_mam1(keyid: u8, ichallenge: &[u8; 10], room: &mut [u8]) -> usize
     ensures { λ r. ⌜ Builds true (mam1Made keyid (now (ichallenge .entry))) (now (room .entry)) r (now (room .exit)) ⌝ }
 {
-    given::length_of(build::mam1(keyid, *ichallenge, room))
+    given::length_of(reader_build::mam1(keyid, *ichallenge, room))
 }
 
 /// MAM2, by the reader's keys: the answer to the challenge of a MAM1.
@@ -133,5 +132,5 @@ pub extern "C" fn roualint_build_mam2(
         return 0;
     }
     let keys = given::keys_of(*enc, mac);
-    given::length_of(build::mam2(keys, purpose, *ichallenge, *tchallenge, room))
+    given::length_of(reader_build::mam2(keys, purpose, *ichallenge, *tchallenge, room))
 }

@@ -3,12 +3,12 @@ use frames::Custom;
 use memory::BlockSize;
 use memory::Offset;
 use reader::Keys;
-use reader::Made;
-use reader::Verdict;
-use reader::Worth;
+use reader_build::Made;
+use reader_judge::Verdict;
+use reader_judge::Worth;
 ghost use mathlib.Core.Path.{_≡_};
 ghost use Rattle.frames.specs.Fields.{bit, sizeOf};
-ghost use Rattle.reader.specs.Findings.{verdictNumber};
+ghost use Rattle.reader_judge.specs.Findings.{verdictNumber};
 ghost use Rattle.capi.specs.Reader.{macGiven, keysOf, sizeGiven, bitsGiven, customOf, madeLength, worthNumber};
 
 /// Is it a MAC key, or none? Ruled out: fifteen bytes taken; none refused.

@@ -28,7 +28,7 @@ pub extern "C" fn roualint_judge(
         *challenge = [0u8; 10];
         return 24;
     }
-    let said = reader::judged::judge(given::keys_of(*enc, mac), message, reply, room);
+    let said = reader_judge::judge(given::keys_of(*enc, mac), message, reply, room);
     let verdict = said.verdict;
     let value = said.worth;
     let came = said.challenge;

@@ -6,22 +6,24 @@ use Prim.Native.Nat.{ℕ}
 use native.Mathlib.Omega.{arith}
 use lib.ListN.{length}
 use Rattle.ground.specs.Choice.{pick}
+use Rattle.ground.specs.Checks.{Check, judgedTo}
+use Rattle.ground.proofs.Checked.{keeps}
 use Rattle.modes.specs.Room.{over}
 use Rattle.frames.specs.declared.Kind.{Kind}
 use Rattle.frames.specs.declared.Kind.the-variants.{Tam1, Tam2, Iam1, Iam2, Iam3, Mam1, Mam2, Unsupported}
 use Rattle.frames.specs.Kinds.{kindOf}
 use Rattle.reader.specs.declared.Fault.{Fault}
 use Rattle.reader.specs.declared.Fault.the-variants.{ReplyLength, ChallengeWrong, MacWrong, HeaderWrong, OwnMessage}
-use Rattle.reader.specs.declared.Judgement.{Judgement}
+use Rattle.reader_judge.specs.declared.Judgement.{Judgement}
 use Rattle.reader.specs.declared.Keys.{Keys}
-use Rattle.reader.specs.declared.Made.the-variants.{Message, Refused as NotMade}
-use Rattle.reader.specs.declared.Verdict.the-variants.{Refused}
-use Rattle.reader.specs.declared.Worth.{Worth}
+use Rattle.reader_build.specs.declared.Made.the-variants.{Message, Refused as NotMade}
+use Rattle.reader_judge.specs.declared.Verdict.the-variants.{Refused}
+use Rattle.reader_judge.specs.declared.Worth.{Worth}
 use Rattle.reader.specs.Numbers.{numberOf}
-use Rattle.reader.specs.Findings.{Finding, Check, silent, refused, nothingMore, carries, issues, judged, saidOf}
+use Rattle.reader_judge.specs.Findings.{Finding, silent, refused, nothingMore, carries, issues, saidOf}
 use Rattle.reader.specs.Own.{ownFits}
-use Rattle.reader.specs.Judged.{dataFinding, iam1Finding, emptyFinding, tam1Finding, tam2Finding, mam1Finding, byKind, ofKind, judgementOf}
-use Rattle.reader.specs.Makes.{taken, madeNumber}
+use Rattle.reader_judge.specs.Judged.{dataFinding, iam1Finding, emptyFinding, tam1Finding, tam2Finding, mam1Finding, byKind, ofKind, judgementOf}
+use Rattle.reader_build.specs.Makes.{taken, madeNumber}
 use Rattle.claims.specs.Answered.{FromTo, JudgeAnswers, BuilderAnswers}
 
 reader-number : (f : Fault) → FromTo 20 24 (numberOf f)
@@ -53,10 +55,8 @@ picked-quiet : (t : Bool) (x y : Finding) → Quiet x → Quiet y → Quiet (pic
 picked-quiet true x y hx hy = hx
 picked-quiet false x y hx hy = hy
 
-judged-quiet : (cs : List Check) (x : Finding) → Quiet x → Quiet (judged cs x)
-unfolding judged
-judged-quiet [] x h = h
-judged-quiet (c ∷ cs) x h = picked-quiet (c .holds) (judged cs x) (refused (c .otherwise)) (judged-quiet cs x h) (refused-quiet (c .otherwise))
+judged-quiet : (cs : List (Check Fault)) (x : Finding) → Quiet x → Quiet (judgedTo refused cs x)
+judged-quiet cs x h = keeps refused x Quiet refused-quiet h cs
 
 module _ (keys : Keys) (m reply : List ℕ) where
   kind-quiet : (k : Kind) → Quiet (byKind keys m reply k)

@@ -8,6 +8,7 @@ use borrow.Author.Tests.{eq-eqb}
 use lib.ListN.{length, getD, take, drop, length-append}
 use lib.Seq.{take-at, drop-at, length-take-le}
 use Rattle.ground.specs.Choice.{pick, both, implies}
+use Rattle.ground.proofs.Checked.{passes, ends}
 use Rattle.field.proofs.Block.{Bytes}
 use Rattle.aes.specs.AesEnc.{aesEnc}
 use Rattle.modes.specs.Cbc.{cbcEncAes}
@@ -36,10 +37,9 @@ use Rattle.offer.proofs.Bytes.{Ten}
 use Rattle.tam.proofs.ReplyBytes.{tam-block-block, carried-bytes}
 use Rattle.tam.proofs.ReplyLengths.{tam-block-long, body-long, tam2-long}
 use Rattle.reader.specs.declared.Keys.{Keys}
-use Rattle.reader.specs.Findings.{carries, worthOf}
-use Rattle.reader.specs.Judged.{dataFinding, tam2Finding}
-use Rattle.reader.specs.Opened.{openedBlock, blockFits, dataSent, openedData}
-use Rattle.reader.proofs.Lines.{passes, ends}
+use Rattle.reader_judge.specs.Findings.{carries, worthOf}
+use Rattle.reader_judge.specs.Judged.{dataFinding, tam2Finding}
+use Rattle.reader_judge.specs.Opened.{openedBlock, blockFits, dataSent, openedData}
 use Rattle.claims.specs.Recovery.{Shares}
 use Rattle.claims.proofs.Opens.{opens, block-right}
 
@@ -141,12 +141,17 @@ module _ (keys : Keys) (key : Key) (e : Shares keys key) (b : Bytes (keys .enc))
   clear-found : dataFinding f clear ≡ carries (worthOf (f .protmode)) words
   unfolding dataFinding
   clear-found =
-      passes _ _ _ (header-carried (f .custom) words (f .rev) fit)
-      (passes _ _ _ (filler-carried (f .custom) words (f .rev) all) (ends _ ∙ ap (carries (worthOf (f .protmode))) (words-carried (f .custom) words (f .rev) all)))
+      let h = header-carried (f .custom) words (f .rev) fit in
+      let k = filler-carried (f .custom) words (f .rev) all in
+      sym (passes _ _ _ _ h (passes _ _ _ _ k (ends _ _)))
+      ∙ ap (carries (worthOf (f .protmode))) (words-carried (f .custom) words (f .rev) all)
 
   pub tam2-found : tam2Finding keys f (tam2Reply key f words draws) ≡ carries (worthOf (f .protmode)) words
   unfolding tam2Finding
   tam2-found =
       ap (tam2Finding keys f) reply-is
-      ∙ passes _ _ _ (eq-eqb _ _ (sym (ap length reply-is) ∙ tam2-long key f words draws few))
-      (passes _ _ _ block-fits (passes _ _ _ mac-fits (ends _ ∙ ap (dataFinding f) opened ∙ clear-found)))
+      ∙ sym
+      (passes _ _ _ _ (eq-eqb _ _ (sym (ap length reply-is) ∙ tam2-long key f words draws few))
+      (passes _ _ _ _ block-fits (passes _ _ _ _ mac-fits (ends _ _))))
+      ∙ ap (dataFinding f) opened
+      ∙ clear-found

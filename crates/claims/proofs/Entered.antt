@@ -28,7 +28,7 @@ use Rattle.tag.specs.Answers.{Call, answerOf, letIn}
 use Rattle.tag.specs.Reactions.{lent}
 use Rattle.reader.specs.declared.Keys.{Keys}
 use Rattle.reader.specs.Own.{modeFits}
-use Rattle.reader.specs.Builds.{purposeFits, dataFits, iam2Made, mam2Made, iam3Made, iam3Fits}
+use Rattle.reader_build.specs.Builds.{purposeFits, dataFits, iam2Made, mam2Made, iam3Made, iam3Fits}
 use Rattle.claims.specs.Entry.{Array, Knows, Waits, Writable}
 use Rattle.claims.proofs.Entry.{iam2-enters, mam2-enters}
 use Rattle.claims.proofs.EntryIam3.{iam3-enters}

@@ -26,7 +26,7 @@ use Rattle.entry.specs.Opened.{purposeIn, iamProof, mamProof}
 use Rattle.offer.specs.Records.{keyNamed}
 use Rattle.tag.specs.Answers.{Call, Answer, letIn, ifFine, iam2Answer, mam2Answer, byKind}
 use Rattle.offer.proofs.Lines.{passes, ends}
-use Rattle.reader.specs.Builds.{purposeFits, iam2Made, mam2Made}
+use Rattle.reader_build.specs.Builds.{purposeFits, iam2Made, mam2Made}
 use Rattle.sheet.specs.declared.Setup.{Setup}
 use Rattle.entry.specs.declared.Session.{Session}
 use Rattle.reader.specs.declared.Keys.{Keys}

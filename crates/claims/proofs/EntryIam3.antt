@@ -32,8 +32,8 @@ use Rattle.tag.specs.Answers.{Call, letIn, ifFine, iam3Answer, byKind}
 use Rattle.offer.proofs.Lines.{passes, ends}
 use Rattle.tam.proofs.ReplyBytes.{carried-bytes}
 use Rattle.reader.specs.declared.Keys.{Keys}
-use Rattle.reader.specs.Builds.{purposeFits, iam3Made, iam3Fits}
-use Rattle.reader.proofs.Making.{partFits, parts-fit, part-count, part-select, part-purposed}
+use Rattle.reader_build.specs.Builds.{purposeFits, iam3Made, iam3Fits}
+use Rattle.reader_build.proofs.Making.{partFits, parts-fit, part-count, part-select, part-purposed}
 use Rattle.sheet.specs.declared.Setup.{Setup}
 use Rattle.entry.specs.declared.Session.{Session}
 use Rattle.claims.proofs.InTurn.{in-turn}

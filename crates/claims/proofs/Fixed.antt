@@ -9,6 +9,7 @@ use lib.Dec.{eqb}
 use lib.ListN.{length, take, drop, length-drop, take-append-drop}
 use lib.Seq.{take-add, take-at, drop-at, drop-drop, take-all, length-take-le}
 use Rattle.ground.specs.Choice.{pick, both, implies}
+use Rattle.ground.specs.Checks.{judgedTo}
 use Rattle.field.proofs.Block.{Bytes}
 use Rattle.aes.specs.AesEnc.{aesEnc}
 use Rattle.aes_inverse.specs.AesDec.{aesDec}
@@ -44,10 +45,10 @@ use Rattle.offer.proofs.Bytes.{drop-bytes}
 use Rattle.reader.specs.declared.Fault.{Fault}
 use Rattle.reader.specs.declared.Fault.the-variants.{ReplyLength, OwnMessage}
 use Rattle.reader.specs.declared.Keys.{Keys}
-use Rattle.reader.specs.declared.Verdict.the-variants.{Accepted}
-use Rattle.reader.specs.Findings.{Finding, refused, issues, judged}
-use Rattle.reader.specs.Judged.{dataFinding, iam1Finding, emptyFinding, tam1Finding, tam2Finding, mam1Finding, byKind, ofKind, judgementOf}
-use Rattle.reader.specs.Opened.{openedBlock, blockFits, challengeIn, dataSent, openedData}
+use Rattle.reader_judge.specs.declared.Verdict.the-variants.{Accepted}
+use Rattle.reader_judge.specs.Findings.{Finding, refused, issues}
+use Rattle.reader_judge.specs.Judged.{dataFinding, iam1Finding, emptyFinding, tam1Finding, tam2Finding, mam1Finding, byKind, ofKind, judgementOf}
+use Rattle.reader_judge.specs.Opened.{openedBlock, blockFits, challengeIn, dataSent, openedData}
 use Rattle.reader.specs.Own.{ownFits}
 use Rattle.claims.specs.Fixed.{trndIn, remade, Fixed, hasTrnd, FixedTwice}
 use Rattle.claims.specs.Recovery.{Shares}
@@ -101,7 +102,7 @@ module _ (keys : Keys) (key : Key) (share : Shares keys key) (he : Bytes (keys .
 
   -- TAM1
   tam1-fixed : (f : Tam1Fields) → tam1Finding keys f reply .verdict ≡ Accepted → reply ≡ tam1Reply key f (trndIn keys reply)
-  unfolding tam1Finding judged tam1Reply tamBlock
+  unfolding tam1Finding judgedTo tam1Reply tamBlock
   tam1-fixed f e =
       let one = accepted-first _ _ _ e in
       let two = accepted-first _ _ _ (one .1) in
@@ -111,7 +112,7 @@ module _ (keys : Keys) (key : Key) (share : Shares keys key) (he : Bytes (keys .
 
   -- MAM1
   mam1-fixed : (f : Mam1Fields) → mam1Finding keys f reply .verdict ≡ Accepted → reply ≡ mam1Reply key f (mam1Finding keys f reply .challenge)
-  unfolding mam1Finding judged mam1Reply challengeIn
+  unfolding mam1Finding judgedTo mam1Reply challengeIn
   mam1-fixed f e =
       let one = accepted-first _ _ _ e in
       let two = accepted-first _ _ _ (one .1) in
@@ -177,7 +178,7 @@ module _ (keys : Keys) (key : Key) (share : Shares keys key) (he : Bytes (keys .
       mac-long = omega (arith, length-drop (16 + count) reply)
 
     pub tam2-fixed : tam2Finding keys f reply .verdict ≡ Accepted → reply ≡ tam2Reply key f (tam2Finding keys f reply .bytes) (trndIn keys reply)
-    unfolding tam2Finding judged dataFinding tam2ReplyLength tam2MacAt macFits tam2Reply tam2Body withMac tamBlock
+    unfolding tam2Finding judgedTo dataFinding tam2ReplyLength tam2MacAt macFits tam2Reply tam2Body withMac tamBlock
     tam2-fixed e =
         let one = accepted-first _ _ _ e in
         let two = accepted-first _ _ _ (one .1) in
@@ -202,11 +203,11 @@ module _ (keys : Keys) (key : Key) (share : Shares keys key) (he : Bytes (keys .
 
   -- by kind
   iam1-fixed : iam1Finding reply .verdict ≡ Accepted → reply ≡ iam1Finding reply .challenge
-  unfolding iam1Finding judged
+  unfolding iam1Finding judgedTo
   iam1-fixed e = sym (ap (λ (x : Finding). x .challenge) (accepted-first (eqb (length reply) iam1ReplyLength) (issues reply) ReplyLength e .2))
 
   empty-fixed : emptyFinding reply .verdict ≡ Accepted → reply ≡ []
-  unfolding emptyFinding judged
+  unfolding emptyFinding judgedTo
   empty-fixed e = none reply (eqb-true _ _ (accepted-first _ _ _ e .0))
 
   kind-fixed : (m : List ℕ) (k : Kind) → byKind keys m reply k .verdict ≡ Accepted → reply ≡ remade key m (trndIn keys reply) (byKind keys m reply k) k

@@ -26,10 +26,10 @@ use Rattle.tag.specs.Answers.{answerOf, ofMessage, refused}
 use Rattle.tag.specs.Plays.{Brought, Left, Called}
 use Rattle.reader.specs.declared.Fault.the-variants.{OwnMessage}
 use Rattle.reader.specs.declared.Keys.{Keys}
-use Rattle.reader.specs.declared.Made.the-variants.{Refused as NotMade}
+use Rattle.reader_build.specs.declared.Made.the-variants.{Refused as NotMade}
 use Rattle.reader.specs.Numbers as reader
-use Rattle.reader.specs.Findings as findings
-use Rattle.reader.specs.Judged.{judgementOf}
+use Rattle.reader_judge.specs.Findings as findings
+use Rattle.reader_judge.specs.Judged.{judgementOf}
 use Rattle.claims.specs.Answered.{FromTo, TagRefused, JudgeRefused}
 use Rattle.claims.specs.ShutOut.{Program, Each, RefusesEverything, OneFixedReply, LaterForShow, MadeUpLength, NeverStores}
 use Rattle.claims.proofs.Answered.{tag-answers, sheet-answers, record-answers, chain-answers, layer-answers}

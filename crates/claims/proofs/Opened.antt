@@ -28,8 +28,8 @@ use Rattle.payload.proofs.Alike.{same-self}
 use Rattle.payload.proofs.Lengths.{blocks-whole, mac-long}
 use Rattle.entry.specs.Opened.{sentBlock, sentData, sentMac, openedData, sentMacFits}
 use Rattle.reader.specs.declared.Keys.{Keys}
-use Rattle.reader.specs.Builds.{sentData as readerData, iam3Response, iam3Whole}
-use Rattle.reader.proofs.Sending.{data-sent-long}
+use Rattle.reader_build.specs.Builds.{sentData as readerData, iam3Response, iam3Whole}
+use Rattle.reader_build.proofs.Sending.{data-sent-long}
 use Rattle.claims.specs.Entry.{Knows}
 
 module _ (keys : Keys) (custom : Custom) (protmode : ℕ) (a p : List ℕ) (sixteen : length a ≡ 16) (blocks : length p ≡ blocksLength (custom .blocksize) true (custom .blockcount)) where

@@ -9,6 +9,7 @@ use lib.Dec.{lit<}
 use lib.ListN.{length, take, drop, length-append, length-drop, take-append-drop}
 use lib.Seq.{take-at, drop-at, take-all, length-take-le}
 use Rattle.ground.specs.Choice.{both}
+use Rattle.ground.proofs.Checked.{passes, ends}
 use Rattle.field.proofs.Block.{Bytes, Block}
 use Rattle.aes.specs.AesEnc.{aesEnc}
 use Rattle.aes_inverse.specs.AesDec.{aesDec}
@@ -28,10 +29,9 @@ use Rattle.offer.proofs.Bytes.{Ten, drop-bytes}
 use Rattle.tam.proofs.ReplyLengths.{tam1-long}
 use Rattle.entry.proofs.ReplyLengths.{mam1-long}
 use Rattle.reader.specs.declared.Keys.{Keys}
-use Rattle.reader.specs.Findings.{nothingMore, issues}
-use Rattle.reader.specs.Judged.{tam1Finding, mam1Finding}
-use Rattle.reader.specs.Opened.{openedBlock, blockFits, challengeIn}
-use Rattle.reader.proofs.Lines.{passes, ends}
+use Rattle.reader_judge.specs.Findings.{nothingMore, issues}
+use Rattle.reader_judge.specs.Judged.{tam1Finding, mam1Finding}
+use Rattle.reader_judge.specs.Opened.{openedBlock, blockFits, challengeIn}
 
 -- ---- a block
 
@@ -74,7 +74,8 @@ module _ (keys : Keys) (key : Key) (e : keys .enc ≡ key .enc) (b : Bytes (keys
       let middle = take 4 draws in
       let four : length middle ≡ 4 = length-take-le 4 draws (omega (arith, d .ten)) in
       let o = opens C-TAM1 middle (f .ichallenge) four keys (key .enc) (tam1Reply key f draws) e b (omega arith) (bytes-take 4 draws (d .bytes)) t (tam1-front f) in
-      passes _ _ _ (eq-eqb _ _ (tam1-long key f draws)) (passes _ _ _ (ap (blockFits (twoBytes C-TAM1) (f .ichallenge)) o ∙ block-right C-TAM1 middle (f .ichallenge) four) (ends _))
+      let fits = ap (blockFits (twoBytes C-TAM1) (f .ichallenge)) o ∙ block-right C-TAM1 middle (f .ichallenge) four in
+      sym (passes _ _ _ _ (eq-eqb _ _ (tam1-long key f draws)) (passes _ _ _ _ fits (ends _ _)))
 
   mam1-front : (f : Mam1) → take 16 (mam1Reply key f draws) ≡ aesEnc (key .enc) (twoBytes C-MAM1 ++ (drop 6 draws ++ f .ichallenge))
   unfolding mam1Reply
@@ -94,6 +95,6 @@ module _ (keys : Keys) (key : Key) (e : keys .enc ≡ key .enc) (b : Bytes (keys
       let middle = drop 6 draws in
       let four : length middle ≡ 4 = omega (arith, length-drop 6 draws, d .ten) in
       let o = opens C-MAM1 middle (f .ichallenge) four keys (key .enc) (mam1Reply key f draws) e b (omega arith) (drop-bytes 6 draws (d .bytes)) t (mam1-front f) in
-      passes _ _ _ (eq-eqb _ _ (mam1-long key f draws (d .ten)))
-      (passes _ _ _ (ap (blockFits (twoBytes C-MAM1) (f .ichallenge)) o ∙ block-right C-MAM1 middle (f .ichallenge) four)
-      (ends _ ∙ ap issues (ap (λ (l : List ℕ). challengeIn l (mam1Reply key f draws)) o ∙ mam1-whole f four)))
+      let fits = ap (blockFits (twoBytes C-MAM1) (f .ichallenge)) o ∙ block-right C-MAM1 middle (f .ichallenge) four in
+      sym (passes _ _ _ _ (eq-eqb _ _ (mam1-long key f draws (d .ten))) (passes _ _ _ _ fits (ends _ _)))
+      ∙ ap issues (ap (λ (l : List ℕ). challengeIn l (mam1Reply key f draws)) o ∙ mam1-whole f four)

@@ -17,8 +17,8 @@ use Rattle.payload.specs.Alike.{same}
 use Rattle.entry.specs.Opened.{constantIn, purposeIn, middleIn, challengeIn, purposeAllowed, iamProof}
 use Rattle.payload.proofs.Alike.{same-self}
 use Rattle.reader.specs.declared.Keys.{Keys}
-use Rattle.reader.specs.Builds.{purposeFits, response}
-use Rattle.reader.proofs.Responses.{constant-bytes, constant-two, response-block, response-opened}
+use Rattle.reader_build.specs.Builds.{purposeFits, response}
+use Rattle.reader_build.proofs.Responses.{constant-bytes, constant-two, response-block, response-opened}
 use Rattle.claims.specs.Entry.{Array, Knows}
 
 module _ (k purpose : ℕ) (middle tchallenge : List ℕ) (m4 : length middle ≡ 4) (t10 : length tchallenge ≡ 10) where

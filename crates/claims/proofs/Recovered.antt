@@ -7,6 +7,7 @@ use native.Mathlib.Omega.{arith}
 use borrow.Author.Tests.{ltb-true}
 use lib.Dec.{ltb, lit<}
 use Rattle.ground.specs.Choice.{both}
+use Rattle.ground.specs.Checks.{judgedTo}
 use Rattle.frames.proofs.Range.{both-left, both-right}
 use lib.ListN.{length, take, replicate}
 use Rattle.field.proofs.Block.{Bytes}
@@ -27,11 +28,10 @@ use Rattle.tag.specs.Answers.{Call, refused, replied, ifFine, iam1Answer, byKin
 use Rattle.tag.specs.Reactions.{lent}
 use Rattle.tag.specs.Plays.{Called}
 use Rattle.reader.specs.declared.Keys.{Keys}
-use Rattle.reader.specs.declared.Verdict.the-variants.{Accepted}
-use Rattle.reader.specs.Findings.{saidOf, Judges}
-use Rattle.reader.specs.Findings as findings
-use Rattle.reader.specs.Judged.{iam1Finding, ofKind, judgementOf}
-use Rattle.reader.specs.Judged as judge
+use Rattle.reader_judge.specs.declared.Verdict.the-variants.{Accepted}
+use Rattle.reader_judge.specs.Findings.{saidOf, Judges}
+use Rattle.reader_judge.specs.Judged.{iam1Finding, ofKind, judgementOf}
+use Rattle.reader_judge.specs.Judged as judge
 use Rattle.reader.specs.Own.{fieldsFit, ownFits}
 use Rattle.claims.specs.Fixed.{trndIn, remade}
 use Rattle.claims.specs.Recovery.{keyidUsed, keyUsed, Shares, Fit, due}
@@ -91,7 +91,7 @@ challenge-recovered room e =
 
 -- an accepted reply is made again
 taken : judgementOf keys iam1 (drawn 0) 144 .verdict ≡ Accepted
-unfolding judgementOf ofKind judge.byKind iam1Finding findings.judged ownFits fieldsFit lengthFits kindOf iamKind iam1Of
+unfolding judgementOf ofKind judge.byKind iam1Finding judgedTo ownFits fieldsFit lengthFits kindOf iamKind iam1Of
 taken = refl
 
 pub reply-fixed : drawn 0 ≡ remade key iam1 (trndIn keys (drawn 0)) (judgementOf keys iam1 (drawn 0) 144) (kindOf (byte iam1 0))

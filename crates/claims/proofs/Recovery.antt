@@ -8,6 +8,7 @@ use borrow.Author.Tests.{eq-eqb, le-leb}
 use lib.Dec.{eqb}
 use lib.ListN.{length}
 use Rattle.ground.specs.Choice.{pick, both, implies}
+use Rattle.ground.proofs.Checked.{passes, ends}
 use Rattle.memory.specs.Areas.{windowOf}
 use Rattle.sheet.specs.declared.Key.{Key}
 use Rattle.sheet.specs.declared.Setup.{Setup}
@@ -37,11 +38,10 @@ use Rattle.offer.proofs.Bytes.{Ten}
 use Rattle.tam.proofs.Tam2Asked.{tam1-challenge, tam2-challenge, tam2-custom-fits, words-bytes}
 use Rattle.entry.proofs.ReplyBytes.{mam1-challenge}
 use Rattle.reader.specs.declared.Keys.{Keys}
-use Rattle.reader.specs.Findings.{Finding, nothingMore, issues}
-use Rattle.reader.specs.Judged.{iam1Finding, emptyFinding, judgementOf, byKind as findingOf}
+use Rattle.reader_judge.specs.Findings.{Finding, nothingMore, issues}
+use Rattle.reader_judge.specs.Judged.{iam1Finding, emptyFinding, judgementOf, byKind as findingOf}
 use Rattle.reader.specs.Own.{dataRoom, modeFits, fieldsFit, ownFits}
-use Rattle.reader.proofs.Judging.{own-told}
-use Rattle.reader.proofs.Lines.{passes, ends}
+use Rattle.reader_judge.proofs.Judging.{own-told}
 use Rattle.claims.specs.Recovery.{Taken, keyidUsed, Shares, Fit, due, Recovery}
 use Rattle.claims.proofs.Opens.{tam1-found, mam1-found}
 use Rattle.claims.proofs.Data.{tam2-found}
@@ -56,11 +56,11 @@ mode-own setup keys key p s h =
 
 iam1-found : (reply : List ℕ) → length reply ≡ 10 → iam1Finding reply ≡ issues reply
 unfolding iam1Finding
-iam1-found reply e = passes _ _ _ (eq-eqb _ _ e) (ends _)
+iam1-found reply e = sym (passes _ _ _ _ (eq-eqb _ _ e) (ends _ _))
 
 empty-found : emptyFinding [] ≡ nothingMore
 unfolding emptyFinding
-empty-found = passes _ _ _ refl (ends _)
+empty-found = sym (passes _ _ _ _ refl (ends _ _))
 
 module _ (c : Call) (tag : Tag) (keys : Keys) (room : ℕ) (fit : Fit c tag keys) (enough : dataRoom ≤ room) where
   -- what is claimed of an answer to a message of kind k

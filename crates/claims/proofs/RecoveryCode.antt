@@ -8,8 +8,8 @@ use Rattle.offer.specs.Outcomes.{replyLength}
 use Rattle.tag.specs.Answers.{answerOf}
 use Rattle.tag.specs.Reactions.{lent}
 use Rattle.tag.proofs.PaperNumbers.{length-told}
-use Rattle.reader.specs.Findings.{Finding, Judges}
-use Rattle.reader.specs.Judged.{judgementOf}
+use Rattle.reader_judge.specs.Findings.{Finding, Judges}
+use Rattle.reader_judge.specs.Judged.{judgementOf}
 use Rattle.claims.specs.Recovery.{Taken, RecoveryCode}
 use Rattle.claims.proofs.Recovery.{recovery}
 

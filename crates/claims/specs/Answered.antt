@@ -24,16 +24,16 @@ use Rattle.tag.specs.States as states
 use Rattle.tag.specs.States.{sessionAfter}
 use Rattle.tag.specs.Plays.{Brought, Left, Called}
 use Rattle.reader.specs.declared.Fault.{Fault as ReaderFault}
-use Rattle.reader.specs.declared.Judgement.{Judgement}
+use Rattle.reader_judge.specs.declared.Judgement.{Judgement}
 use Rattle.reader.specs.declared.Keys.{Keys}
-use Rattle.reader.specs.declared.Made.{Made}
-use Rattle.reader.specs.declared.Made.the-variants.{Refused as NotMade}
-use Rattle.reader.specs.declared.Verdict.the-variants.{Refused as NotBelieved}
-use Rattle.reader.specs.declared.Worth.the-variants.{NoData}
+use Rattle.reader_build.specs.declared.Made.{Made}
+use Rattle.reader_build.specs.declared.Made.the-variants.{Refused as NotMade}
+use Rattle.reader_judge.specs.declared.Verdict.the-variants.{Refused as NotBelieved}
+use Rattle.reader_judge.specs.declared.Worth.the-variants.{NoData}
 use Rattle.reader.specs.Numbers as reader
-use Rattle.reader.specs.Findings.{Judges}
-use Rattle.reader.specs.Judged.{judgementOf}
-use Rattle.reader.specs.Makes.{Makes}
+use Rattle.reader_judge.specs.Findings.{Judges}
+use Rattle.reader_judge.specs.Judged.{judgementOf}
+use Rattle.reader_build.specs.Makes.{Makes}
 
 -- The numbers from a to b.
 abbrev pub FromTo : ℕ → ℕ → ℕ → Type 0
@@ -60,7 +60,7 @@ TagAnswers =
 
 -- ---- the reader's side
 
--- `reader::judged::judge`: 20 to 24, no data, no challenge, and the data room as it was.
+-- `reader_judge::judge`: 20 to 24, no data, no challenge, and the data room as it was.
 pub record JudgeRefused (room : List ℕ) (r : Judgement) (after : List ℕ) (f : ReaderFault) : Type 0 where
   pub number : FromTo 20 24 (reader.numberOf f)
   pub silent : after ≡ room

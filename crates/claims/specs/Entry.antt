@@ -21,7 +21,7 @@ use Rattle.tag.specs.States.{inTurn}
 use Rattle.offer.specs.Records.{offered, keyNamed, slotNamed, sizeOffered, modeSupported, blockAsked}
 use Rattle.tag.specs.Answers.{Call, letIn, answerOf}
 use Rattle.reader.specs.declared.Keys.{Keys}
-use Rattle.reader.specs.Builds.{purposeFits, iam2Made, mam2Made, iam3Made, iam3Fits}
+use Rattle.reader_build.specs.Builds.{purposeFits, iam2Made, mam2Made, iam3Made, iam3Fits}
 
 -- Each element is a byte.
 abbrev pub Bytes : List ℕ → Type 0

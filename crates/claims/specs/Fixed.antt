@@ -14,10 +14,10 @@ use Rattle.frames.specs.Messages.{tam1Of, tam2Of, mam1Of}
 use Rattle.tam.specs.Replies.{tam1Reply, tam2Reply}
 use Rattle.entry.specs.Replies.{mam1Reply}
 use Rattle.reader.specs.declared.Keys.{Keys}
-use Rattle.reader.specs.declared.Verdict.the-variants.{Accepted}
-use Rattle.reader.specs.Findings.{Finding}
-use Rattle.reader.specs.Judged.{judgementOf}
-use Rattle.reader.specs.Opened.{openedBlock}
+use Rattle.reader_judge.specs.declared.Verdict.the-variants.{Accepted}
+use Rattle.reader_judge.specs.Findings.{Finding}
+use Rattle.reader_judge.specs.Judged.{judgementOf}
+use Rattle.reader_judge.specs.Opened.{openedBlock}
 use Rattle.claims.specs.Recovery.{Shares}
 
 -- 9.4.3, 9.4.6.1: the tag's random bytes, TRnd, in the block that a reply starts with.

@@ -21,10 +21,10 @@ use Rattle.offer.specs.Outcomes.{replyLength}
 use Rattle.offer.specs.Records.{keyNamed, blockAsked}
 use Rattle.tag.specs.Reactions.{lent}
 use Rattle.tag.specs.Plays.{Brought, Left, Called}
-use Rattle.reader.specs.declared.Judgement.{Judgement}
+use Rattle.reader_judge.specs.declared.Judgement.{Judgement}
 use Rattle.reader.specs.declared.Keys.{Keys}
-use Rattle.reader.specs.Findings.{Finding, nothingMore, carries, worthOf, issues, Judges}
-use Rattle.reader.specs.Judged.{judgementOf}
+use Rattle.reader_judge.specs.Findings.{Finding, nothingMore, carries, worthOf, issues, Judges}
+use Rattle.reader_judge.specs.Judged.{judgementOf}
 use Rattle.reader.specs.Own.{dataRoom}
 
 -- The tag took the message.

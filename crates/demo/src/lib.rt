@@ -9,8 +9,7 @@ use lines::print;
 use memory::BlockSize;
 use memory::Offset;
 use reader::Keys;
-use reader::Made;
-use reader::build;
+use reader_build::Made;
 use tag::Tag;
 use told::Turn;
 
@@ -99,7 +98,7 @@ fn made(m: Made) -> usize {
 fn tam1(t: Tag, identity: &mut [u8]) -> Tag {
     print::text(b"\nTAM1: the reader asks whether the tag has key 0.\n");
     let mut room = [0u8; 176];
-    let n = within(made(build::tam1(0, ichallenge(), &mut room)), &room);
+    let n = within(made(reader_build::tam1(0, ichallenge(), &mut room)), &room);
     told::sent(b"TAM1, with ten bytes of challenge", &room[..n]);
     let u = told::played(
         t,
@@ -118,7 +117,7 @@ fn tam2(t: Tag, identity: &mut [u8]) -> Tag {
         b"\nTAM2: the reader asks for two 64-bit blocks of profile 1, encrypted and with a MAC (ProtMode 3).\n",
     );
     let mut room = [0u8; 176];
-    let m = build::tam2(
+    let m = reader_build::tam2(
         first_keys(),
         0,
         ichallenge(),
@@ -165,7 +164,7 @@ fn iam3(t: Tag, identity: &mut [u8]) -> Tag {
 fn written(opened: Turn, identity: &mut [u8]) -> Tag {
     let challenge = opened.challenge;
     let mut room = [0u8; 176];
-    let m = build::iam3(
+    let m = reader_build::iam3(
         second_keys(),
         custom(1, 0),
         3,
@@ -195,7 +194,7 @@ fn written(opened: Turn, identity: &mut [u8]) -> Tag {
 
 fn iam1(t: Tag, identity: &mut [u8]) -> Turn {
     let mut room = [0u8; 176];
-    let n = within(made(build::iam1(1, &mut room)), &room);
+    let n = within(made(reader_build::iam1(1, &mut room)), &room);
     told::sent(b"IAM1, asking for a challenge", &room[..n]);
     told::played(
         t,
@@ -217,7 +216,7 @@ fn mam(t: Tag, identity: &mut [u8]) {
 fn answered(opened: Turn, identity: &mut [u8]) {
     let challenge = opened.challenge;
     let mut room = [0u8; 176];
-    let m = build::mam2(second_keys(), 0, ichallenge(), challenge, &mut room);
+    let m = reader_build::mam2(second_keys(), 0, ichallenge(), challenge, &mut room);
     let n = within(made(m), &room);
     told::sent(b"MAM2: by AES-DEC both challenges", &room[..n]);
     let held = opened.tag;
@@ -233,7 +232,7 @@ fn answered(opened: Turn, identity: &mut [u8]) {
 
 fn mam1(t: Tag, identity: &mut [u8]) -> Turn {
     let mut room = [0u8; 176];
-    let n = within(made(build::mam1(1, ichallenge(), &mut room)), &room);
+    let n = within(made(reader_build::mam1(1, ichallenge(), &mut room)), &room);
     told::sent(b"MAM1, with ten bytes of challenge", &room[..n]);
     told::played(
         t,

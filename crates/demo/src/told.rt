@@ -2,11 +2,11 @@
 use console::answer;
 use console::answer::within;
 use lines::print;
-use reader::Judgement;
 use reader::Keys;
-use reader::Verdict;
-use reader::Worth;
-use reader::judged::judge;
+use reader_judge::Judgement;
+use reader_judge::Verdict;
+use reader_judge::Worth;
+use reader_judge::judge;
 use tag::Outcome;
 use tag::State;
 use tag::Tag;

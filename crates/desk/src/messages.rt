@@ -8,12 +8,12 @@ use console::fields;
 use console::words::word;
 use frames::Kind;
 use lines::print;
-use reader::Judgement;
 use reader::Keys;
-use reader::Made;
-use reader::Verdict;
-use reader::Worth;
-use reader::judged::judge;
+use reader_build::Made;
+use reader_judge::Judgement;
+use reader_judge::Verdict;
+use reader_judge::Worth;
+use reader_judge::judge;
 
 pub fn keys(d: Desk, line: &[u8]) -> Desk {
     if !fields::read(line, 1, b"km", 0) {

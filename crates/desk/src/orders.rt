@@ -13,8 +13,7 @@ use memory::Offset;
 use payload::same;
 use reader::Fault;
 use reader::Keys;
-use reader::Made;
-use reader::build;
+use reader_build::Made;
 
 pub fn kind_of(name: &[u8]) -> Kind {
     if same(name, b"tam1") {
@@ -109,16 +108,16 @@ fn challenge(mutual: bool, line: &[u8], room: &mut [u8]) -> Made {
         return out_of_range();
     }
     if mutual {
-        return build::mam1(small(line, 2), ichallenge, room);
+        return reader_build::mam1(small(line, 2), ichallenge, room);
     }
-    build::tam1(small(line, 2), ichallenge, room)
+    reader_build::tam1(small(line, 2), ichallenge, room)
 }
 
 fn iam1(line: &[u8], room: &mut [u8]) -> Made {
     if 255 < number(line, 2) {
         return out_of_range();
     }
-    build::iam1(small(line, 2), room)
+    reader_build::iam1(small(line, 2), room)
 }
 
 fn tam2(keys: Keys, line: &[u8], room: &mut [u8]) -> Made {
@@ -138,7 +137,7 @@ fn tam2(keys: Keys, line: &[u8], room: &mut [u8]) -> Made {
     let rev = number(line, 3) == 1;
     let keyid = small(line, 4);
     let protmode = small(line, 9);
-    build::tam2(
+    reader_build::tam2(
         keys,
         keyid,
         ichallenge,
@@ -176,7 +175,7 @@ fn iam2(keys: Keys, line: &[u8], room: &mut [u8]) -> Made {
     if !fill(line, 4, &mut tchallenge) {
         return out_of_range();
     }
-    build::iam2(keys, small(line, 2), irnd, tchallenge, room)
+    reader_build::iam2(keys, small(line, 2), irnd, tchallenge, room)
 }
 
 fn mam2(keys: Keys, line: &[u8], room: &mut [u8]) -> Made {
@@ -188,7 +187,7 @@ fn mam2(keys: Keys, line: &[u8], room: &mut [u8]) -> Made {
     if !fill(line, 4, &mut tchallenge) {
         return out_of_range();
     }
-    build::mam2(keys, small(line, 2), ichallenge, tchallenge, room)
+    reader_build::mam2(keys, small(line, 2), ichallenge, tchallenge, room)
 }
 
 fn iam3(keys: Keys, line: &[u8], room: &mut [u8]) -> Made {
@@ -207,7 +206,7 @@ fn iam3(keys: Keys, line: &[u8], room: &mut [u8]) -> Made {
     let n = within(fields::bytes(line, 10, &mut words), &words);
     let protmode = small(line, 6);
     let purpose = small(line, 7);
-    build::iam3(
+    reader_build::iam3(
         keys,
         custom(line, 2, 3),
         protmode,

@@ -1,4 +1,5 @@
--- What the checker knows of an array of bytes that is a parameter, or that a call returned: its length, and that its elements are bytes.
+-- What the checker knows of an array of bytes that is a parameter, or that a call returned: its length, and that its
+-- elements are bytes.
 use mathlib.Core.Path.{_≡_}
 use mathlib.Core.List.{List}
 use Prim.Native.Nat.{ℕ}

@@ -1,4 +1,5 @@
--- Blocks: sixteen bytes. A block is what stands at its places; the exclusive or of two blocks is a block, and undoes itself.
+-- Blocks: sixteen bytes. A block is what stands at its places; the exclusive or of two blocks is a block, and undoes
+-- itself.
 use mathlib.Core.Path.{_≡_, refl, sym, ap, _∙_}
 use mathlib.Core.List.{List, _∷_}
 use Prim.Native.Nat.{ℕ, zero, suc, _+_, _<_, _≤_}
@@ -36,7 +37,8 @@ block-same f g h = λ j. block (λ i. h i j)
 part-from : (s : List ℕ) (n i : ℕ) → i + n ≤ length s → tabulatedFrom (λ k. getD s k 0) i n ≡ take n (drop i s)
 part-from s zero i h = refl
 part-from s (suc n) i h =
-    ap {B = List ℕ} (λ l. getD s i 0 ∷ l) (part-from s n (suc i) (omega arith)) ∙ ap {B = List ℕ} (take (suc n)) (sym (drop-cons s i 0 (omega arith)))
+    ap {B = List ℕ} (λ l. getD s i 0 ∷ l) (part-from s n (suc i) (omega arith))
+    ∙ ap {B = List ℕ} (take (suc n)) (sym (drop-cons s i 0 (omega arith)))
 
 -- the first block of a list that has one
 pub first-block-is : (s : List ℕ) → 16 ≤ length s → firstBlock s ≡ take 16 s
@@ -53,10 +55,13 @@ xor-is-block a b ha hb = block-of (λ i. bitXor (getD a i 0) (getD b i 0)) (λ i
 
 pub xor-undone : (a b : List ℕ) → length a ≡ 16 → xor (xor a b) b ≡ a
 unfolding xor
-xor-undone a b e = block-same (λ i. bitXor (bitXor (getD a i 0) (getD b i 0)) (getD b i 0)) (λ i. getD a i 0) (λ i. xor-twice (getD a i 0) (getD b i 0)) ∙ whole a e
+xor-undone a b e = block-same (λ i. bitXor (bitXor (getD a i 0) (getD b i 0)) (getD b i 0)) (λ i. getD a i 0)
+    (λ i. xor-twice (getD a i 0) (getD b i 0)) ∙ whole a e
 
 -- through the table of f each byte becomes its f
-pub substituted-by : (f : ℕ → ℕ) (t s : List ℕ) → t ≡ tabulated f 256 → Bytes s → substituted t s ≡ block (λ i. f (getD s i 0))
+pub substituted-by : (f : ℕ → ℕ) (t s : List ℕ) → t ≡ tabulated f 256 → Bytes s
+    → substituted t s ≡ block (λ i. f (getD s i 0))
 unfolding substituted
 substituted-by f t s e h =
-    block-same (λ i. getD t (getD s i 0) 0) (λ i. f (getD s i 0)) (λ i. ap (λ (l : List ℕ). getD l (getD s i 0) 0) e ∙ entry-at 0 f 256 (getD s i 0) (h i))
+    block-same (λ i. getD t (getD s i 0) 0) (λ i. f (getD s i 0))
+    (λ i. ap (λ (l : List ℕ). getD l (getD s i 0) 0) e ∙ entry-at 0 f 256 (getD s i 0) (h i))

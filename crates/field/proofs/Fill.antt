@@ -29,11 +29,13 @@ module _ (f : ℕ → ℕ) (n : ℕ) where
     omega arith,
     length-set t i v ∙ inv .1,
     λ k lt. ⊎-elim
-        (λ (q : k ≡ i). subst (λ (j : ℕ). getD (set t i v) j 0 ≡ f j) (sym q) (getD-set-same t i v 0 (omega (arith, inv .1)) ∙ e))
+        (λ (q : k ≡ i). subst (λ (j : ℕ). getD (set t i v) j 0 ≡ f j) (sym q)
+        (getD-set-same t i v 0 (omega (arith, inv .1)) ∙ e))
         (λ (l : k < i). getD-set-other t i k v 0 (λ q. (let z : ⊥ = omega arith in z)) ∙ inv .2 k l)
         (eq-or-lt-of-le (let z : k ≤ i = omega arith in z)),
   )
 
   pub filled : (t : List ℕ) (i : ℕ) → n ≤ i → Filled t i → t ≡ tabulated f n
   filled t i h inv =
-      ext-getD 0 t (tabulated f n) (inv .1 ∙ sym (length-tabulated f n)) (λ k lt. inv .2 k (omega (arith, inv .1)) ∙ sym (entry-at 0 f n k (omega (arith, inv .1))))
+      ext-getD 0 t (tabulated f n) (inv .1 ∙ sym (length-tabulated f n))
+      (λ k lt. inv .2 k (omega (arith, inv .1)) ∙ sym (entry-at 0 f n k (omega (arith, inv .1))))

@@ -1,31 +1,43 @@
--- `inverse` is the inverse of the field: a byte, whose product with b is 1; and that of 0 is 0. And what follows of the S-box.
-use mathlib.Core.Path.{_≡_, refl}
+-- `inverse` is the inverse of the field: a byte, whose product with b is 1; and that of 0 is 0. And what follows of the
+-- S-box.
+use mathlib.Core.Path.{_≡_, refl, sym, ap, _∙_}
 use Prim.Native.Nat.{ℕ, _+_, _*_, _/_, _<_, min}
 use native.Mathlib.Omega.{arith}
 use lib.ListN.{getD}
-use Rattle.field.specs.Field.{inverse, productOfSquares, times, remainder, polynomialProduct}
+use Rattle.field.specs.Field.{inverse, times, remainder, polynomialProduct}
 use Rattle.field.specs.Sbox.{sbox, sboxTable, affine, affineBit, bit, fromBits}
-use Rattle.field.proofs.Table.{same-at, entry-at}
+use Rattle.field.specs.Block.{tabulated}
+use Rattle.field.proofs.Table.{same-at, same-table, entry-at}
+use Rattle.field.proofs.Inverses.{inverses, inverse-is}
 
--- one test over the bytes for two laws: the product is 1, or 0 for 0, and the inverse is a byte
-inverse-test : (b : ℕ) → b < 256 → times b (inverse b) + 2 * (inverse b / 256) ≡ min b 1
-unfolding times remainder polynomialProduct inverse productOfSquares
-inverse-test = same-at (λ b. let y = inverse b in times b y + 2 * (y / 256)) (λ b. min b 1) 256 refl
+-- three tests over the entries: the product with the byte is 1, or 0 for 0; each is a byte; and its entry is the byte
+-- again
+right-test : (b : ℕ) → b < 256 → times b (getD inverses b 0) ≡ min b 1
+unfolding inverses times remainder polynomialProduct
+right-test = same-at (λ b. times b (getD inverses b 0)) (λ b. min b 1) 256 refl
+
+byte-test : (b : ℕ) → b < 256 → getD inverses b 0 / 256 ≡ 0
+unfolding inverses
+byte-test = same-at (λ b. getD inverses b 0 / 256) (λ b. 0) 256 refl
+
+twice-test : (b : ℕ) → b < 256 → getD inverses (getD inverses b 0) 0 ≡ b
+unfolding inverses
+twice-test = same-at (λ b. getD inverses (getD inverses b 0) 0) (λ b. b) 256 refl
 
 pub inverse-byte : (b : ℕ) → b < 256 → inverse b < 256
-inverse-byte b h = omega (arith, inverse-test b h)
+inverse-byte b h = omega (arith, inverse-is b h, byte-test b h)
 
 -- the product with the inverse is 1, and 0 for 0
 pub inverse-right : (b : ℕ) → b < 256 → times b (inverse b) ≡ min b 1
-inverse-right b h = omega (arith, inverse-test b h)
+inverse-right b h = ap (times b) (inverse-is b h) ∙ right-test b h
 
 pub inverse-zero : inverse 0 ≡ 0
-unfolding times remainder polynomialProduct inverse productOfSquares
-inverse-zero = refl
+unfolding inverses
+inverse-zero = inverse-is 0 (omega arith)
 
 pub inverse-twice : (b : ℕ) → b < 256 → inverse (inverse b) ≡ b
-unfolding times remainder polynomialProduct inverse productOfSquares
-inverse-twice = same-at (λ b. inverse (inverse b)) (λ b. b) 256 refl
+inverse-twice b h = inverse-is (inverse b) (inverse-byte b h) ∙ ap (λ (x : ℕ). getD inverses x 0) (inverse-is b h)
+    ∙ twice-test b h
 
 affine-byte : (b : ℕ) → b < 256 → affine b / 256 ≡ 0
 unfolding affine affineBit bit fromBits
@@ -39,3 +51,8 @@ sbox-byte b h = omega (arith, affine-byte (inverse b) (inverse-byte b h))
 pub sbox-entry : (b : ℕ) → b < 256 → getD sboxTable b 0 ≡ sbox b
 unfolding sboxTable
 sbox-entry b h = entry-at 0 sbox 256 b h
+
+-- the whole table, from the inverses
+pub sbox-listed : tabulated (λ b. affine (getD inverses b 0)) 256 ≡ sboxTable
+unfolding sboxTable sbox
+sbox-listed = same-table (λ b. affine (getD inverses b 0)) sbox 256 (λ b h. ap affine (sym (inverse-is b h)))

@@ -2,6 +2,7 @@ pub mod Table
 pub mod Fill
 pub mod Sum
 pub mod Product
+pub mod Inverses
 pub mod Inverse
 pub mod Block
 pub mod Arrays

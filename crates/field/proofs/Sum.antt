@@ -17,8 +17,12 @@ digit a = mod-lt a (zero-lt-suc 1)
 digit-assoc : (x y z : ℕ) → x < 2 → y < 2 → z < 2 → differ (bitXor x y) z ≡ differ x (bitXor y z)
 digit-assoc x y z hx hy hz =
     on-digits (λ x. differ (bitXor x y) z ≡ differ x (bitXor y z))
-    (on-digits (λ y. differ (bitXor 0 y) z ≡ differ 0 (bitXor y z)) (on-digits (λ z. differ (bitXor 0 0) z ≡ differ 0 (bitXor 0 z)) refl refl z hz) (on-digits (λ z. differ (bitXor 0 1) z ≡ differ 0 (bitXor 1 z)) refl refl z hz) y hy)
-    (on-digits (λ y. differ (bitXor 1 y) z ≡ differ 1 (bitXor y z)) (on-digits (λ z. differ (bitXor 1 0) z ≡ differ 1 (bitXor 0 z)) refl refl z hz) (on-digits (λ z. differ (bitXor 1 1) z ≡ differ 1 (bitXor 1 z)) refl refl z hz) y hy)
+    (on-digits (λ y. differ (bitXor 0 y) z ≡ differ 0 (bitXor y z))
+    (on-digits (λ z. differ (bitXor 0 0) z ≡ differ 0 (bitXor 0 z)) refl refl z hz)
+    (on-digits (λ z. differ (bitXor 0 1) z ≡ differ 0 (bitXor 1 z)) refl refl z hz) y hy)
+    (on-digits (λ y. differ (bitXor 1 y) z ≡ differ 1 (bitXor y z))
+    (on-digits (λ z. differ (bitXor 1 0) z ≡ differ 1 (bitXor 0 z)) refl refl z hz)
+    (on-digits (λ z. differ (bitXor 1 1) z ≡ differ 1 (bitXor 1 z)) refl refl z hz) y hy)
     x hx
 
 pub xor-assoc : (a b c : ℕ) → bitXor (bitXor a b) c ≡ bitXor a (bitXor b c)
@@ -27,7 +31,8 @@ xor-assoc a =
     (λ n ih b c.
     xor-step (bitXor n b) c
     ∙ ap₂ (λ (x y : ℕ). bitXor x (c / 2) * 2 + differ y (c % 2)) (xor-shr n b 1) (xor-mod n b 1)
-    ∙ ap₂ (λ (x y : ℕ). x * 2 + y) (ih (b / 2) (c / 2)) (digit-assoc (n % 2) (b % 2) (c % 2) (digit n) (digit b) (digit c))
+    ∙ ap₂ (λ (x y : ℕ). x * 2 + y) (ih (b / 2) (c / 2))
+    (digit-assoc (n % 2) (b % 2) (c % 2) (digit n) (digit b) (digit c))
     ∙ sym (ap₂ (λ (x y : ℕ). bitXor (n / 2) x * 2 + differ (n % 2) y) (xor-shr b c 1) (xor-mod b c 1))
     ∙ sym (xor-step n (bitXor b c)))
     a

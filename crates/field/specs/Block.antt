@@ -1,4 +1,5 @@
--- A block of sixteen bytes: the state of FIPS 197 section 3.4, byte r + 4c at row r and column c, and a block of the modes.
+-- A block of sixteen bytes: the state of FIPS 197 section 3.4, byte r + 4c at row r and column c, and a block of the
+-- modes.
 use Prim.Native.Nat.{ℕ, zero, suc}
 use mathlib.Core.List.{List, [], _∷_}
 use lib.ListN.{getD}

@@ -15,7 +15,8 @@ fromBits f i (suc n) = f i * 2 ^ i + fromBits f (suc i) n
 
 -- Bit i of the affine map: the sum of five bits of b and of bit i of 0x63.
 unfoldable pub affineBit : ℕ → ℕ → ℕ
-affineBit b i = (bit b i + bit b ((i + 4) % 8) + bit b ((i + 5) % 8) + bit b ((i + 6) % 8) + bit b ((i + 7) % 8) + bit 0x63 i) % 2
+affineBit b i = (bit b i + bit b ((i + 4) % 8) + bit b ((i + 5) % 8) + bit b ((i + 6) % 8) + bit b
+    ((i + 7) % 8) + bit 0x63 i) % 2
 
 unfoldable pub affine : ℕ → ℕ
 affine b = fromBits (affineBit b) 0 8

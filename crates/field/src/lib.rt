@@ -1,4 +1,5 @@
-// The field of 256 elements and blocks of sixteen bytes: what both ways of the cipher share (FIPS 197, sections 3 and 4), with the S-box (5.1.1).
+// The field of 256 elements and blocks of sixteen bytes: what both ways of the cipher share (FIPS 197, sections 3 and
+// 4), with the S-box (5.1.1).
 ghost use mathlib.Core.Path.{_≡_};
 ghost use Rattle.field.specs.Field.{times};
 ghost use Rattle.field.specs.Sbox.{sboxTable};
@@ -23,7 +24,8 @@ const SBOX: [u8; 256] = *b"\
     \xe1\xf8\x98\x11\x69\xd9\x8e\x94\x9b\x1e\x87\xe9\xce\x55\x28\xdf\
     \x8c\xa1\x89\x0d\xbf\xe6\x42\x68\x41\x99\x2d\x0f\xb0\x54\xbb\x16";
 
-// The S-box as a table (5.1.1). It is handed out by value: a caller keeps it for a whole block, and looks entries up in its copy.
+// The S-box as a table (5.1.1). It is handed out by value: a caller keeps it for a whole block, and looks entries up in
+// its copy.
 // Ruled out: a table with one wrong entry; the inverse table.
 pub fn sbox_table() -> [u8; 256]
     ensures { λ r. ⌜ r ≡ sboxTable ⌝ }

@@ -1,4 +1,5 @@
--- Checks one after the other: the first that does not hold decides. This is how the clauses, and the scope paper's "Order", are written.
+-- Checks one after the other: the first that does not hold decides. This is how the clauses, and the scope paper's
+-- "Order", are written.
 use mathlib.Core.Bool.{Bool}
 use mathlib.Core.List.{List, [], _∷_}
 use Rattle.ground.specs.Choice.{pick}

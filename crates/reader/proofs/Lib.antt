@@ -1,11 +1,1 @@
-pub mod Lines
-pub mod Places
-pub mod Judging
-pub mod Arms
-pub mod Clear
-pub mod FitsJudged
-pub mod Making
-pub mod FitsBuild
-pub mod Responses
-pub mod Sending
-pub mod Iam3Made
+pub mod Fits

@@ -1,7 +1,8 @@
 -- The scope paper's number of each refusal of the reader's side.
 use Prim.Native.Nat.{ℕ}
 use Rattle.reader.specs.declared.Fault.{Fault}
-use Rattle.reader.specs.declared.Fault.the-variants.{ReplyLength, ChallengeWrong, MacWrong, HeaderWrong, OwnMessage}
+use Rattle.reader.specs.declared.Fault.the-variants.{ReplyLength, ChallengeWrong, MacWrong, HeaderWrong}
+use Rattle.reader.specs.declared.Fault.the-variants.{OwnMessage}
 
 abbrev pub numberOf : Fault → ℕ
 numberOf ReplyLength = 20

@@ -18,7 +18,8 @@ ghost use Rattle.reader.specs.Own.{modeFits, fieldsFit, ownFits};
 /// The bytes that a data room has at least.
 const ROOM: usize = 144;
 
-/// Is the ProtMode one that the reader can judge? Ruled out: ProtMode 4 taken; ProtMode 2 taken without a key for the MAC.
+/// Is the ProtMode one that the reader can judge? Ruled out: ProtMode 4 taken; ProtMode 2 taken without a key for the
+/// MAC.
 pub fn mode_fits(keys: Keys, protmode: u8) -> bool
     ensures { λ r. ⌜ r ≡ modeFits keys protmode ⌝ }
 {
@@ -80,7 +81,8 @@ fn fields_fit(keys: Keys, kind: Kind, m: &[u8]) -> bool
     }
 }
 
-/// The data room has room, and the message is one of the table. Ruled out: a room of exactly 144 bytes refused; RFU bits that are not looked at.
+/// The data room has room, and the message is one of the table. Ruled out: a room of exactly 144 bytes refused; RFU
+/// bits that are not looked at.
 pub fn own_fits(keys: Keys, kind: Kind, m: &[u8], room: usize) -> bool
     ensures { λ r. ⌜ r ≡ ownFits keys kind (now (m .entry)) room ⌝ }
 {

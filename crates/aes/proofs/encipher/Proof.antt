@@ -1,4 +1,4 @@
-use mathlib.Core.Path.{_≡_, refl}
+use mathlib.Core.Path.{_≡_, refl, sym, ap, ap₂, _∙_}
 use mathlib.Core.List.{List, []}
 use Prim.Native.Nat.{ℕ, _≤_, _-_, _+_}
 use native.Mathlib.Numerals.{add-one}
@@ -9,7 +9,8 @@ use borrow.Author.Needs.{needs}
 use Rattle.aes.proofs.encipher.Statement.{statement}
 use Rattle.aes.proofs.encipher.Tie as tie
 
-one-round : (w : List (List ℕ)) (s : List ℕ) (i : ℕ) → rounds w s (i + 1) ≡ addRoundKey (mixColumns (shiftRows (subBytes (rounds w s i)))) (getD w (i + 1) [])
+one-round : (w : List (List ℕ)) (s : List ℕ) (i : ℕ)
+    → rounds w s (i + 1) ≡ addRoundKey (mixColumns (shiftRows (subBytes (rounds w s i)))) (getD w (i + 1) [])
 unfolding rounds
 one-round w s i = rw add-one
 
@@ -45,7 +46,14 @@ loop-less : tie.Need-loop-less Inv-loop μ-loop
 loop-less c = search needs
 
 loop-again : tie.Need-loop-again Inv-loop μ-loop
-loop-again c = (search needs, cc (one-round (c .before .before .before .before .before .before .args .t2) (c .before .before .before .before .xor .result) (c .before .before .before .loop .i)))
+loop-again c = let l = c .before .before .before in
+    let w = l .before .before .before .args .t2 in
+    let i = l .loop .i in (
+      search needs,
+      c .round .ensures
+          ∙ ap (λ (s : List ℕ). addRoundKey (mixColumns (shiftRows (subBytes s))) (getD w (i + 1) [])) (l .loop .inv .1)
+          ∙ sym (one-round w (l .before .xor .result) i),
+    )
 
 array-copy-out-last : tie.Need-array-copy-out-last Inv-loop μ-loop
 array-copy-out-last c = search needs
@@ -62,8 +70,14 @@ xor-requires-2 c κs = search needs
 returns : tie.Need-returns Inv-loop μ-loop
 unfolding cipher
 returns c = let l = c .before .before .before .before .before in
+    let a = l .before .before .before .args in
+    let w = a .t2 in
     let e : l .loop .i ≡ 9 = omega arith in
-    cc
+    let nine : l .loop .s ≡ rounds w (addRoundKey (a .block) (getD w 0 [])) 9 = l .loop .inv .1
+    ∙ ap₂ (rounds w) (l .before .xor .ensures) e in
+    c .xor2 .ensures
+    ∙ ap (λ (s : List ℕ). addRoundKey s (getD w 10 []))
+    (c .before .shift-rows .ensures ∙ ap shiftRows (c .before .before .sub-bytes .ensures ∙ ap subBytes nine))
 
 pub encipher-spec : {M : Type 1} → statement M
 encipher-spec =

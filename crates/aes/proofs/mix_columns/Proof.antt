@@ -102,7 +102,28 @@ mix-requires-16 c κs = search needs
 
 returns : tie.Need-returns
 unfolding mixColumns mixedByte
-returns c = λ i. c .before .before .before .before .before .before .before .before .before .before .before .before .before .before .before .mix .ensures i ∷ c .before .before .before .before .before .before .before .before .before .before .before .before .before .before .mix2 .ensures i ∷ c .before .before .before .before .before .before .before .before .before .before .before .before .before .mix3 .ensures i ∷ c .before .before .before .before .before .before .before .before .before .before .before .before .mix4 .ensures i ∷ c .before .before .before .before .before .before .before .before .before .before .before .mix5 .ensures i ∷ c .before .before .before .before .before .before .before .before .before .before .mix6 .ensures i ∷ c .before .before .before .before .before .before .before .before .before .mix7 .ensures i ∷ c .before .before .before .before .before .before .before .before .mix8 .ensures i ∷ c .before .before .before .before .before .before .before .mix9 .ensures i ∷ c .before .before .before .before .before .before .mix10 .ensures i ∷ c .before .before .before .before .before .mix11 .ensures i ∷ c .before .before .before .before .mix12 .ensures i ∷ c .before .before .before .mix13 .ensures i ∷ c .before .before .mix14 .ensures i ∷ c .before .mix15 .ensures i ∷ c .mix16 .ensures i ∷ []
+returns c =
+    let c15 = c .before in
+    let c14 = c15 .before in
+    let c13 = c14 .before in
+    let c12 = c13 .before in
+    let c11 = c12 .before in
+    let c10 = c11 .before in
+    let c9 = c10 .before in
+    let c8 = c9 .before in
+    let c7 = c8 .before in
+    let c6 = c7 .before in
+    let c5 = c6 .before in
+    let c4 = c5 .before in
+    let c3 = c4 .before in
+    let c2 = c3 .before in
+    let c1 = c2 .before in
+    λ i.
+    c1 .mix .ensures i ∷ c2 .mix2 .ensures i ∷ c3 .mix3 .ensures i ∷ c4 .mix4 .ensures i
+    ∷ c5 .mix5 .ensures i ∷ c6 .mix6 .ensures i ∷ c7 .mix7 .ensures i ∷ c8 .mix8 .ensures i
+    ∷ c9 .mix9 .ensures i ∷ c10 .mix10 .ensures i ∷ c11 .mix11 .ensures i ∷ c12 .mix12 .ensures i
+    ∷ c13 .mix13 .ensures i ∷ c14 .mix14 .ensures i ∷ c15 .mix15 .ensures i ∷ c .mix16 .ensures i
+    ∷ []
 
 pub mix-columns-spec : {M : Type 1} → statement M
 mix-columns-spec =

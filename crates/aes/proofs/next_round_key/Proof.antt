@@ -80,7 +80,8 @@ returns : tie.Need-returns
 unfolding nextRoundKey subBytes
 returns c = let a = c .before .args in
     let e = c .sub-bytes .ensures in
-    λ i. added (a .t2) (bitXor (getD (e i) 13 0) (a .c) ∷ plus0 (a .t2) (c .sub-bytes .result) 14 e i ∷ plus0 (a .t2) (c .sub-bytes .result) 15 e i ∷ plus0 (a .t2) (c .sub-bytes .result) 12 e i ∷ [])
+    λ i. added (a .t2) (bitXor (getD (e i) 13 0) (a .c) ∷ plus0 (a .t2) (c .sub-bytes .result) 14 e i
+    ∷ plus0 (a .t2) (c .sub-bytes .result) 15 e i ∷ plus0 (a .t2) (c .sub-bytes .result) 12 e i ∷ [])
 
 pub next-round-key-spec : {M : Type 1} → statement M
 next-round-key-spec =

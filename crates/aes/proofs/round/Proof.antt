@@ -1,3 +1,7 @@
+use mathlib.Core.Path.{ap, _∙_}
+use mathlib.Core.List.{List}
+use Prim.Native.Nat.{ℕ}
+use Rattle.aes.specs.Cipher.{shiftRows, mixColumns, addRoundKey}
 use borrow.Author.Needs.{needs}
 use Rattle.aes.proofs.round.Statement.{statement}
 use Rattle.aes.proofs.round.Tie as tie
@@ -15,7 +19,11 @@ xor-requires : tie.Need-xor-requires
 xor-requires c κs = search needs
 
 returns : tie.Need-returns
-returns c = cc
+returns c = let a = c .before .before .before .before .args in
+    c .xor .ensures
+    ∙ ap (λ (s : List ℕ). addRoundKey s (a .k))
+    (c .before .mix-columns .ensures ∙ ap mixColumns
+    (c .before .before .shift-rows .ensures ∙ ap shiftRows (c .before .before .before .sub-bytes .ensures)))
 
 pub round-spec : {M : Type 1} → statement M
 round-spec =

@@ -48,7 +48,8 @@ loop-again c = let l = c .before in
 
 returns : tie.Need-returns Inv-loop μ-loop
 unfolding shiftRows
-returns c = filled (byte (c .before .before .args .t1)) 16 (c .before .loop .t) (c .before .loop .i) (search needs) (c .before .loop .inv)
+returns c = filled (byte (c .before .before .args .t1)) 16 (c .before .loop .t) (c .before .loop .i) (search needs)
+    (c .before .loop .inv)
 
 pub shift-rows-spec : {M : Type 1} → statement M
 shift-rows-spec =

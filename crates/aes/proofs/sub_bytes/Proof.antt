@@ -13,7 +13,8 @@ substitute-requires c κs = search needs
 returns : tie.Need-returns
 unfolding subBytes sboxTable
 returns c = let a = c .before .args in
-    c .substitute .ensures ∙ substituted-by sbox (a .table .now) (a .s) (c .before .pre) (array-bytes 16 (a .s) _ (c .before .good .1 .0))
+    c .substitute .ensures ∙ substituted-by sbox (a .table .now) (a .s) (c .before .pre)
+    (array-bytes 16 (a .s) _ (c .before .good .1 .0))
 
 pub sub-bytes-spec : {M : Type 1} → statement M
 sub-bytes-spec = tie.close (tie.spec substitute-requires returns)

@@ -1,4 +1,4 @@
-use mathlib.Core.Path.{_≡_, refl}
+use mathlib.Core.Path.{_≡_, refl, sym, ap, _∙_}
 use mathlib.Core.List.{List, []}
 use Prim.Native.Nat.{ℕ, zero, suc, _≤_, _<_, _-_}
 use native.Mathlib.Nat.{not-suc-le-zero}
@@ -11,7 +11,8 @@ use borrow.Author.Needs.{needs}
 use Rattle.aes_inverse.proofs.decipher.Statement.{statement}
 use Rattle.aes_inverse.proofs.decipher.Tie as tie
 
-one-round : (w : List (List ℕ)) (s : List ℕ) (i : ℕ) → 0 < i → invRounds w i s ≡ invRounds w (i - 1) (invMixColumns (addRoundKey (invSubBytes (invShiftRows s)) (getD w i [])))
+one-round : (w : List (List ℕ)) (s : List ℕ) (i : ℕ) → 0 < i
+    → invRounds w i s ≡ invRounds w (i - 1) (invMixColumns (addRoundKey (invSubBytes (invShiftRows s)) (getD w i [])))
 unfolding invRounds
 one-round w s zero h = absurd (not-suc-le-zero h)
 one-round w s (suc i) h = rw sub-one
@@ -51,7 +52,13 @@ loop-less : tie.Need-loop-less Inv-loop μ-loop
 loop-less c = search needs
 
 loop-again : tie.Need-loop-again Inv-loop μ-loop
-loop-again c = (search needs, cc (one-round (c .before .before .before .before .before .before .args .t2) (c .before .before .before .loop .s) (c .before .before .before .loop .i) (search needs)))
+loop-again c = let l = c .before .before .before in
+    let w = l .before .before .before .args .t2 in
+    let i = l .loop .i in (
+      search needs,
+      ap (invRounds w (i - 1)) (c .inv-round .ensures) ∙ sym (one-round w (l .loop .s) i (search needs))
+          ∙ l .loop .inv .1,
+    )
 
 array-copy-out-first : tie.Need-array-copy-out-first Inv-loop μ-loop
 array-copy-out-first c = search needs
@@ -68,8 +75,16 @@ xor-requires-2 c κs = search needs
 returns : tie.Need-returns Inv-loop μ-loop
 unfolding invCipher
 returns c = let l = c .before .before .before .before .before in
+    let a = l .before .before .before .args in
+    let w = a .t2 in
     let e : l .loop .i ≡ 0 = omega arith in
-    cc (no-round (c .before .before .before .before .before .before .before .before .args .t2) (l .loop .s))
+    let nine : l .loop .s ≡ invRounds w 9 (addRoundKey (a .block) (getD w 10 [])) =
+    sym (no-round w (l .loop .s)) ∙ ap (λ (i : ℕ). invRounds w i (l .loop .s)) (sym e) ∙ l .loop .inv .1
+    ∙ ap (invRounds w 9) (l .before .xor .ensures) in
+    c .xor2 .ensures
+    ∙ ap (λ (s : List ℕ). addRoundKey s (getD w 0 []))
+    (c .before .inv-sub-bytes .ensures ∙ ap invSubBytes
+    (c .before .before .inv-shift-rows .ensures ∙ ap invShiftRows nine))
 
 pub decipher-spec : {M : Type 1} → statement M
 decipher-spec =

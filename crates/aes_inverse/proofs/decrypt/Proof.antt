@@ -1,3 +1,7 @@
+use mathlib.Core.Path.{ap, _∙_}
+use mathlib.Core.List.{List}
+use Prim.Native.Nat.{ℕ}
+use Rattle.aes_inverse.specs.InvCipher.{invCipher}
 use Rattle.aes_inverse.specs.AesDec.{aesDec}
 use borrow.Author.Needs.{needs}
 use Rattle.aes_inverse.proofs.decrypt.Statement.{statement}
@@ -14,7 +18,8 @@ decipher-requires c κs = search needs
 
 returns : tie.Need-returns
 unfolding aesDec
-returns c = cc
+returns c = c .decipher .ensures ∙ ap (λ (w : List (List ℕ)). invCipher w
+    (c .before .before .before .before .args .block)) (c .before .key-expansion .ensures)
 
 pub decrypt-spec : {M : Type 1} → statement M
 decrypt-spec =

@@ -136,10 +136,22 @@ unfolding mixColumns mixedByte invMixColumns unmixedByte
 returns c = let s = c .before .before .before .before .before .before .before .before .before .args .t1 in
     let h = array-bytes 16 s _ (c .before .before .before .before .before .before .before .before .before .good .0) in
     c .mix-columns .ensures
-    ∙ unmixed-column (getD s 0 0) (getD s 1 0) (getD s 2 0) (getD s 3 0) (c .before .before .before .before .before .before .before .before .times4 .result) (c .before .before .before .before .before .before .before .times42 .result) _ _ (h 0) (h 1) (h 2) (h 3) (c .before .before .before .before .before .before .before .before .times4 .ensures) (c .before .before .before .before .before .before .before .times42 .ensures)
-    (unmixed-column (getD s 4 0) (getD s 5 0) (getD s 6 0) (getD s 7 0) (c .before .before .before .before .before .before .times43 .result) (c .before .before .before .before .before .times44 .result) _ _ (h 4) (h 5) (h 6) (h 7) (c .before .before .before .before .before .before .times43 .ensures) (c .before .before .before .before .before .times44 .ensures)
-    (unmixed-column (getD s 8 0) (getD s 9 0) (getD s 10 0) (getD s 11 0) (c .before .before .before .before .times45 .result) (c .before .before .before .times46 .result) _ _ (h 8) (h 9) (h 10) (h 11) (c .before .before .before .before .times45 .ensures) (c .before .before .before .times46 .ensures)
-    (unmixed-column (getD s 12 0) (getD s 13 0) (getD s 14 0) (getD s 15 0) (c .before .before .times47 .result) (c .before .times48 .result) _ _ (h 12) (h 13) (h 14) (h 15) (c .before .before .times47 .ensures) (c .before .times48 .ensures)
+    ∙ unmixed-column (getD s 0 0) (getD s 1 0) (getD s 2 0) (getD s 3 0)
+    (c .before .before .before .before .before .before .before .before .times4 .result)
+    (c .before .before .before .before .before .before .before .times42 .result) _ _ (h 0) (h 1) (h 2) (h 3)
+    (c .before .before .before .before .before .before .before .before .times4 .ensures)
+    (c .before .before .before .before .before .before .before .times42 .ensures)
+    (unmixed-column (getD s 4 0) (getD s 5 0) (getD s 6 0) (getD s 7 0)
+    (c .before .before .before .before .before .before .times43 .result)
+    (c .before .before .before .before .before .times44 .result) _ _ (h 4) (h 5) (h 6) (h 7)
+    (c .before .before .before .before .before .before .times43 .ensures)
+    (c .before .before .before .before .before .times44 .ensures)
+    (unmixed-column (getD s 8 0) (getD s 9 0) (getD s 10 0) (getD s 11 0)
+    (c .before .before .before .before .times45 .result) (c .before .before .before .times46 .result) _ _ (h 8) (h 9)
+    (h 10) (h 11) (c .before .before .before .before .times45 .ensures) (c .before .before .before .times46 .ensures)
+    (unmixed-column (getD s 12 0) (getD s 13 0) (getD s 14 0) (getD s 15 0) (c .before .before .times47 .result)
+    (c .before .times48 .result) _ _ (h 12) (h 13) (h 14) (h 15) (c .before .before .times47 .ensures)
+    (c .before .times48 .ensures)
     (refl))))
 
 pub inv-mix-columns-spec : {M : Type 1} → statement M

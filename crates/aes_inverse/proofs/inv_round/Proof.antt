@@ -1,3 +1,8 @@
+use mathlib.Core.Path.{ap, _∙_}
+use mathlib.Core.List.{List}
+use Prim.Native.Nat.{ℕ}
+use Rattle.aes.specs.Cipher.{addRoundKey}
+use Rattle.aes_inverse.specs.InvCipher.{invSubBytes, invMixColumns}
 use borrow.Author.Needs.{needs}
 use Rattle.aes_inverse.proofs.inv_round.Statement.{statement}
 use Rattle.aes_inverse.proofs.inv_round.Tie as tie
@@ -15,7 +20,12 @@ inv-mix-columns-requires : tie.Need-inv-mix-columns-requires
 inv-mix-columns-requires c κs = search needs
 
 returns : tie.Need-returns
-returns c = cc
+returns c = let a = c .before .before .before .before .args in
+    c .inv-mix-columns .ensures
+    ∙ ap invMixColumns
+    (c .before .xor .ensures
+    ∙ ap (λ (s : List ℕ). addRoundKey s (a .k))
+    (c .before .before .inv-sub-bytes .ensures ∙ ap invSubBytes (c .before .before .before .inv-shift-rows .ensures)))
 
 pub inv-round-spec : {M : Type 1} → statement M
 inv-round-spec =

@@ -52,7 +52,8 @@ loop-again c = let l = c .before in
 
 returns : tie.Need-returns Inv-loop μ-loop
 unfolding invShiftRows
-returns c = filled (byte (c .before .before .args .t1)) 16 (c .before .loop .t) (c .before .loop .i) (search needs) (c .before .loop .inv)
+returns c = filled (byte (c .before .before .args .t1)) 16 (c .before .loop .t) (c .before .loop .i) (search needs)
+    (c .before .loop .inv)
 
 pub inv-shift-rows-spec : {M : Type 1} → statement M
 inv-shift-rows-spec =

@@ -13,7 +13,8 @@ substitute-requires c κs = search needs
 returns : tie.Need-returns
 unfolding invSubBytes invSboxTable
 returns c = let a = c .before .args in
-    c .substitute .ensures ∙ substituted-by invSbox (a .table .now) (a .s) (c .before .pre) (array-bytes 16 (a .s) _ (c .before .good .1 .0))
+    c .substitute .ensures ∙ substituted-by invSbox (a .table .now) (a .s) (c .before .pre)
+    (array-bytes 16 (a .s) _ (c .before .good .1 .0))
 
 pub inv-sub-bytes-spec : {M : Type 1} → statement M
 inv-sub-bytes-spec = tie.close (tie.spec substitute-requires returns)

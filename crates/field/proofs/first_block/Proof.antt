@@ -35,11 +35,13 @@ loop-less c = search needs
 
 loop-again : tie.Need-loop-again Inv-loop μ-loop
 loop-again c = let l = c .before .before in
-    one-more (byte (l .before .before .args .s .now)) 16 (l .loop .r) (l .loop .i) (c .byte-at .result) (search needs) (c .byte-at .ensures) (l .loop .inv)
+    one-more (byte (l .before .before .args .s .now)) 16 (l .loop .r) (l .loop .i) (c .byte-at .result) (search needs)
+    (c .byte-at .ensures) (l .loop .inv)
 
 returns : tie.Need-returns Inv-loop μ-loop
 unfolding firstBlock
-returns c = filled (byte (c .before .before .before .args .s .now)) 16 (c .before .loop .r) (c .before .loop .i) (search needs) (c .before .loop .inv)
+returns c = filled (byte (c .before .before .before .args .s .now)) 16 (c .before .loop .r) (c .before .loop .i)
+    (search needs) (c .before .loop .inv)
 
 pub first-block-spec : {M : Type 1} → statement M
 first-block-spec =

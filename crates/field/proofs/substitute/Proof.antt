@@ -38,11 +38,13 @@ loop-less c = search needs
 
 loop-again : tie.Need-loop-again Inv-loop μ-loop
 loop-again c = let l = c .before .before in
-    one-more (byte (l .before .args .table .now) (l .before .args .t2)) 16 (l .loop .r) (l .loop .i) (c .entry .result) (search needs) (c .entry .ensures) (l .loop .inv)
+    one-more (byte (l .before .args .table .now) (l .before .args .t2)) 16 (l .loop .r) (l .loop .i) (c .entry .result)
+    (search needs) (c .entry .ensures) (l .loop .inv)
 
 returns : tie.Need-returns Inv-loop μ-loop
 unfolding substituted
-returns c = filled (byte (c .before .before .args .table .now) (c .before .before .args .t2)) 16 (c .before .loop .r) (c .before .loop .i) (search needs) (c .before .loop .inv)
+returns c = filled (byte (c .before .before .args .table .now) (c .before .before .args .t2)) 16 (c .before .loop .r)
+    (c .before .loop .i) (search needs) (c .before .loop .inv)
 
 pub substitute-spec : {M : Type 1} → statement M
 substitute-spec =

@@ -39,11 +39,13 @@ loop-less c = search needs
 
 loop-again : tie.Need-loop-again Inv-loop μ-loop
 loop-again c = let l = c .before in
-    one-more (byte (l .before .args .t1) (l .before .args .t2)) 16 (l .loop .r) (l .loop .i) _ (search needs) refl (l .loop .inv)
+    one-more (byte (l .before .args .t1) (l .before .args .t2)) 16 (l .loop .r) (l .loop .i) _ (search needs) refl
+    (l .loop .inv)
 
 returns : tie.Need-returns Inv-loop μ-loop
 unfolding xor
-returns c = filled (byte (c .before .before .args .t1) (c .before .before .args .t2)) 16 (c .before .loop .r) (c .before .loop .i) (search needs) (c .before .loop .inv)
+returns c = filled (byte (c .before .before .args .t1) (c .before .before .args .t2)) 16 (c .before .loop .r)
+    (c .before .loop .i) (search needs) (c .before .loop .inv)
 
 pub xor-spec : {M : Type 1} → statement M
 xor-spec =

@@ -1,5 +1,5 @@
 -- `build::roualint_build_mam2` meets its contract.
-use Rattle.reader.proofs.Making.{yes, no}
+use Rattle.ground.proofs.Told.{yes, no}
 use Rattle.capi.proofs.Answers.{not-given, built-given}
 use borrow.Author.Needs.{needs}
 use Rattle.capi.proofs.build.roualint_build_mam2.Statement.{statement}

@@ -1,5 +1,5 @@
 -- `judge::roualint_judge` meets its contract.
-use Rattle.reader.proofs.Making.{yes, no}
+use Rattle.ground.proofs.Told.{yes, no}
 use Rattle.capi.proofs.Answers.{no-mac, judged}
 use borrow.Author.Needs.{needs}
 use Rattle.capi.proofs.judge.roualint_judge.Statement.{statement}

@@ -1,7 +1,7 @@
 -- `reader::own::mode_fits` meets its contract.
 use borrow.Author.Tests.{le-leb, lt-leb}
 use Rattle.reader.specs.Own.{modeFits}
-use Rattle.reader.proofs.Lines.{yes, no}
+use Rattle.ground.proofs.Told.{yes, no}
 use borrow.Author.Needs.{needs}
 use Rattle.reader.proofs.own.mode_fits.Statement.{statement}
 use Rattle.reader.proofs.own.mode_fits.Tie as tie

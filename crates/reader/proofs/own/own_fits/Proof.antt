@@ -1,7 +1,7 @@
 -- `reader::own::own_fits` meets its contract.
 use borrow.Author.Tests.{le-leb, lt-leb}
 use Rattle.reader.specs.Own.{ownFits}
-use Rattle.reader.proofs.Lines.{yes, no}
+use Rattle.ground.proofs.Told.{yes, no}
 use borrow.Author.Needs.{needs}
 use Rattle.reader.proofs.own.own_fits.Statement.{statement}
 use Rattle.reader.proofs.own.own_fits.Tie as tie
@@ -22,7 +22,11 @@ fields-fit-requires c κs = search needs
 
 returns-3 : tie.Need-returns-3
 unfolding ownFits
-returns-3 c = rw (le-leb _ _ (c .before .before .before .if1 .left), yes (c .before .before .length-fits .ensures) (c .before .if2 .left)) (c .fields-fit .ensures)
+returns-3 c = rw (
+  le-leb _ _ (c .before .before .before .if1 .left),
+  yes (c .before .before .length-fits .ensures)
+      (c .before .if2 .left),
+) (c .fields-fit .ensures)
 
 pub own-fits-spec : {M : Type 1} → statement M
 own-fits-spec =

@@ -1,0 +1,5 @@
+pub mod Places
+pub mod Judging
+pub mod Arms
+pub mod Clear
+pub mod Fits
