@@ -1,6 +1,5 @@
 // Standard input, line by line.
-use crate::commands;
-use crate::commands::Desk;
+use commands::Desk;
 use console::answer;
 use console::words::before_comment;
 use console::words::count;

@@ -1,5 +1,6 @@
-// Which command a line is.
-use crate::explain;
+// The bench's commands: which one a line is, and what is kept from one to the next.
+mod explain; // explain.rt: what each number means
+
 use console::fields;
 use console::words::word;
 use lines::print;
