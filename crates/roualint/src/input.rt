@@ -1,16 +1,16 @@
 // Standard input, line by line.
-use crate::commands;
+use commands::Desk;
 use console::answer;
 use console::words::before_comment;
 use console::words::count;
-use desk::Desk;
 use libc::STDIN_FILENO;
 use lines::print;
 
-// How much of a line there is, and whether it has more than its room.
+// How much of a line there is, whether it has more than its room, and whether it is shown before its answer.
 struct Line {
     n: usize,
     cut: bool,
+    shown: bool,
 }
 
 // A proved loop has to end, and nothing says that the input does. No input has as many parts.
@@ -24,11 +24,24 @@ pub fn lines() {
     last(h, &line, &mut identity, &mut user);
 }
 
+// A script, each line of it shown before its answer.
+pub fn script(text: &[u8]) {
+    let mut line = io::large_buffer();
+    let mut identity = io::buffer();
+    let mut user = io::buffer();
+    let begun = Heard {
+        desk: commands::empty(),
+        line: fresh(true),
+        over: false,
+    };
+    fed(begun, text, &mut line, &mut identity, &mut user);
+}
+
 // The whole input, and each line of it that has an end.
 fn whole(line: &mut [u8], identity: &mut [u8], user: &mut [u8]) -> Heard {
     let mut h = Heard {
-        desk: desk::empty(),
-        line: fresh(),
+        desk: commands::empty(),
+        line: fresh(false),
         over: false,
     };
     let mut left = PARTS;
@@ -74,8 +87,12 @@ fn at_end(h: Heard) -> Heard {
     }
 }
 
-fn fresh() -> Line {
-    Line { n: 0, cut: false }
+fn fresh(shown: bool) -> Line {
+    Line {
+        n: 0,
+        cut: false,
+        shown,
+    }
 }
 
 fn fed(h: Heard, part: &[u8], line: &mut [u8], identity: &mut [u8], user: &mut [u8]) -> Heard {
@@ -90,7 +107,7 @@ fn fed(h: Heard, part: &[u8], line: &mut [u8], identity: &mut [u8], user: &mut [
             continue;
         }
         d = ended(d, l, line, identity, user);
-        l = fresh();
+        l = fresh(l.shown);
     }
     Heard {
         desk: d,
@@ -106,9 +123,14 @@ fn longer(l: Line, c: u8, line: &mut [u8]) -> Line {
         return Line {
             n: n + 1,
             cut: l.cut,
+            shown: l.shown,
         };
     }
-    Line { n, cut: true }
+    Line {
+        n,
+        cut: true,
+        shown: l.shown,
+    }
 }
 
 // The last line may have no end.
@@ -124,7 +146,19 @@ fn ended(d: Desk, l: Line, line: &[u8], identity: &mut [u8], user: &mut [u8]) ->
         return d;
     }
     let n = answer::within(l.n, line);
+    if l.shown {
+        show(&line[..n]);
+    }
     told(d, before_comment(&line[..n]), identity, user)
+}
+
+// A line as one types it, behind a mark where it is a command.
+fn show(line: &[u8]) {
+    if count(before_comment(line)) != 0 {
+        print::text(b"> ");
+    }
+    print::text(line);
+    print::text(b"\n");
 }
 
 fn told(d: Desk, line: &[u8], identity: &mut [u8], user: &mut [u8]) -> Desk {

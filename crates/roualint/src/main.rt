@@ -1,7 +1,6 @@
 // The bench on the command line. Without an argument it reads commands from standard input, one a line, and answers each with
 // one line; with the argument `demo` it plays one exchange of each kind.
-mod commands; // commands.rt: which command a line is
-mod explain; // explain.rt: what each number means
+mod demo; // demo.rt: one exchange of each kind, as a script
 mod input; // input.rt: standard input, line by line
 
 fn main() {

@@ -1,7 +1,6 @@
 // The reader's side's commands: keys, build, judge.
-use crate::Desk;
-use crate::orders;
-use crate::with_keys;
+mod orders; // orders.rt: the messages to build
+
 use console::answer;
 use console::answer::within;
 use console::fields;
@@ -15,31 +14,49 @@ use reader_judge::Verdict;
 use reader_judge::Worth;
 use reader_judge::judge;
 
-pub fn keys(d: Desk, line: &[u8]) -> Desk {
+// The reader's keys from one command to the next, where there are some.
+pub struct Keyring {
+    held: bool,
+    keys: Keys,
+}
+
+// Before the first command.
+pub fn empty() -> Keyring {
+    Keyring {
+        held: false,
+        keys: Keys {
+            enc: [0u8; 16],
+            mac: false,
+            mackey: [0u8; 16],
+        },
+    }
+}
+
+pub fn keys(k: Keyring, line: &[u8]) -> Keyring {
     if !fields::read(line, 1, b"km", 0) {
-        return d;
+        return k;
     }
     answer::ok();
-    with_keys(
-        d,
-        Keys {
+    Keyring {
+        held: true,
+        keys: Keys {
             enc: fields::sixteen(line, 1),
             mac: !payload::same(word(line, 2), b"-"),
             mackey: fields::sixteen(line, 2),
         },
-    )
+    }
 }
 
 // Has the reader's side its keys? Where not, it is said.
-fn held(d: Desk) -> bool {
-    if d.held {
+fn held(k: Keyring) -> bool {
+    if k.held {
         return true;
     }
     print::text(b"error: no keys yet\n");
     false
 }
 
-pub fn build(d: Desk, line: &[u8]) {
+pub fn build(k: Keyring, line: &[u8]) {
     let name = word(line, 1);
     if name.len() == 0 {
         print::text(b"error: word missing\n");
@@ -54,11 +71,11 @@ pub fn build(d: Desk, line: &[u8]) {
         return;
     }
     if orders::keyed(kind) {
-        if !held(d) {
+        if !held(k) {
             return;
         }
     }
-    let keys = d.keys;
+    let keys = k.keys;
     let mut room = [0u8; 176];
     let made = orders::made(keys, kind, line, &mut room);
     built(made, &room);
@@ -76,14 +93,14 @@ fn built(made: Made, room: &[u8]) {
     }
 }
 
-pub fn judged(d: Desk, line: &[u8]) {
+pub fn judged(k: Keyring, line: &[u8]) {
     if !fields::read(line, 1, b"hh", 0) {
         return;
     }
-    if !held(d) {
+    if !held(k) {
         return;
     }
-    let keys = d.keys;
+    let keys = k.keys;
     let mut message = io::buffer();
     let m = within(fields::bytes(line, 1, &mut message), &message);
     let mut reply = io::buffer();

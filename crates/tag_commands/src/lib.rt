@@ -1,7 +1,4 @@
-// The soft tag's commands: sheet, area, areas, power, message.
-use crate::Desk;
-use crate::with_areas;
-use crate::with_tag;
+// The soft tag's commands: sheet, area, areas, power, message. The bytes of both areas stand beside what is kept here.
 use console::answer;
 use console::answer::within;
 use console::fields;
@@ -14,10 +11,52 @@ use sheet::Setup;
 use sheet::Verdict;
 use tag::Outcome;
 use tag::State;
+use tag::Tag;
 
-pub fn sheet(d: Desk, line: &[u8], identity: &mut [u8], user: &mut [u8]) -> Desk {
+// The tag's place on the bench from one command to the next: a tag, where a sheet was accepted, and the bytes lent of each area.
+pub struct Place {
+    set: bool,
+    tag: Tag,
+    identity: usize,
+    user: usize,
+}
+
+// Before the first command. The setup of an empty sheet, which is refused, is empty.
+pub fn empty() -> Place {
+    let reading = sheet::read(b"");
+    let setup = reading.setup;
+    let tag = tag::power_up(setup);
+    Place {
+        set: false,
+        tag,
+        identity: 0,
+        user: 0,
+    }
+}
+
+// With a tag: a new one, or the same after a message or at its power-up.
+fn with_tag(p: Place, tag: Tag) -> Place {
+    Place {
+        set: true,
+        tag,
+        identity: p.identity,
+        user: p.user,
+    }
+}
+
+fn with_areas(p: Place, identity: usize, user: usize) -> Place {
+    let tag = p.tag;
+    Place {
+        set: p.set,
+        tag,
+        identity,
+        user,
+    }
+}
+
+pub fn sheet(p: Place, line: &[u8], identity: &mut [u8], user: &mut [u8]) -> Place {
     if !fields::read(line, 1, b"h", 0) {
-        return d;
+        return p;
     }
     let mut room = io::buffer();
     let n = within(fields::bytes(line, 1, &mut room), &room);
@@ -31,21 +70,21 @@ pub fn sheet(d: Desk, line: &[u8], identity: &mut [u8], user: &mut [u8]) -> Desk
             print::text(b" at ");
             answer::decimal(low_word(at));
             print::text(b"\n");
-            return d;
+            return p;
         }
         Verdict::Whole => {
             answer::ok();
             clear(identity);
             clear(user);
-            return set_up(d, setup);
+            return set_up(p, setup);
         }
     }
 }
 
 // The tag at its power-up, with areas of the sheet's sizes.
-fn set_up(d: Desk, setup: Setup) -> Desk {
+fn set_up(p: Place, setup: Setup) -> Place {
     let sizes = setup.sizes;
-    let sized = with_areas(d, bytes_of(sizes.identity), bytes_of(sizes.user));
+    let sized = with_areas(p, bytes_of(sizes.identity), bytes_of(sizes.user));
     with_tag(sized, tag::power_up(setup))
 }
 
@@ -62,25 +101,25 @@ fn clear(area: &mut [u8]) {
     }
 }
 
-pub fn area(d: Desk, line: &[u8], identity: &mut [u8], user: &mut [u8]) -> Desk {
+pub fn area(p: Place, line: &[u8], identity: &mut [u8], user: &mut [u8]) -> Place {
     if !fields::read(line, 1, b"ah", 0) {
-        return d;
+        return p;
     }
     answer::ok();
     if fields::number(line, 1) == 0 {
         let n = fields::bytes(line, 2, identity);
-        return with_areas(d, n, d.user);
+        return with_areas(p, n, p.user);
     }
     let n = fields::bytes(line, 2, user);
-    with_areas(d, d.identity, n)
+    with_areas(p, p.identity, n)
 }
 
-pub fn areas(d: Desk, line: &[u8], identity: &[u8], user: &[u8]) {
+pub fn areas(p: Place, line: &[u8], identity: &[u8], user: &[u8]) {
     if !fields::read(line, 1, b"", 0) {
         return;
     }
-    let i = within(d.identity, identity);
-    let u = within(d.user, user);
+    let i = within(p.identity, identity);
+    let u = within(p.user, user);
     print::text(b"area 0 ");
     answer::hex(&identity[..i]);
     print::text(b" area 1 ");
@@ -89,45 +128,45 @@ pub fn areas(d: Desk, line: &[u8], identity: &[u8], user: &[u8]) {
 }
 
 // Is there a tag? Where not, it is said.
-fn set(d: Desk) -> bool {
-    if d.set {
+fn set(p: Place) -> bool {
+    if p.set {
         return true;
     }
     print::text(b"error: no tag yet\n");
     false
 }
 
-pub fn power(d: Desk, line: &[u8]) -> Desk {
+pub fn power(p: Place, line: &[u8]) -> Place {
     if !fields::read(line, 1, b"", 0) {
-        return d;
+        return p;
     }
-    if !set(d) {
-        return d;
+    if !set(p) {
+        return p;
     }
     answer::ok();
-    let tag = d.tag;
+    let tag = p.tag;
     let setup = tag.setup;
-    with_tag(d, tag::power_up(setup))
+    with_tag(p, tag::power_up(setup))
 }
 
-pub fn message(d: Desk, line: &[u8], identity: &mut [u8], user: &mut [u8]) -> Desk {
+pub fn message(p: Place, line: &[u8], identity: &mut [u8], user: &mut [u8]) -> Place {
     if !fields::read(line, 1, b"hdr", 2) {
-        return d;
+        return p;
     }
-    if !set(d) {
-        return d;
+    if !set(p) {
+        return p;
     }
     if random(line) {
         let mut draws = [0u8; 10];
         if libc::getentropy(&mut draws) != 0 {
             print::text(b"error: no random bytes\n");
-            return d;
+            return p;
         }
-        return sent(d, line, &draws, identity, user);
+        return sent(p, line, &draws, identity, user);
     }
     let mut room = io::buffer();
     let n = within(fields::bytes(line, 2, &mut room), &room);
-    sent(d, line, &room[..n], identity, user)
+    sent(p, line, &room[..n], identity, user)
 }
 
 // Are the draws those of the system's random source?
@@ -138,12 +177,12 @@ fn random(line: &[u8]) -> bool {
     payload::same(word(line, 2), b"*")
 }
 
-fn sent(d: Desk, line: &[u8], draws: &[u8], identity: &mut [u8], user: &mut [u8]) -> Desk {
+fn sent(p: Place, line: &[u8], draws: &[u8], identity: &mut [u8], user: &mut [u8]) -> Place {
     let mut message = io::buffer();
     let m = within(fields::bytes(line, 1, &mut message), &message);
     let mut room = io::buffer();
     let r = within(room_of(line), &room);
-    stepped(d, &message[..m], draws, &mut room[..r], identity, user)
+    stepped(p, &message[..m], draws, &mut room[..r], identity, user)
 }
 
 fn room_of(line: &[u8]) -> usize {
@@ -155,23 +194,23 @@ fn room_of(line: &[u8]) -> usize {
 
 // One message, played by the tag where the bench keeps it.
 fn stepped(
-    d: Desk,
+    p: Place,
     message: &[u8],
     draws: &[u8],
     room: &mut [u8],
     identity: &mut [u8],
     user: &mut [u8],
-) -> Desk {
-    let t = d.tag;
-    let i = within(d.identity, identity);
-    let u = within(d.user, user);
+) -> Place {
+    let t = p.tag;
+    let i = within(p.identity, identity);
+    let u = within(p.user, user);
     let s = bench::kept(t, message, draws, room, &mut identity[..i], &mut user[..u]);
     let outcome = s.outcome;
     let next = s.tag;
     let session = next.session;
     let state = session.state;
     told(outcome, state, room);
-    with_tag(d, next)
+    with_tag(p, next)
 }
 
 fn told(outcome: Outcome, state: State, room: &[u8]) {

@@ -1,13 +1,35 @@
-// Which command a line is.
-use crate::explain;
+// The bench's commands: which one a line is, and what is kept from one to the next.
+mod explain; // explain.rt: what each number means
+
 use console::fields;
 use console::words::word;
-use desk::Desk;
-use desk::cipher;
-use desk::messages;
-use desk::played;
 use lines::print;
 use payload::same;
+use reader_commands::Keyring;
+use tag_commands::Place;
+
+// What is kept from one command to the next, of each half. The bytes of both areas stand beside it.
+pub struct Desk {
+    place: Place,
+    keyring: Keyring,
+}
+
+pub fn empty() -> Desk {
+    Desk {
+        place: tag_commands::empty(),
+        keyring: reader_commands::empty(),
+    }
+}
+
+fn with_place(d: Desk, place: Place) -> Desk {
+    let keyring = d.keyring;
+    Desk { place, keyring }
+}
+
+fn with_keyring(d: Desk, keyring: Keyring) -> Desk {
+    let place = d.place;
+    Desk { place, keyring }
+}
 
 enum Command {
     Sheet,
@@ -75,44 +97,46 @@ fn named_else(name: &[u8]) -> Command {
 
 // The answer to a line that has a word, and the desk after it.
 pub fn answered(d: Desk, line: &[u8], identity: &mut [u8], user: &mut [u8]) -> Desk {
+    let place = d.place;
+    let keyring = d.keyring;
     match named(word(line, 0)) {
         Command::Sheet => {
-            return played::sheet(d, line, identity, user);
+            return with_place(d, tag_commands::sheet(place, line, identity, user));
         }
         Command::Area => {
-            return played::area(d, line, identity, user);
+            return with_place(d, tag_commands::area(place, line, identity, user));
         }
         Command::Areas => {
-            played::areas(d, line, identity, user);
+            tag_commands::areas(place, line, identity, user);
             return d;
         }
         Command::Power => {
-            return played::power(d, line);
+            return with_place(d, tag_commands::power(place, line));
         }
         Command::Message => {
-            return played::message(d, line, identity, user);
+            return with_place(d, tag_commands::message(place, line, identity, user));
         }
         Command::Keys => {
-            return messages::keys(d, line);
+            return with_keyring(d, reader_commands::keys(keyring, line));
         }
         Command::Build => {
-            messages::build(d, line);
+            reader_commands::build(keyring, line);
             return d;
         }
         Command::Judge => {
-            messages::judged(d, line);
+            reader_commands::judged(keyring, line);
             return d;
         }
         Command::Aes => {
-            cipher::aes(line);
+            cipher_commands::aes(line);
             return d;
         }
         Command::Cbc => {
-            cipher::cbc(line);
+            cipher_commands::cbc(line);
             return d;
         }
         Command::Cmac => {
-            cipher::cmac(line);
+            cipher_commands::cmac(line);
             return d;
         }
         Command::Explain => {

@@ -1,11 +1,11 @@
--- `played::clear` is safe and ends: the area keeps its length, and what is left of it falls.
+-- `clear` is safe and ends: the area keeps its length, and what is left of it falls.
 use lib.ListN.{length, length-set}
 use native.Mathlib.Omega.{arith}
 use mathlib.Core.Path.{_≡_}
 use Prim.Native.Nat.{_≤_, _-_}
 use borrow.Author.Needs.{needs}
-use Rattle.desk.proofs.played.clear.Statement.{statement}
-use Rattle.desk.proofs.played.clear.Tie as tie
+use Rattle.tag_commands.proofs.clear.Statement.{statement}
+use Rattle.tag_commands.proofs.clear.Tie as tie
 
 abbrev Inv-loop : tie.InvT-loop
 Inv-loop area₀ i₀ area i = (i ≤ length area) × (length area ≡ length area₀)
