@@ -98,7 +98,7 @@ fn locate(keys: &[u8], keyid: u8) -> Place
 /// given for its ENC key.
 pub fn find(keys: &[u8], keyid: u8) -> Found
     ensures { λ r. ⌜ (r .present ≡ hasKey keyid (keysIn (now (keys .entry))))
-      × (r .key ≡ keyWith keyid (keysIn (now (keys .entry)))) ⌝ }
+        × (r .key ≡ keyWith keyid (keysIn (now (keys .entry)))) ⌝ }
 {
     match locate(keys, keyid) {
         Place::At(at) => {
