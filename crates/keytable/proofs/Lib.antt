@@ -1,0 +1,5 @@
+pub mod Copies
+pub mod Search
+pub mod Answers
+pub mod Named
+pub mod Fits
