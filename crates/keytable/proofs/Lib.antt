@@ -1,3 +1,4 @@
+pub mod Copies
 pub mod Search
 pub mod Answers
 pub mod Named
