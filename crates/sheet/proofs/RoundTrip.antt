@@ -201,7 +201,6 @@ module _ (limit : ℕ) (s : Setup) (w : Within limit s) where
 
   -- the terms are given back
   terms-back : terms-of (s .features) (s .sizes) (s .profiles) locks-in ≡ termsOf s
-  unfolding termsOf
   terms-back = λ i. record {
     features = s .features;
     sizes = s .sizes;
@@ -254,7 +253,7 @@ module _ (limit : ℕ) (s : Setup) (w : Within limit s) where
 
   -- a setup within the rules is written, read, and the same again, keys and all
   pub written-reads : Accepted limit (written s) × (saidOf limit (written s) ≡ s)
-  unfolding saidOf setupOf termsOf
+  unfolding saidOf
   written-reads = (
     ap (λ (r : Reading). r .verdict) written-read,
     ap (λ (r : Reading). setupOf (r .terms) (keyTable (written s) (r .keys))) written-read

@@ -172,7 +172,7 @@ module _ (limit : ℕ) where
         ∙ stand (ran .bytes) (ran .kept) keys-of (ran .holds .sound) (ran .ordered)
 
     said : saidOf limit s ≡ setup-with (ran .kept .terms) keys-of
-    unfolding saidOf setupOf
+    unfolding saidOf
     said = λ i. setup-with (ran .says i .terms) (table-keys i)
 
     -- an accepted sheet says a setup within the rules, and is what is written of it
