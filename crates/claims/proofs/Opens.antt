@@ -26,7 +26,7 @@ use Rattle.entry.specs.Replies.{mam1Reply}
 use Rattle.payload.proofs.Bytes.{joined-bytes}
 use Rattle.offer.proofs.Bytes.{Ten, drop-bytes}
 use Rattle.tam.proofs.ReplyLengths.{tam1-long}
-use Rattle.entry.proofs.ReplyLengths.{mam1-long}
+use Rattle.entry.proofs.Mam1Reply.{mam1-long}
 use Rattle.reader.specs.declared.Keys.{Keys}
 use Rattle.reader.specs.Findings.{nothingMore, issues}
 use Rattle.reader.specs.Judged.{tam1Finding, mam1Finding}

@@ -1,14 +1,14 @@
 // A turn of the demo: what each half sends, and what the other finds, a line each.
 use console::answer;
 use console::answer::within;
+use entry::State;
 use lines::print;
+use offer::Outcome;
 use reader::Judgement;
 use reader::Keys;
 use reader::Verdict;
 use reader::Worth;
 use reader::judged::judge;
-use tag::Outcome;
-use tag::State;
 use tag::Tag;
 
 // The tag after a turn, and its challenge where it issued one.
@@ -47,7 +47,7 @@ pub fn played(
     let next = s.tag;
     let session = next.session;
     let state = session.state;
-    let n = within(tag::reply_length(outcome), &room);
+    let n = within(offer::reply_length(outcome), &room);
     heard(outcome, state, &room[..n]);
     if let Outcome::Refused(_) = outcome {
         return Turn {

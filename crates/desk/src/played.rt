@@ -7,13 +7,13 @@ use console::answer::within;
 use console::fields;
 use console::words::count;
 use console::words::word;
+use entry::State;
 use lines::numbers::low_word;
 use lines::numbers::times;
 use lines::print;
+use offer::Outcome;
 use sheet::Setup;
 use sheet::Verdict;
-use tag::Outcome;
-use tag::State;
 
 pub fn sheet(d: Desk, line: &[u8], identity: &mut [u8], user: &mut [u8]) -> Desk {
     if !fields::read(line, 1, b"h", 0) {
@@ -189,7 +189,7 @@ fn told(outcome: Outcome, state: State, room: &[u8]) {
         }
         Outcome::Refused(_) => {
             print::text(b"refused ");
-            answer::decimal(tag::number(outcome) as u16);
+            answer::decimal(offer::number(outcome) as u16);
             state_told(state);
             print::text(b"\n");
         }

@@ -9,22 +9,12 @@ use Rattle.tag.specs.declared.Stepped.{Stepped}
 use Rattle.tag.specs.declared.Tag.{Tag}
 use Rattle.tag.specs.Answers.{Answer}
 use Rattle.tag.specs.Reactions.{Steps}
-use Rattle.tag.proofs.number.Reads as number
-use Rattle.tag.proofs.number.Kinds as number-kinds
-use Rattle.tag.proofs.reply_length.Reads as reply-length
-use Rattle.tag.proofs.reply_length.Kinds as reply-length-kinds
 use Rattle.tag.proofs.power_up.Reads as power-up
 use Rattle.tag.proofs.power_up.Kinds as power-up-kinds
 use Rattle.tag.proofs.key_held.Reads as key-held
 use Rattle.tag.proofs.key_held.Kinds as key-held-kinds
 use Rattle.tag.proofs.step.Reads as step
 use Rattle.tag.proofs.step.Kinds as step-kinds
-
-pub number-one : OneAnswer 0 number-kinds.ps number-kinds.r number.Post ℕ (λ κs r s. r)
-number-one κs a x y s t p q = one p q
-
-pub reply-length-one : OneAnswer 0 reply-length-kinds.ps reply-length-kinds.r reply-length.Post ℕ (λ κs r s. r)
-reply-length-one κs a x y s t p q = one p q
 
 pub power-up-one : OneAnswer 0 power-up-kinds.ps power-up-kinds.r power-up.Post Tag (λ κs r s. r)
 power-up-one κs a x y s t p q = one p q

@@ -18,8 +18,7 @@ use Rattle.offer.specs.declared.Verdict.{Verdict}
 use Rattle.offer.specs.declared.Verdict.the-variants.{Fine, Wrong}
 use Rattle.entry.specs.Sessions.{cleared}
 use Rattle.tag.specs.States.{inTurn, sessionAfter}
-use Rattle.ground.specs.Checks.{Check}
-use Rattle.tag.specs.Checks.{after}
+use Rattle.ground.specs.Checks.{Check, judgedTo}
 use Rattle.offer.specs.Checks.{judged}
 use Rattle.offer.specs.Records.{offered}
 use Rattle.offer.specs.Judged.{benchChecks, openingChecks}
@@ -37,16 +36,16 @@ pub record Kept (c : Call) (s : Session) (a : Answer) : Type 0 where
 -- ---- a line of checks refuses by one of its own numbers
 
 module _ (P : Fault → Type 0) where
-  abbrev Each : List Check → Type 0
+  abbrev Each : List (Check Fault) → Type 0
   Each [] = Unit
   Each (k ∷ ks) = P (k .otherwise) × Each ks
 
-  after-fault : (b : Bool) (g f : Fault) (v : Verdict) → P g → (v ≡ Wrong f → P f) → after b g v ≡ Wrong f → P f
+  after-fault : (b : Bool) (g f : Fault) (v : Verdict) → P g → (v ≡ Wrong f → P f) → pick b v (Wrong g) ≡ Wrong f → P f
   after-fault true g f v p h e = h e
   after-fault false g f v p h e = let q : g ≡ f = cc in subst (λ (x : Fault). P x) q p
 
-  fault-of : (ks : List Check) → Each ks → (f : Fault) → judged ks ≡ Wrong f → P f
-  unfolding judged
+  fault-of : (ks : List (Check Fault)) → Each ks → (f : Fault) → judged ks ≡ Wrong f → P f
+  unfolding judgedTo
   fault-of [] h f e = let z : _≡_ {A = ℕ} 0 1 = cc in absurd (omega arith)
   fault-of (k ∷ ks) (p, h) f e = after-fault (k .holds) (k .otherwise) f (judged ks) p (fault-of ks h f) e
 
@@ -77,7 +76,7 @@ module _ (c : Call) where
   verdict-keeps Fine a g k = k
   verdict-keeps (Wrong f) a g k = refusal-keeps f (g f refl)
 
-  fine-keeps : (ks : List Check) (a : Answer) → Each ToInitial ks → KeptInitial c a → KeptInitial c (ifFine c (judged ks) a)
+  fine-keeps : (ks : List (Check Fault)) (a : Answer) → Each ToInitial ks → KeptInitial c a → KeptInitial c (ifFine c (judged ks) a)
   fine-keeps ks a h k = verdict-keeps (judged ks) a (fault-of ToInitial ks h) k
 
   picked-keeps : (b : Bool) (x y : Answer) → KeptInitial c x → KeptInitial c y → KeptInitial c (pick b x y)

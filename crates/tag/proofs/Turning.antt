@@ -24,10 +24,14 @@ use Rattle.offer.specs.Outcomes.{numberGiven}
 use Rattle.offer.specs.Checks.{judged}
 use Rattle.offer.specs.Records.{offered}
 use Rattle.offer.specs.Judged.{benchChecks}
-use Rattle.tag.specs.Answers.{Answer, Call, refused, tam1Answer, tam2Answer, iam1Answer, iam2Answer, iam3Answer, mam1Answer, mam2Answer, byKind, inOrder, ofMessage, ofBench, answerOf}
+use Rattle.tag.specs.Answers.{Answer, Call, refused, tam1Answer, tam2Answer, iam1Answer, iam2Answer, iam3Answer}
+use Rattle.tag.specs.Answers.{mam1Answer, mam2Answer, byKind, inOrder, ofMessage, ofBench, answerOf}
+use Rattle.entry.specs.Given.{LetsIn, Writes, iam2Verdict, iam2Purpose, iam3Verdict, iam3Purpose, iam3Stored}
+use Rattle.entry.specs.Given.{mam2Verdict, mam2Purpose}
+use Rattle.entry.proofs.Giving.{Turned}
 use Rattle.tag.specs.Reactions.{lent, Reacts, ReactsIn, Steps}
 use Rattle.tag.proofs.Areas.{kind-still}
-use Rattle.tag.proofs.Reacting.{Turned, in-refused}
+use Rattle.tag.proofs.Reacting.{in-refused, reacts-let-in, in-written}
 
 module _ (c : Call) (setup : Setup) (held : Session) (room : List ℕ) (r : Reacted) where
   -- what the answer to a kind leaves, with both areas
@@ -53,21 +57,28 @@ module _ (c : Call) (setup : Setup) (held : Session) (room : List ℕ) (r : Reac
     unfolding byKind
     is-iam1 = apart k Iam1 after (λ e. (let z : _≡_ {A = ℕ} 0 1 = cc in omega arith))
 
-    pub is-iam2 : k ≡ Iam2 → Reacts (iam2Answer c setup held) room r after → OfKind k after
-    unfolding byKind
-    is-iam2 = apart k Iam2 after (λ e. (let z : _≡_ {A = ℕ} 0 1 = cc in omega arith))
+    pub is-iam2 : k ≡ Iam2 → LetsIn (iam2Verdict setup held (c .message)) (iam2Purpose setup held (c .message)) r
+        → OfKind k room
+    unfolding byKind iam2Answer
+    is-iam2 e h = apart k Iam2 room (λ x. (let z : _≡_ {A = ℕ} 0 1 = cc in omega arith)) e (reacts-let-in c room r _ _ h)
 
     pub is-mam1 : k ≡ Mam1 → Reacts (mam1Answer c setup) room r after → OfKind k after
     unfolding byKind
     is-mam1 = apart k Mam1 after (λ e. (let z : _≡_ {A = ℕ} 0 1 = cc in omega arith))
 
-    pub is-mam2 : k ≡ Mam2 → Reacts (mam2Answer c setup held) room r after → OfKind k after
-    unfolding byKind
-    is-mam2 = apart k Mam2 after (λ e. (let z : _≡_ {A = ℕ} 0 1 = cc in omega arith))
+    pub is-mam2 : k ≡ Mam2 → LetsIn (mam2Verdict setup held (c .message)) (mam2Purpose setup held (c .message)) r
+        → OfKind k room
+    unfolding byKind mam2Answer
+    is-mam2 e h = apart k Mam2 room (λ x. (let z : _≡_ {A = ℕ} 0 1 = cc in omega arith)) e (reacts-let-in c room r _ _ h)
 
-    pub is-iam3 : (i u : List ℕ) → k ≡ Iam3 → ReactsIn (iam3Answer c setup held) room r after i u → ReactsIn (byKind c setup held k) room r after i u
-    unfolding byKind
-    is-iam3 i u e h = subst (λ (x : Kind). ReactsIn (byKind c setup held x) room r after i u) (sym e) h
+    pub is-iam3 : (i u : List ℕ) → k ≡ Iam3
+        → Writes (iam3Verdict setup held (c .message)) (iam3Purpose setup held (c .message))
+        (iam3Stored setup held (c .message)) (c .identity) (c .user) r i u
+        → ReactsIn (byKind c setup held k) room r room i u
+    unfolding byKind iam3Answer
+    is-iam3 i u e h =
+        subst (λ (x : Kind). ReactsIn (byKind c setup held x) room r room i u) (sym e)
+        (in-written c room r _ _ (iam3Stored setup held (c .message)) i u h)
 
   pub is-none : (k : Kind) → k ≡ Unsupported → Turned r NotSupported → OfKind k room
   unfolding byKind

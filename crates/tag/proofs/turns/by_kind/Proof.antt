@@ -54,7 +54,7 @@ iam2-requires : tie.Need-iam2-requires
 iam2-requires c κs = search needs
 
 returns-4 : tie.Need-returns-4
-returns-4 c = let a = c .before .before .before .before .before .before .before .args in is-iam2 (lent (a .m .now) (a .draws) (a .room .now) (a .identity .now) (a .user .now)) (a .setup) (a .held) (a .room .now) _ _ _ (c .before .enum-told4 .given .1) ((c .iam2 .ensures) (a .draws) (a .room .now) (a .identity .now) (a .user .now))
+returns-4 c = let a = c .before .before .before .before .before .before .before .args in is-iam2 (lent (a .m .now) (a .draws) (a .room .now) (a .identity .now) (a .user .now)) (a .setup) (a .held) (a .room .now) _ _ (a .room .now) (c .before .enum-told4 .given .1) (c .iam2 .ensures)
 
 enum-told-5 : tie.Need-enum-told-5
 enum-told-5 c = search needs
@@ -69,7 +69,7 @@ same-length-7 : tie.Need-same-length-7
 same-length-7 c = search needs
 
 returns-5 : tie.Need-returns-5
-returns-5 c = let a = c .before .before .before .before .before .before .before .before .before .before .before .before .before .args in is-iam3 (lent (a .m .now) (a .draws) (a .room .now) (a .identity .now) (a .user .now)) (a .setup) (a .held) (a .room .now) _ _ _ _ _ (c .before .before .before .before .before .before .before .enum-told5 .given .1) ((c .before .before .before .before .iam3 .ensures) (a .draws) (a .room .now))
+returns-5 c = let a = c .before .before .before .before .before .before .before .before .before .before .before .before .before .args in is-iam3 (lent (a .m .now) (a .draws) (a .room .now) (a .identity .now) (a .user .now)) (a .setup) (a .held) (a .room .now) _ _ (a .room .now) _ _ (c .before .before .before .before .before .before .before .enum-told5 .given .1) (c .before .before .before .before .iam3 .ensures)
 
 enum-told-6 : tie.Need-enum-told-6
 enum-told-6 c = search needs
@@ -90,7 +90,7 @@ mam2-requires : tie.Need-mam2-requires
 mam2-requires c κs = search needs
 
 returns-7 : tie.Need-returns-7
-returns-7 c = let a = c .before .before .before .before .before .before .before .args in is-mam2 (lent (a .m .now) (a .draws) (a .room .now) (a .identity .now) (a .user .now)) (a .setup) (a .held) (a .room .now) _ _ _ (c .before .enum-told7 .given .1) ((c .mam2 .ensures) (a .draws) (a .room .now) (a .identity .now) (a .user .now))
+returns-7 c = let a = c .before .before .before .before .before .before .before .args in is-mam2 (lent (a .m .now) (a .draws) (a .room .now) (a .identity .now) (a .user .now)) (a .setup) (a .held) (a .room .now) _ _ (a .room .now) (c .before .enum-told7 .given .1) (c .mam2 .ensures)
 
 enum-told-8 : tie.Need-enum-told-8
 enum-told-8 c = search needs
