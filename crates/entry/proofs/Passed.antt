@@ -24,7 +24,8 @@ module _ (setup : Setup) (key : Key) (m : List ℕ) (h : judged (iam3FieldChecks
   pub iam3-mode : modeSupported (setup .features) key (iam3Of m .protmode) ≡ true
   iam3-mode = first-holds _ _ (others-hold _ _ h)
 
-  pub iam3-length : length m ≡ iam3Length (iam3Of m .custom .blocksize) (iam3Of m .custom .blockcount) (iam3Of m .protmode)
+  pub iam3-length : length m ≡ iam3Length (iam3Of m .custom .blocksize) (iam3Of m .custom .blockcount)
+      (iam3Of m .protmode)
   unfolding lengthFits iam3LengthFits
   iam3-length =
       let p = mode-below (setup .features) key (iam3Of m .protmode) iam3-mode in
@@ -32,7 +33,9 @@ module _ (setup : Setup) (key : Key) (m : List ℕ) (h : judged (iam3FieldChecks
       let w : lengthFits Iam3 m ≡ true = first-holds _ _ h in
       eqb-true _ _ (both-second (leb iam3FieldsLength (length m)) _ (simp (le-ltb 3 (iam3Of m .protmode) n) at w))
 
-  pub iam3-inside : overruns (slotNamed setup (iam3Of m .custom .profile) .profile) (blockAsked setup (iam3Of m .custom)) ≡ false
+  pub iam3-inside : overruns (slotNamed setup (iam3Of m .custom .profile) .profile)
+      (blockAsked setup (iam3Of m .custom)) ≡ false
   iam3-inside =
       let k = others-hold _ _ (others-hold _ _ (others-hold _ _ h)) in
-      not-true _ (both-second (sizeOffered (setup .features) (iam3Of m .custom .blocksize)) _ (first-holds _ _ (others-hold _ _ (others-hold _ _ k))))
+      not-true _ (both-second (sizeOffered (setup .features) (iam3Of m .custom .blocksize)) _
+      (first-holds _ _ (others-hold _ _ (others-hold _ _ k))))

@@ -78,7 +78,8 @@ module _ (setup : Setup) (held : Session) (m : List ℕ) where
   abbrev pub iam3Stored : Area → List ℕ → List ℕ
   iam3Stored area s =
       let f = iam3Of m in
-      storedIn area (blockAsked setup (f .custom)) (wordsIn (f .custom) (openedData (keyNamed setup (held .keyid)) f m)) s
+      storedIn area (blockAsked setup (f .custom)) (wordsIn (f .custom) (openedData (keyNamed setup (held .keyid)) f m))
+      s
 
 -- The bytes that a reply to IAM1 or MAM1 has at most.
 abbrev pub challengeRoom : ℕ

@@ -28,7 +28,8 @@ module _ (keyid count : ℕ) (table : List Key) where
   unfolding hasKey keyOf
   all-passed i e h =
       let n = length-take count table in
-      let p : length (take count table) ≤ i = ⊎-elim (λ (u : count ≤ i). omega arith) (λ (u : length table ≤ i). omega arith) e in
+      let p : length (take count table) ≤ i =
+      ⊎-elim (λ (u : count ≤ i). omega arith) (λ (u : length table ≤ i). omega arith) e in
       let z = drop-of-length-le (take count table) p in
       (h .present ∙ ap (hasKey keyid) z, h .key ∙ ap (keyOf keyid) z)
 
@@ -38,7 +39,8 @@ module _ (keyid count : ℕ) (table : List Key) where
         let p : i < length (take count table) = omega (arith, length-take count table) in
         rw (add-one, drop-cons (take count table) i d p, getD-take count table i d used)
 
-    pub here : getD table i d .id ≡ keyid → (hasKey keyid (take count table) ≡ true) × (keyOf keyid (take count table) ≡ getD table i d)
+    pub here : getD table i d .id ≡ keyid
+        → (hasKey keyid (take count table) ≡ true) × (keyOf keyid (take count table) ≡ getD table i d)
     unfolding hasKey keyOf
     here e = (h .present ∙ simp (opened, eq-eqb _ _ e), h .key ∙ simp (opened, eq-eqb _ _ e))
 

@@ -12,7 +12,8 @@ use Rattle.frames.specs.declared.Custom.{Custom}
 use Rattle.offer.specs.Records.{keyOf, keysOf, keyNamed, slotNamed, blockAsked}
 
 module _ (setup : Setup) where
-  pub key-named : {k : Key} (keyid : ℕ) → k ≡ keyOf keyid (take (setup .keys .count) (setup .keys .table)) → k ≡ keyNamed setup keyid
+  pub key-named : {k : Key} (keyid : ℕ) → k ≡ keyOf keyid (take (setup .keys .count) (setup .keys .table))
+      → k ≡ keyNamed setup keyid
   unfolding keysOf
   key-named keyid e = e
 

@@ -29,23 +29,32 @@ module _ (f : Features) (key : Key) (p : ℕ) (h : modeSupported f key p ≡ tru
   tested true e = ltb-true p 4 e
   tested false e =
       let n : 4 ≤ p = ltb-false p 4 e in
-      absurd (false≢true (simp (ne-eqb p 0 (λ z. omega arith), ne-eqb p 1 (λ z. omega arith), ne-eqb p 2 (λ z. omega arith), ne-eqb p 3 (λ z. omega arith)) at h))
+      absurd (false≢true
+      (simp (
+        ne-eqb p 0 (λ z. omega arith),
+        ne-eqb p 1 (λ z. omega arith),
+        ne-eqb p 2 (λ z. omega arith),
+        ne-eqb p 3
+            (λ z. omega arith),
+      ) at h))
 
   pub mode-below : p < 4
   mode-below = tested (ltb p 4) refl
 
 -- The bench: the draws and the room.
-module _ (setup : Setup) (draws room identity user : ℕ) (h : judged (benchChecks setup draws room identity user) ≡ Fine) where
-  pub bench-draws : draws ≡ drawBytes
-  unfolding benchChecks
-  bench-draws = eqb-true _ _ (first-holds _ _ h)
+module _ (setup : Setup) (draws room identity user : ℕ) (h : judged (benchChecks setup draws room identity user) ≡ Fine)
+  where
+    pub bench-draws : draws ≡ drawBytes
+    unfolding benchChecks
+    bench-draws = eqb-true _ _ (first-holds _ _ h)
 
-  pub bench-room : replyRoom ≤ room
-  unfolding benchChecks
-  bench-room = leb-true _ _ (first-holds _ _ (others-hold _ _ h))
+    pub bench-room : replyRoom ≤ room
+    unfolding benchChecks
+    bench-room = leb-true _ _ (first-holds _ _ (others-hold _ _ h))
 
 -- TAM1, IAM1, MAM1: the length and the record.
-module _ (kind : Kind) (rfu keyid : ℕ) (setup : Setup) (m : List ℕ) (h : judged (openingChecks kind rfu keyid setup m) ≡ Fine) where
+module _ (kind : Kind) (rfu keyid : ℕ) (setup : Setup) (m : List ℕ)
+    (h : judged (openingChecks kind rfu keyid setup m) ≡ Fine) where
   pub opening-length : lengthFits kind m ≡ true
   unfolding openingChecks
   opening-length = first-holds _ _ h

@@ -1,4 +1,5 @@
--- No second answer fits the contracts of the exported functions: of a step the result, the room and both areas are determined.
+-- No second answer fits the contracts of the exported functions: of a step the result, the room and both areas are
+-- determined.
 use mathlib.Core.Path.{_≡_}
 use mathlib.Core.Bool.{Bool}
 use mathlib.Core.List.{List}
@@ -30,5 +31,10 @@ stepped a tag room r after i u h = λ j. record { outcome = h .outcome j; tag = 
 pub step-one : OneAnswer 5 step-kinds.ps step-kinds.r step.Post (Stepped × List ℕ × List ℕ × List ℕ)
     (λ κs r s. (r, now (s .1 .1 .1 .0), now (s .1 .1 .1 .1 .0), now (s .1 .1 .1 .1 .1 .0)))
 step-one κs a x y s t p q =
-    λ j.
-    (one (stepped _ _ _ x _ _ _ p) (stepped _ _ _ y _ _ _ q) j, one (p .reply) (q .reply) j, one (p .identity) (q .identity) j, one (p .user) (q .user) j)
+    λ j. (
+      one (stepped _ _ _ x _ _ _ p) (stepped _ _ _ y _ _ _ q) j,
+      one (p .reply) (q .reply) j,
+      one (p .identity)
+          (q .identity) j,
+      one (p .user) (q .user) j,
+    )

@@ -7,13 +7,15 @@ use Rattle.frames.specs.declared.Kind.the-variants.{Tam1, Tam2, Iam1, Iam2, Iam
 use Rattle.frames.specs.Kinds.{kindOf}
 use Rattle.sheet.specs.declared.Setup.{Setup}
 use Rattle.offer.specs.declared.Fault.{Fault}
-use Rattle.offer.specs.declared.Fault.the-variants.{OtherError, NotSupported, MemoryOverrun, MemoryWriteError, OutOfTurn, ProofWrong, BenchFault}
+use Rattle.offer.specs.declared.Fault.the-variants.{OtherError, NotSupported, MemoryOverrun, MemoryWriteError}
+use Rattle.offer.specs.declared.Fault.the-variants.{OutOfTurn, ProofWrong, BenchFault}
 use Rattle.entry.specs.declared.Session.{Session}
 use Rattle.tag.specs.declared.Tag.{Tag}
 use Rattle.entry.specs.Sessions.{cleared}
 use Rattle.offer.specs.Outcomes.{replyLength}
 use Rattle.tag.specs.States.{sessionAfter}
-use Rattle.tag.specs.Answers.{Answer, Call, refused, replied, letIn, tam1Answer, tam2Answer, iam1Answer, iam2Answer, iam3Answer, mam1Answer, mam2Answer, byKind, answerOf}
+use Rattle.tag.specs.Answers.{Answer, Call, refused, replied, letIn, tam1Answer, tam2Answer, iam1Answer}
+use Rattle.tag.specs.Answers.{iam2Answer, iam3Answer, mam1Answer, mam2Answer, byKind, answerOf}
 use Rattle.tag.proofs.Cases.{fine-case, answer-case}
 
 -- A row: what the tag holds afterwards, where it held `held`. (The numbers stand in `offer`.)
@@ -62,4 +64,6 @@ module _ (c : Call) where
   kind-told setup held Unsupported = refusal-told NotSupported cleared
 
   pub length-told : (tag : Tag) → replyLength (answerOf c tag .outcome) ≡ length (answerOf c tag .reply)
-  length-told tag = answer-case c Told (λ f. refusal-told f cleared) tag (λ f. refusal-told f (tag .session)) (λ first rest e o t. kind-told (tag .setup) (tag .session) (kindOf first))
+  length-told tag =
+      answer-case c Told (λ f. refusal-told f cleared) tag (λ f. refusal-told f (tag .session))
+      (λ first rest e o t. kind-told (tag .setup) (tag .session) (kindOf first))

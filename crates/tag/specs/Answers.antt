@@ -1,4 +1,5 @@
--- The tag: what one message comes to. Its entry is `answerOf`, the last definition; read from there upwards: number 7, the
+-- The tag: what one message comes to. Its entry is `answerOf`, the last definition; read from there upwards: number 7,
+-- the
 -- empty message, method, step or feature, the turn, and then by kind, as `tam` and `entry` say.
 use Prim.Native.Nat.{ℕ}
 use mathlib.Core.List.{List, [], _∷_}
@@ -93,11 +94,13 @@ module _ (c : Call) where
     module _ (held : Session) where
       unfoldable pub iam2Answer : Answer
       iam2Answer =
-          ifFine (iam2Verdict setup held (c .message)) (letIn (iam2Purpose setup held (c .message)) (c .identity) (c .user))
+          ifFine (iam2Verdict setup held (c .message))
+          (letIn (iam2Purpose setup held (c .message)) (c .identity) (c .user))
 
       unfoldable pub mam2Answer : Answer
       mam2Answer =
-          ifFine (mam2Verdict setup held (c .message)) (letIn (mam2Purpose setup held (c .message)) (c .identity) (c .user))
+          ifFine (mam2Verdict setup held (c .message))
+          (letIn (mam2Purpose setup held (c .message)) (c .identity) (c .user))
 
       -- After everything was judged the words of the block are written, and no others.
       unfoldable pub iam3Answer : Answer

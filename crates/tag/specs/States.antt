@@ -6,7 +6,8 @@ use Rattle.sheet.specs.declared.Setup.{Setup}
 use Rattle.frames.specs.declared.Kind.{Kind}
 use Rattle.frames.specs.declared.Kind.the-variants.{Tam1, Tam2, Iam1, Iam2, Iam3, Mam1, Mam2, Unsupported}
 use Rattle.offer.specs.declared.Fault.{Fault}
-use Rattle.offer.specs.declared.Fault.the-variants.{OtherError, NotSupported, MemoryOverrun, MemoryWriteError, OutOfTurn}
+use Rattle.offer.specs.declared.Fault.the-variants.{OtherError, NotSupported, MemoryOverrun, MemoryWriteError}
+use Rattle.offer.specs.declared.Fault.the-variants.{OutOfTurn}
 use Rattle.offer.specs.declared.Fault.the-variants.{ProofWrong, BenchFault}
 use Rattle.offer.specs.Records.{keyPresent}
 use Rattle.entry.specs.declared.State.{State}

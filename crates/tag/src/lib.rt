@@ -46,7 +46,8 @@ fn known(setup: Setup, keyid: u8) -> bool
     found.present
 }
 
-/// Does a record have the KeyID that the tag holds, where a challenge waits for its answer? Of a tag from power-up on it
+/// Does a record have the KeyID that the tag holds, where a challenge waits for its answer? Of a tag from power-up on
+/// it
 /// does (`Holding`); a host that stores tags asks it of what it takes up again.
 ///
 /// Ruled out: a KeyID that no record has, taken with the key of zeros; a tag in Initial refused for the KeyID 0 that

@@ -24,7 +24,8 @@ use Rattle.offer.proofs.Bytes.{Ten, drop-bytes, challenge-ten, select-custom-fi
 module _ (m : List ℕ) (h : Bytes m) where
   pub tam2-custom-fits : customFits (tam2Of m .custom) ≡ true
   unfolding tam2Of
-  tam2-custom-fits = select-custom-fits (sizeOf (byte m 0 / 16 % 2)) (byte m 12) (byte m 13) (byte m 14) (h 12) (h 13) (h 14)
+  tam2-custom-fits =
+      select-custom-fits (sizeOf (byte m 0 / 16 % 2)) (byte m 12) (byte m 13) (byte m 14) (h 12) (h 13) (h 14)
 
   pub tam1-challenge : Ten (tam1Of m .ichallenge)
   unfolding tam1Of
@@ -48,13 +49,16 @@ window-most : (identity user : List ℕ) (b : Block) → length (windowOf identi
 unfolding windowOf partOf
 window-most identity user b =
     let area = areaOf (b .area) identity user in
-    cond-most (within b area) (take (byteCount b) (drop (firstByte b) area)) (byteCount b) (take-most (byteCount b) (drop (firstByte b) area))
+    cond-most (within b area) (take (byteCount b) (drop (firstByte b) area)) (byteCount b)
+    (take-most (byteCount b) (drop (firstByte b) area))
 
-pub asked-bytes : (setup : Setup) (c : Custom) → byteCount (blockAsked setup c) ≡ dataLength (c .blocksize) (c .blockcount)
+pub asked-bytes : (setup : Setup) (c : Custom)
+    → byteCount (blockAsked setup c) ≡ dataLength (c .blocksize) (c .blockcount)
 unfolding blockAsked
 asked-bytes setup c = sym (words-bytes-asked (slotNamed setup (c .profile) .profile) c)
 
-pub words-most : (setup : Setup) (c : Custom) (identity user : List ℕ) → length (windowOf identity user (blockAsked setup c)) ≤ dataLength (c .blocksize) (c .blockcount)
+pub words-most : (setup : Setup) (c : Custom) (identity user : List ℕ)
+    → length (windowOf identity user (blockAsked setup c)) ≤ dataLength (c .blocksize) (c .blockcount)
 words-most setup c identity user = omega (arith, window-most identity user (blockAsked setup c), asked-bytes setup c)
 
 cond-bytes : (b : Bool) (s : List ℕ) → Bytes s → Bytes (cond b s [])
@@ -71,9 +75,13 @@ unfolding windowOf partOf
 words-bytes b identity user h k =
     let area = areaOf (b .area) identity user in
     cond-bytes (within b area) (take (byteCount b) (drop (firstByte b) area))
-    (bytes-take (byteCount b) (drop (firstByte b) area) (drop-bytes (firstByte b) area (area-bytes (b .area) identity user h k)))
+    (bytes-take (byteCount b) (drop (firstByte b) area)
+    (drop-bytes (firstByte b) area (area-bytes (b .area) identity user h k)))
 
 -- the same of the words that the code has
-pub words-fit : (setup : Setup) (c : Custom) (identity user : List ℕ) {b : Block} {words : List ℕ} → b ≡ blockAsked setup c → words ≡ windowOf identity user b
+pub words-fit : (setup : Setup) (c : Custom) (identity user : List ℕ) {b : Block} {words : List ℕ}
+    → b ≡ blockAsked setup c → words ≡ windowOf identity user b
     → length words ≤ dataLength (c .blocksize) (c .blockcount)
-words-fit setup c identity user e w = subst (λ (l : List ℕ). length l ≤ dataLength (c .blocksize) (c .blockcount)) (sym (w ∙ ap (windowOf identity user) e)) (words-most setup c identity user)
+words-fit setup c identity user e w =
+    subst (λ (l : List ℕ). length l ≤ dataLength (c .blocksize) (c .blockcount))
+    (sym (w ∙ ap (windowOf identity user) e)) (words-most setup c identity user)

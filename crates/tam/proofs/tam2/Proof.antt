@@ -50,6 +50,7 @@ slice-aggregate-tam2-reply c = search needs
 tam2-reply-requires : tie.Need-tam2-reply-requires
 tam2-reply-requires c κs =
     let c1 = c .before in
+    let c1 = c1 in
     let c2 = c1 .before in
     let c6 = c2 .before .before .before .before in
     let c12 = c6 .before .before .before .before .before .before in
@@ -58,13 +59,15 @@ tam2-reply-requires c κs =
     let f = c6 .tam2-of .result in
     let fit = tam2-custom-fits (a .message .now) (λ i. c12 .shared-slice-known .given i .fits) in (
       ap (λ (g : Tam2). customFits (g .custom)) (c6 .tam2-of .ensures) ∙ fit,
-      words-fit (a .setup) (f .custom) (a .identity .now) (a .user .now) (c2 .words-asked .ensures) (c1 .window .ensures),
+      words-fit (a .setup) (f .custom) (a .identity .now) (a .user .now)
+          (c2 .words-asked .ensures) (c1 .window .ensures),
       omega (arith, length-replicate {A = ℕ} 172 0),
     )
 
 returns-2 : tie.Need-returns-2
 returns-2 c =
     let c1 = c .before in
+    let c1 = c1 in
     let c3 = c1 .before .before in
     let c4 = c3 .before in
     let c7 = c4 .before .before .before in
@@ -73,7 +76,8 @@ returns-2 c =
     let c11 = c9 .before .before in
     let c15 = c11 .before .before .before .before in
     let a = c15 .args in
-    tam2-fine (a .setup) (a .message .now) (a .draws) _ (a .identity .now) (a .user .now) (c11 .tam2 .ensures) _ _ _ _ _ _
+    tam2-fine (a .setup) (a .message .now) (a .draws) _ (a .identity .now) (a .user .now) (c11 .tam2 .ensures) _ _ _ _ _
+    _
     (c9 .enum-told .given .1) (c8 .tam2-of .ensures) (c7 .find .ensures .1) (c4 .words-asked .ensures)
     (c3 .window .ensures) (c1 .tam2-reply .ensures .0) (c1 .tam2-reply .ensures .1)
 

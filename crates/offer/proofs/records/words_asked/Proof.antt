@@ -11,7 +11,11 @@ block-asked-requires : tie.Need-block-asked-requires
 block-asked-requires c κs = search needs
 
 returns : tie.Need-returns
-returns c = let a = c .before .before .before .args in block-named (a .setup) (a .custom) (c .before .slot .ensures) (c .block-asked .ensures)
+returns c =
+    let c1 = c .before in
+    let c3 = c1 .before .before in
+    let a = c3 .args in
+    block-named (a .setup) (a .custom) (c1 .slot .ensures) (c .block-asked .ensures)
 
 pub words-asked-spec : {M : Type 1} → statement M
 words-asked-spec = tie.close (tie.spec slot-requires block-asked-requires returns)

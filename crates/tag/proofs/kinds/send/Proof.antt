@@ -24,9 +24,17 @@ slice-aggregate-copy c =
 copy-requires : tie.Need-copy-requires
 copy-requires c κs =
     let c2 = c .before .before in
+    let c2 = c2 in
     let c5 = c2 .before .before .before in
     let n = c2 .reply-length in
-    omega (arith, n .ensures, c5 .pre .0, c5 .pre .1, length-take-le (n .result) (c5 .args .reply .now) (omega (arith, n .ensures, c5 .pre .0)))
+    omega (
+      arith,
+      n .ensures,
+      c5 .pre .0,
+      c5 .pre .1,
+      length-take-le (n .result) (c5 .args .reply .now)
+          (omega (arith, n .ensures, c5 .pre .0)),
+    )
 
 same-length : tie.Need-same-length
 same-length c = search needs

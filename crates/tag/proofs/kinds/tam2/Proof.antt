@@ -35,6 +35,7 @@ returns : tie.Need-returns
 unfolding tam2Answer
 returns c =
     let c2 = c .before .before in
+    let c2 = c2 in
     let c5 = c2 .before .before .before in
     let c7 = c5 .before .before in
     let c12 = c7 .before .before .before .before .before in
@@ -43,7 +44,8 @@ returns c =
     let s = c2 .send .ensures in
     let owed = LL.owed T.the-type T′.the-laws (g .result) _ (g .ok) .1 .0 in
     let long = field-length 172 (g .result .reply) _ owed in
-    given-reacts _ _ (g .result) (g .ensures) long (lent (a .m .now) (a .draws) (a .room .now) (a .identity .now) (a .user .now)) (a .room .now) _ _ (s .0)
+    given-reacts _ _ (g .result) (g .ensures) long
+    (lent (a .m .now) (a .draws) (a .room .now) (a .identity .now) (a .user .now)) (a .room .now) _ _ (s .0)
     (s .1 ∙ c5 .cleared .ensures) (s .2)
 
 pub tam2-spec : {M : Type 1} → statement M
