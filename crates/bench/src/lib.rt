@@ -1,7 +1,7 @@
 // The bench: it keeps one tag, and steps it where it is stored. What a step does is said once, of the tag by value, in crate tag.
 pub mod cursor; // cursor.rt: a sheet, and a place in it
 
-use tag::Outcome;
+use offer::Outcome;
 use tag::Stepped;
 use tag::Tag;
 ghost use mathlib.Core.Path.{_≡_};

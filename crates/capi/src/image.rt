@@ -1,7 +1,7 @@
 // A tag in the memory of its caller: the image of bytes that specs/Image.antt describes.
+use entry::Session;
+use entry::State;
 use sheet::Verdict;
-use tag::Session;
-use tag::State;
 use tag::Tag;
 ghost use mathlib.Core.Path.{_≡_};
 ghost use mathlib.Core.List.{_++_};

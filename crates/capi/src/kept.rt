@@ -1,8 +1,8 @@
 // A tag that its caller keeps, as an image of 827 bytes, from one call to the next.
 use super::image;
 use super::image::IMAGE;
+use offer::Outcome;
 use sheet::Verdict;
-use tag::Outcome;
 ghost use mathlib.Core.Path.{_≡_};
 ghost use Prim.Native.Nat.{_*_};
 ghost use lib.ListN.{length};
@@ -148,9 +148,9 @@ fn answer(
     let next = stepped.tag;
     let session = next.session;
     image::keep(image, session);
-    *told = tag::reply_length(outcome);
+    *told = offer::reply_length(outcome);
     *purpose = purpose_of(outcome);
-    tag::number(outcome)
+    offer::number(outcome)
 }
 
 /// One message: 0, the reply in the room's first bytes with its length, and the Purpose of a reader that is let in (255 where none is); or

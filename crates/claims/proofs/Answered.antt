@@ -31,14 +31,14 @@ use Rattle.sheet.specs.Sheet.{readOf, walk, after}
 use Rattle.offer.specs.declared.Fault.{Fault as TagFault}
 use Rattle.offer.specs.declared.Fault.the-variants.{OtherError, NotSupported, MemoryOverrun, MemoryWriteError, OutOfTurn, ProofWrong, BenchFault}
 use Rattle.tag.specs.declared.Tag.{Tag}
-use Rattle.tag.specs.States as states
+use Rattle.offer.specs.Outcomes as outcomes
 use Rattle.tag.specs.Reactions.{lent}
 use Rattle.tag.proofs.Kept.{refusal-kept}
 use Rattle.claims.specs.Answered.{FromTo, TagAnswers, SheetAnswers, RecordAnswers, ChainAnswers, LayerAnswers}
 
 -- ---- the tag
 
-tag-number : (f : TagFault) → FromTo 1 7 (states.numberOf f)
+tag-number : (f : TagFault) → FromTo 1 7 (outcomes.numberOf f)
 tag-number OtherError = (omega arith, omega arith)
 tag-number NotSupported = (omega arith, omega arith)
 tag-number MemoryOverrun = (omega arith, omega arith)

@@ -21,7 +21,7 @@ use Rattle.entry.specs.declared.State.{State}
 use Rattle.entry.specs.declared.State.the-variants.{IamInit, MamInit}
 use Rattle.tag.specs.declared.Tag.{Tag}
 use Rattle.tag.specs.States.{afterIam1, afterMam1, inTurn}
-use Rattle.offer.specs.Checks.{judged}
+use Rattle.ground.specs.Checks.{judgedTo}
 use Rattle.offer.specs.Judged.{benchChecks}
 use Rattle.offer.specs.Records.{offered, sizeOffered, modeOffered, modeSupported, keyNamed, keyOf, keysOf, slotNamed, blockAsked}
 use Rattle.tag.specs.Answers.{Call, answerOf, letIn}
@@ -71,7 +71,7 @@ abbrev iam2 : Call
 iam2 = call (iam2Made keys 0 (replicate 4 0) (drawn 0))
 
 iam2-waits : Waits iam2 (waiting IamInit) Iam2
-unfolding judged benchChecks offered inTurn afterIam1 setup
+unfolding judgedTo benchChecks offered inTurn afterIam1 setup
 iam2-waits = record { bench = refl; there = refl; turn = refl }
 
 pub iam2-entered : answerOf iam2 (waiting IamInit) ≡ letIn iam2 0 [] user
@@ -81,7 +81,7 @@ abbrev mam2 : Call
 mam2 = call (mam2Made keys 0 (replicate 10 0) (drawn 0))
 
 mam2-waits : Waits mam2 (waiting MamInit) Mam2
-unfolding judged benchChecks offered inTurn afterMam1 setup
+unfolding judgedTo benchChecks offered inTurn afterMam1 setup
 mam2-waits = record { bench = refl; there = refl; turn = refl }
 
 pub mam2-entered : answerOf mam2 (waiting MamInit) ≡ letIn mam2 0 [] user
@@ -103,7 +103,7 @@ unfoldable pub iam3 : List ℕ
 iam3 = iam3Made keys custom 0 0 (replicate 4 0) (drawn 0) words
 
 iam3-waits : Waits (call iam3) (waiting IamInit) Iam3
-unfolding judged benchChecks offered inTurn afterIam1 setup
+unfolding judgedTo benchChecks offered inTurn afterIam1 setup
 iam3-waits = record { bench = refl; there = refl; turn = refl }
 
 fits : iam3Fits keys custom 0 0 8 ≡ true

@@ -20,7 +20,7 @@ use Rattle.offer.specs.declared.Outcome.the-variants.{Replied, Refused}
 use Rattle.tag.specs.declared.Tag.{Tag}
 use Rattle.entry.specs.Sessions.{cleared}
 use Rattle.tag.specs.States.{poweredUp}
-use Rattle.offer.specs.Checks.{judged}
+use Rattle.ground.specs.Checks.{judgedTo}
 use Rattle.offer.specs.Judged.{benchChecks}
 use Rattle.tag.specs.Answers.{answerOf, ofMessage, refused}
 use Rattle.tag.specs.Plays.{Brought, Left, Called}
@@ -40,7 +40,7 @@ use Rattle.claims.proofs.ShutOut.{unanswered}
 -- ---- demand 1
 
 called : Called bench [] user (brings [] 0) unanswered
-unfolding answerOf judged benchChecks ofMessage refused bench setup poweredUp cleared
+unfolding answerOf judgedTo benchChecks ofMessage refused bench setup poweredUp cleared
 called = record { outcome = refl; number = refl; next = refl; reply = refl; identity = refl; user = refl }
 
 pub tag-refused : TagRefused bench [] user (brings [] 0) unanswered OtherError

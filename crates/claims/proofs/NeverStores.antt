@@ -14,7 +14,7 @@ use Rattle.frames.specs.Messages.{iam1Of}
 use Rattle.entry.specs.declared.State.the-variants.{IamInit}
 use Rattle.entry.specs.Sessions.{cleared}
 use Rattle.tag.specs.States.{poweredUp, atRest, inTurn}
-use Rattle.offer.specs.Checks.{judged}
+use Rattle.ground.specs.Checks.{judgedTo}
 use Rattle.offer.specs.Records.{offered, hasKey, keysOf, slotNamed, blockAsked}
 use Rattle.offer.specs.Judged.{benchChecks, openingChecks}
 use Rattle.tag.specs.Answers.{Answer, answerOf, ofMessage, inOrder, byKind, iam1Answer, ifFine, replied, refused, letIn}
@@ -36,7 +36,7 @@ module _ (p : Program) (h : Standard p) where
   bs = brings iam1 0 ∷ brings iam3 0 ∷ []
 
   left : p bench [] user bs ≡ answered 0 ∷ leftOf (waiting IamInit) (brings iam3 0) (answerOf (call iam3) (waiting IamInit)) ∷ []
-  unfolding leftAll run sentAll setup bench poweredUp cleared atRest inTurn judged offered hasKey keysOf benchChecks openingChecks answerOf ofMessage inOrder byKind iam1Answer ifFine replied refused kindOf iamKind lengthFits iam1Of keyLimit profileLimit
+  unfolding leftAll run sentAll setup bench poweredUp cleared atRest inTurn judgedTo offered hasKey keysOf benchChecks openingChecks answerOf ofMessage inOrder byKind iam1Answer ifFine replied refused kindOf iamKind lengthFits iam1Of keyLimit profileLimit
   left = is-defined p h bench [] user bs
 
 pub never-stores : ShutOut NeverStores

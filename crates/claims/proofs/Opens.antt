@@ -27,7 +27,7 @@ use Rattle.entry.specs.Replies.{mam1Reply}
 use Rattle.payload.proofs.Bytes.{joined-bytes}
 use Rattle.offer.proofs.Bytes.{Ten, drop-bytes}
 use Rattle.tam.proofs.ReplyLengths.{tam1-long}
-use Rattle.entry.proofs.ReplyLengths.{mam1-long}
+use Rattle.entry.proofs.Mam1Reply.{mam1-long}
 use Rattle.reader.specs.declared.Keys.{Keys}
 use Rattle.reader_judge.specs.Findings.{nothingMore, issues}
 use Rattle.reader_judge.specs.Judged.{tam1Finding, mam1Finding}

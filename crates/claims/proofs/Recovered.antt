@@ -21,7 +21,7 @@ use Rattle.frames.specs.Lengths.{lengthFits}
 use Rattle.frames.specs.Messages.{iam1Of}
 use Rattle.tag.specs.States.{poweredUp, atRest, inTurn}
 use Rattle.entry.specs.Sessions.{cleared}
-use Rattle.offer.specs.Checks.{judged}
+use Rattle.ground.specs.Checks.{judgedTo}
 use Rattle.offer.specs.Records.{offered, hasKey, keyOf, keysOf}
 use Rattle.offer.specs.Judged.{benchChecks, openingChecks}
 use Rattle.tag.specs.Answers.{Call, refused, replied, ifFine, iam1Answer, byKind, inOrder, ofMessage, answerOf}
@@ -79,7 +79,7 @@ unfolding bench poweredUp setup keyidUsed kindOf iamKind iam1Of keyOf keysOf key
 shares = record { enc = refl; mac = refl; mackey = refl }
 
 called : Called bench [] user (brings iam1 0) (answered 0)
-unfolding setup bench poweredUp cleared atRest inTurn judged offered hasKey keysOf benchChecks openingChecks answerOf ofMessage inOrder byKind iam1Answer ifFine replied refused kindOf iamKind lengthFits iam1Of keyLimit profileLimit
+unfolding setup bench poweredUp cleared atRest inTurn judgedTo offered hasKey keysOf benchChecks openingChecks answerOf ofMessage inOrder byKind iam1Answer ifFine replied refused kindOf iamKind lengthFits iam1Of keyLimit profileLimit
 called = record { outcome = refl; number = refl; next = refl; reply = refl; identity = refl; user = refl }
 
 -- what the step left, as far as it says, goes to the judge, who finds what is due

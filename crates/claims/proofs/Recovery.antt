@@ -36,7 +36,7 @@ use Rattle.offer.proofs.Passed.{mode-below, bench-draws}
 use Rattle.tam.proofs.Passed.{tam2-mode, tam2-inside}
 use Rattle.offer.proofs.Bytes.{Ten}
 use Rattle.tam.proofs.Tam2Asked.{tam1-challenge, tam2-challenge, tam2-custom-fits, words-bytes}
-use Rattle.entry.proofs.ReplyBytes.{mam1-challenge}
+use Rattle.entry.proofs.Mam1Reply.{mam1-challenge}
 use Rattle.reader.specs.declared.Keys.{Keys}
 use Rattle.reader_judge.specs.Findings.{Finding, nothingMore, issues}
 use Rattle.reader_judge.specs.Judged.{iam1Finding, emptyFinding, judgementOf, byKind as findingOf}

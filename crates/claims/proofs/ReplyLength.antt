@@ -31,7 +31,7 @@ use Rattle.tag.specs.Reactions.{lent}
 use Rattle.tag.proofs.Cases.{fine-case}
 use Rattle.offer.proofs.Lines.{first-holds}
 use Rattle.tam.proofs.ReplyLengths.{tam1-long, tam2-long}
-use Rattle.entry.proofs.ReplyLengths.{mam1-long}
+use Rattle.entry.proofs.Mam1Reply.{mam1-long}
 use Rattle.tam.proofs.Tam2Asked.{words-most}
 use Rattle.claims.specs.ShutOut.{layoutLength, LengthFixed}
 

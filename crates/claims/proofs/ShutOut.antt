@@ -15,7 +15,7 @@ use Rattle.entry.specs.declared.State.the-variants.{IamInit}
 use Rattle.tag.specs.declared.Tag.{Tag}
 use Rattle.entry.specs.Sessions.{cleared}
 use Rattle.tag.specs.States.{poweredUp, atRest, inTurn}
-use Rattle.offer.specs.Checks.{judged}
+use Rattle.ground.specs.Checks.{judgedTo}
 use Rattle.offer.specs.Records.{offered, hasKey, keysOf}
 use Rattle.offer.specs.Judged.{benchChecks, openingChecks}
 use Rattle.tag.specs.Answers.{answerOf, ofMessage, inOrder, byKind, iam1Answer, ifFine, replied, refused}
@@ -62,11 +62,11 @@ abbrev pub unanswered : Left
 unanswered = record { stepped = record { outcome = Refused OtherError; tag = bench }; room = replicate 172 0; identity = []; user = user }
 
 one-call : (n : ℕ) → defined bench [] user (brings iam1 n ∷ []) ≡ answered n ∷ []
-unfolding leftAll run sentAll setup bench poweredUp cleared atRest inTurn judged offered hasKey keysOf benchChecks openingChecks answerOf ofMessage inOrder byKind iam1Answer ifFine replied refused kindOf iamKind lengthFits iam1Of keyLimit profileLimit
+unfolding leftAll run sentAll setup bench poweredUp cleared atRest inTurn judgedTo offered hasKey keysOf benchChecks openingChecks answerOf ofMessage inOrder byKind iam1Answer ifFine replied refused kindOf iamKind lengthFits iam1Of keyLimit profileLimit
 one-call n = refl
 
 two-calls : (n : ℕ) → defined bench [] user (brings [] 0 ∷ brings iam1 n ∷ []) ≡ unanswered ∷ answered n ∷ []
-unfolding leftAll run sentAll setup bench poweredUp cleared atRest inTurn judged offered hasKey keysOf benchChecks openingChecks answerOf ofMessage inOrder byKind iam1Answer ifFine replied refused kindOf iamKind lengthFits iam1Of keyLimit profileLimit
+unfolding leftAll run sentAll setup bench poweredUp cleared atRest inTurn judgedTo offered hasKey keysOf benchChecks openingChecks answerOf ofMessage inOrder byKind iam1Answer ifFine replied refused kindOf iamKind lengthFits iam1Of keyLimit profileLimit
 two-calls n = refl
 
 -- ---- the programs

@@ -22,7 +22,7 @@ use Rattle.frames.specs.Lengths.{lengthFits}
 use Rattle.frames.specs.Messages.{iam1Of}
 use Rattle.offer.specs.declared.Outcome.the-variants.{Replied}
 use Rattle.entry.specs.declared.State.the-variants.{IamInit}
-use Rattle.offer.specs.Checks.{judged}
+use Rattle.ground.specs.Checks.{judgedTo}
 use Rattle.entry.specs.Sessions.{cleared}
 use Rattle.tag.specs.States.{atRest, inTurn, poweredUp}
 use Rattle.offer.specs.Records.{offered, hasKey, keyOf, keysOf, keyPresent, keyNamed, slotNamed}
@@ -139,7 +139,7 @@ pub answered : (enc : List ℕ) (l : Key) (a b : ℕ) → answers (carrying (our
       identity = [];
       user = 1 ∷ 2 ∷ a ∷ b ∷ [];
     } ∷ []
-unfolding run poweredUp answerOf benchChecks judged ofMessage inOrder kindOf iamKind offered inTurn atRest cleared byKind iam1Answer iam1Of openingChecks lengthFits hasKey keysOf carrying ifFine replied
+unfolding run poweredUp answerOf benchChecks judgedTo ofMessage inOrder kindOf iamKind offered inTurn atRest cleared byKind iam1Answer iam1Of openingChecks lengthFits hasKey keysOf carrying ifFine replied
 answered enc l a b = refl
 
 -- Two tags that differ in every key byte of the second client's record, and in its word, and answer alike.

@@ -27,7 +27,7 @@ use Rattle.frames.specs.Messages.{tam1Of, tam2Of}
 use Rattle.payload.specs.Data.{filled, carriedData}
 use Rattle.payload.specs.Protected.{encrypts, withMac}
 use Rattle.offer.specs.declared.Outcome.the-variants.{Replied}
-use Rattle.offer.specs.Checks.{judged}
+use Rattle.ground.specs.Checks.{judgedTo}
 use Rattle.entry.specs.Sessions.{cleared}
 use Rattle.tag.specs.States.{inTurn, poweredUp}
 use Rattle.offer.specs.Records.{offered, sizeOffered, revOffered, modeOffered, modeSupported, hasKey, keyOf, keysOf, slotNamed, blockAsked}
@@ -104,7 +104,7 @@ asked = record {
 
 answered : (enc : List ℕ) (l : Key) (a b : ℕ) → answers (carrying (ours enc) l) (keeping a b) asked
     ≡ record { outcome = Replied (length (aesEnc enc block)); session = cleared; reply = aesEnc enc block; identity = []; user = 1 ∷ 2 ∷ a ∷ b ∷ [] } ∷ []
-unfolding run poweredUp answerOf benchChecks judged ofMessage inOrder kindOf tamKind offered inTurn byKind tam1Answer tam1Of bytesFrom openingChecks lengthFits hasKey keyOf keysOf carrying ifFine replied tam1Reply tamBlock twoBytes
+unfolding run poweredUp answerOf benchChecks judgedTo ofMessage inOrder kindOf tamKind offered inTurn byKind tam1Answer tam1Of bytesFrom openingChecks lengthFits hasKey keyOf keysOf carrying ifFine replied tam1Reply tamBlock twoBytes
 answered enc l a b = refl
 
 -- Two tags that differ in the ENC_key of record 1, and are told apart by their replies.
@@ -141,7 +141,7 @@ shown enc a b = (authentication enc ++ clear a b) ++ []
 
 word-answered : (enc : List ℕ) (l : Key) (a b : ℕ) → answers (carrying (ours enc) l) (showing a b) read
     ≡ record { outcome = Replied (length (shown enc a b)); session = cleared; reply = shown enc a b; identity = []; user = a ∷ b ∷ 3 ∷ 4 ∷ [] } ∷ []
-unfolding run poweredUp answerOf benchChecks judged ofMessage inOrder kindOf tamKind offered inTurn byKind tam2Answer tam2Of bytesFrom sizeOf selectCustom tam2Checks lengthFits sizeOffered revOffered modeSupported modeOffered hasMac hasKey keyOf keysOf slotNamed blockAsked wordsAsked addressOf stepOf overruns profileEnd lastWord permitted windowOf areaOf partOf within carrying ifFine replied tam2Reply tam2Body tamBlock twoBytes byMode tam2Constant encrypts withMac carriedData filled headerOf headerStart headerLength headerPart dataLength carried blocksLength dOf blockBytes blockSizeBit
+unfolding run poweredUp answerOf benchChecks judgedTo ofMessage inOrder kindOf tamKind offered inTurn byKind tam2Answer tam2Of bytesFrom sizeOf selectCustom tam2Checks lengthFits sizeOffered revOffered modeSupported modeOffered hasMac hasKey keyOf keysOf slotNamed blockAsked wordsAsked addressOf stepOf overruns profileEnd lastWord permitted windowOf areaOf partOf within carrying ifFine replied tam2Reply tam2Body tamBlock twoBytes byMode tam2Constant encrypts withMac carriedData filled headerOf headerStart headerLength headerPart dataLength carried blocksLength dOf blockBytes blockSizeBit
 word-answered enc l a b = refl
 
 -- Two tags that differ in that word, and are told apart by their replies, whatever the keys are.

@@ -20,7 +20,7 @@ use Rattle.frames.specs.Built.{Built}
 use Rattle.offer.specs.declared.Fault.{Fault as TagFault}
 use Rattle.offer.specs.declared.Outcome.the-variants.{Refused as NoReply}
 use Rattle.tag.specs.declared.Tag.{Tag}
-use Rattle.tag.specs.States as states
+use Rattle.offer.specs.Outcomes as outcomes
 use Rattle.tag.specs.States.{sessionAfter}
 use Rattle.tag.specs.Plays.{Brought, Left, Called}
 use Rattle.reader.specs.declared.Fault.{Fault as ReaderFault}
@@ -43,7 +43,7 @@ FromTo a b n = (a ≤ n) × (n ≤ b)
 
 -- A call that was refused: its number, the room and both areas with their bytes, and the tag: in Initial with nothing held (1 to 6), or as it was (7).
 pub record TagRefused (tag : Tag) (identity user : List ℕ) (b : Brought) (x : Left) (f : TagFault) : Type 0 where
-  pub number : FromTo 1 7 (states.numberOf f)
+  pub number : FromTo 1 7 (outcomes.numberOf f)
   pub silent : x .room ≡ b .room
   pub identity-kept : x .identity ≡ identity
   pub user-kept : x .user ≡ user

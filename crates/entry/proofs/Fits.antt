@@ -59,5 +59,9 @@ mam2-one κs a x y s t p q = reacted-one _ _ x y p q
 pub iam3-one : OneAnswer 4 iam3-kinds.ps iam3-kinds.r iam3.Post (Reacted × List ℕ × List ℕ)
     (λ κs r s. (r, now (s .1 .1 .1 .1 .0), now (s .1 .1 .1 .1 .1 .0)))
 iam3-one κs a x y s t p q =
-    λ j.
-    (reacted-one _ _ x y (p .letsIn) (q .letsIn) j, one (p .inIdentity) (q .inIdentity) j, one (p .inUser) (q .inUser) j)
+    λ j. (
+      reacted-one _ _ x y (p .letsIn) (q .letsIn) j,
+      one (p .inIdentity) (q .inIdentity) j,
+      one (p .inUser) (q .inUser)
+          j,
+    )

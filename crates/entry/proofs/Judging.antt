@@ -13,7 +13,8 @@ use Rattle.frames.specs.Constants.{withPurpose, iam3Constant}
 use Rattle.payload.specs.Alike.{same}
 use Rattle.payload.specs.Data.{headerFits, fillerFits}
 use Rattle.entry.specs.declared.Session.{Session}
-use Rattle.entry.specs.Opened.{constantIn, purposeIn, challengeIn, purposeAllowed, iamProof, sentBlock, openedData, sentMacFits, iam3Proof}
+use Rattle.entry.specs.Opened.{constantIn, purposeIn, challengeIn, purposeAllowed, iamProof, sentBlock}
+use Rattle.entry.specs.Opened.{openedData, sentMacFits, iam3Proof}
 
 -- a constant comes back out of the two bytes that it makes with a Purpose
 pub constant-back : (k p : ℕ) → constantIn (withPurpose k p) ≡ k
@@ -21,8 +22,10 @@ unfolding withPurpose
 constant-back k p = omega arith
 
 -- the tests of an opened block, each completed
-pub iam-tested : (constant k : ℕ) (held : Session) (b l : List ℕ) (known allowed issued inner r : Bool) (purpose : ℕ) → k ≡ constantIn b → known ≡ eqb k constant → purpose ≡ purposeIn b
-    → allowed ≡ purposeAllowed purpose → l ≡ challengeIn b → issued ≡ same l (held .tchallenge) → inner ≡ both allowed issued → r ≡ both known inner → r ≡ iamProof constant held b
+pub iam-tested : (constant k : ℕ) (held : Session) (b l : List ℕ) (known allowed issued inner r : Bool) (purpose : ℕ)
+    → k ≡ constantIn b → known ≡ eqb k constant → purpose ≡ purposeIn b
+    → allowed ≡ purposeAllowed purpose → l ≡ challengeIn b → issued ≡ same l (held .tchallenge)
+    → inner ≡ both allowed issued → r ≡ both known inner → r ≡ iamProof constant held b
 unfolding iamProof
 iam-tested constant k held b l known allowed issued inner r purpose e q f g h i n w =
     let right = q ∙ ap (λ (j : ℕ). eqb j constant) e in
@@ -31,9 +34,12 @@ iam-tested constant k held b l known allowed issued inner r purpose e q f g h i 
     w ∙ (λ j. both (right j) ((n ∙ (λ t. both (fit t) (same-one t))) j))
 
 -- IAM3: the first block opened is b, and the data in the clear are p
-pub iam3-tested : (key : Key) (held : Session) (f : Iam3) (m b p : List ℕ) (constant : ℕ) (first mac header filler last inner r : Bool) → b ≡ aesEnc (key .enc) (sentBlock m)
-    → p ≡ openedData key f m → constant ≡ iam3Constant (f .protmode) → first ≡ iamProof constant held b → mac ≡ sentMacFits key f m → header ≡ headerFits true (f .custom) p
-    → filler ≡ fillerFits true (f .custom) p → last ≡ both header filler → inner ≡ both mac last → r ≡ both first inner → r ≡ iam3Proof key held f m
+pub iam3-tested : (key : Key) (held : Session) (f : Iam3) (m b p : List ℕ) (constant : ℕ)
+    (first mac header filler last inner r : Bool) → b ≡ aesEnc (key .enc) (sentBlock m)
+    → p ≡ openedData key f m → constant ≡ iam3Constant (f .protmode) → first ≡ iamProof constant held b
+    → mac ≡ sentMacFits key f m → header ≡ headerFits true (f .custom) p
+    → filler ≡ fillerFits true (f .custom) p → last ≡ both header filler → inner ≡ both mac last → r ≡ both first inner
+    → r ≡ iam3Proof key held f m
 unfolding iam3Proof
 iam3-tested key held f m b p constant first mac header filler last inner r eb ep ek ef em eh el l n w =
     let one = ef ∙ (λ j. iamProof (ek j) held (eb j)) in

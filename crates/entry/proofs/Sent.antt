@@ -17,6 +17,8 @@ use Rattle.frames.specs.declared.Iam3.{Iam3}
 use Rattle.frames.specs.Blocks.{blocksLength}
 use Rattle.frames.specs.Fields.{sizeOf, customFits, selectCustom}
 use Rattle.frames.specs.Messages.{iam3Of}
+use Rattle.frames.proofs.Bounds.{blocks-most}
+use Rattle.frames.proofs.Range.{custom-range}
 use Rattle.payload.specs.Protected.{encrypts}
 use Rattle.payload.proofs.Lengths.{blocks-whole, cbc-dec-long}
 use Rattle.payload.proofs.Overs.{over-taken}
@@ -29,7 +31,8 @@ use Rattle.offer.proofs.Bytes.{select-custom-fits}
 pub part-long : (m : List ℕ) (a n : ℕ) → a + n ≤ length m → length (take n (drop a m)) ≡ n
 part-long m a n h = length-take-le n (drop a m) (omega (arith, length-drop a m))
 
-pub data-long : (c : Custom) (m : List ℕ) → 20 + blocksLength (c .blocksize) true (c .blockcount) ≤ length m → length (sentData c m) ≡ blocksLength (c .blocksize) true (c .blockcount)
+pub data-long : (c : Custom) (m : List ℕ) → 20 + blocksLength (c .blocksize) true (c .blockcount) ≤ length m
+    → length (sentData c m) ≡ blocksLength (c .blocksize) true (c .blockcount)
 data-long c m h = part-long m 20 (blocksLength (c .blocksize) true (c .blockcount)) h
 
 -- ---- the parts as the code takes them
@@ -37,7 +40,8 @@ data-long c m h = part-long m 20 (blocksLength (c .blocksize) true (c .blockcoun
 -- the first block behind the fields
 pub first-sent : (m : List ℕ) → 20 ≤ length m → firstBlock (take (length m - 4) (drop 4 m)) ≡ sentBlock m
 first-sent m h =
-    ap firstBlock (take-all (length m - 4) (drop 4 m) (omega (arith, length-drop 4 m))) ∙ first-block-is (drop 4 m) (omega (arith, length-drop 4 m))
+    ap firstBlock (take-all (length m - 4) (drop 4 m) (omega (arith, length-drop 4 m)))
+    ∙ first-block-is (drop 4 m) (omega (arith, length-drop 4 m))
 
 -- what stands behind a place, to the end
 pub rest-sent : (m : List ℕ) (a : ℕ) → take (length m - a) (drop a m) ≡ drop a m
@@ -47,7 +51,8 @@ rest-sent m a = take-all (length m - a) (drop a m) (omega (arith, length-drop a 
 pub covered : (m : List ℕ) (n : ℕ) → take (20 + n - 4) (drop 4 m) ≡ take 16 (drop 4 m) ++ take n (drop 20 m)
 covered m n =
     let e : 20 + n - 4 ≡ 16 + n = omega arith in
-    ap (λ (k : ℕ). take k (drop 4 m)) e ∙ take-add 16 n (drop 4 m) ∙ ap (λ (l : List ℕ). take 16 (drop 4 m) ++ take n l) (drop-drop 16 4 m)
+    ap (λ (k : ℕ). take k (drop 4 m)) e ∙ take-add 16 n (drop 4 m) ∙ ap (λ (l : List ℕ). take 16 (drop 4 m) ++ take n l)
+    (drop-drop 16 4 m)
 
 pub data-sent : (m : List ℕ) (n : ℕ) → take (20 + n - 20) (drop 20 m) ≡ take n (drop 20 m)
 data-sent m n = let e : 20 + n - 20 ≡ n = omega arith in ap (λ (k : ℕ). take k (drop 20 m)) e
@@ -55,7 +60,8 @@ data-sent m n = let e : 20 + n - 20 ≡ n = omega arith in ap (λ (k : ℕ). tak
 -- ---- what is opened
 
 module _ (key : Key) (f : Iam3) (m : List ℕ) where
-  pub opened-chained : encrypts (f .protmode) ≡ true → openedData key f m ≡ cbcDecAes (sentBlock m) (key .enc) (sentData (f .custom) m)
+  pub opened-chained : encrypts (f .protmode) ≡ true
+      → openedData key f m ≡ cbcDecAes (sentBlock m) (key .enc) (sentData (f .custom) m)
   unfolding openedData
   opened-chained e = rw e
 
@@ -68,7 +74,11 @@ module _ (key : Key) (f : Iam3) (m : List ℕ) where
   unfolding openedData
   opened-long h =
       let d = data-long (f .custom) m h in
-      picked (blocksLength (f .custom .blocksize) true (f .custom .blockcount)) (cbcDecAes (sentBlock m) (key .enc) (sentData (f .custom) m)) (sentData (f .custom) m) (encrypts (f .protmode)) (cbc-dec-long (sentBlock m) (key .enc) (sentData (f .custom) m) (omega (arith, blocks-whole (f .custom .blocksize) true (f .custom .blockcount))) ∙ d) d
+      picked (blocksLength (f .custom .blocksize) true (f .custom .blockcount))
+      (cbcDecAes (sentBlock m) (key .enc) (sentData (f .custom) m)) (sentData (f .custom) m)
+      (encrypts (f .protmode))
+      (cbc-dec-long (sentBlock m) (key .enc) (sentData (f .custom) m)
+      (omega (arith, blocks-whole (f .custom .blocksize) true (f .custom .blockcount))) ∙ d) d
     where
       picked : (n : ℕ) (a b : List ℕ) (t : Bool) → length a ≡ n → length b ≡ n → length (pick t a b) ≡ n
       picked n a b true p q = p
@@ -76,11 +86,21 @@ module _ (key : Key) (f : Iam3) (m : List ℕ) where
 
   -- what stands in the first bytes of a room, once it was opened there
   pub opened-front : 20 + blocksLength (f .custom .blocksize) true (f .custom .blockcount) ≤ length m
-      → (room after : List ℕ) (n : ℕ) → n ≡ blocksLength (f .custom .blocksize) true (f .custom .blockcount) → after ≡ over (openedData key f m) room
+      → (room after : List ℕ) (n : ℕ) → n ≡ blocksLength (f .custom .blocksize) true (f .custom .blockcount)
+      → after ≡ over (openedData key f m) room
       → take n after ≡ openedData key f m
   opened-front h room after n e q = ap (take n) q ∙ over-taken (openedData key f m) room n (opened-long h ∙ sym e)
 
 -- the fields of a message of bytes fit their bits
 pub iam3-in-range : (m : List ℕ) → Bytes m → customFits (iam3Of m .custom) ≡ true
 unfolding iam3Of selectCustom
-iam3-in-range m h = select-custom-fits (sizeOf (getD m 0 0 / 4 % 2)) (getD m 1 0) (getD m 2 0) (getD m 3 0) (h 1) (h 2) (h 3)
+iam3-in-range m h =
+    select-custom-fits (sizeOf (getD m 0 0 / 4 % 2)) (getD m 1 0) (getD m 2 0) (getD m 3 0) (h 1) (h 2) (h 3)
+
+-- and so there are no more than nine blocks
+pub data-most : (f : Iam3) (m : List ℕ) → Bytes m → f ≡ iam3Of m → (n : ℕ)
+    → n ≡ blocksLength (f .custom .blocksize) true (f .custom .blockcount) → n ≤ 144
+data-most f m h e n q =
+    let fit : customFits (f .custom) ≡ true = ap (λ (g : Iam3). customFits (g .custom)) e ∙ iam3-in-range m h in
+    let most = blocks-most (f .custom .blocksize) true (f .custom .blockcount) (custom-range (f .custom) fit .blockcount) in
+    omega (arith, q, most)

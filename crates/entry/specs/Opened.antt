@@ -1,4 +1,5 @@
--- What the tag judges of what the reader sends: 9.5.5, 9.5.8, 9.6.5. The reader made it by AES-DEC, so the tag opens it by AES-ENC.
+-- What the tag judges of what the reader sends: 9.5.5, 9.5.8, 9.6.5. The reader made it by AES-DEC, so the tag opens it
+-- by AES-ENC.
 use Prim.Native.Nat.{ℕ, _+_, _*_, _/_, _%_}
 use mathlib.Core.Bool.{Bool, true}
 use mathlib.Core.List.{List, _++_}
@@ -35,9 +36,11 @@ challengeIn b = take 10 (drop 6 b)
 unfoldable pub purposeAllowed : ℕ → Bool
 purposeAllowed purpose = true
 
--- 9.5.5 and 9.5.8: the constant, the Purpose, and the challenge that the tag issued. IRnd is the reader's, and is not judged.
+-- 9.5.5 and 9.5.8: the constant, the Purpose, and the challenge that the tag issued. IRnd is the reader's, and is not
+-- judged.
 unfoldable pub iamProof : ℕ → Session → List ℕ → Bool
-iamProof constant held b = both (eqb (constantIn b) constant) (both (purposeAllowed (purposeIn b)) (same (challengeIn b) (held .tchallenge)))
+iamProof constant held b =
+    both (eqb (constantIn b) constant) (both (purposeAllowed (purposeIn b)) (same (challengeIn b) (held .tchallenge)))
 
 -- 9.6.5: also the last 32 bits of the reader's own challenge.
 unfoldable pub mamProof : Session → List ℕ → Bool
@@ -55,11 +58,13 @@ sentMac c m = drop (iam3HeadLength + blocksLength (c .blocksize) true (c .blockc
 
 -- 9.5.8.2 to 9.5.8.5: header, data and filler in the clear.
 unfoldable pub openedData : Key → Iam3 → List ℕ → List ℕ
-openedData key f m = pick (encrypts (f .protmode)) (cbcDecAes (sentBlock m) (key .enc) (sentData (f .custom) m)) (sentData (f .custom) m)
+openedData key f m =
+    pick (encrypts (f .protmode)) (cbcDecAes (sentBlock m) (key .enc) (sentData (f .custom) m)) (sentData (f .custom) m)
 
 -- 9.5.8.4, 9.5.8.5: the MAC covers A and the D blocks as they were sent.
 unfoldable pub sentMacFits : Key → Iam3 → List ℕ → Bool
-sentMacFits key f m = macFits (key .mackey) (f .protmode) (sentBlock m ++ sentData (f .custom) m) (sentMac (f .custom) m)
+sentMacFits key f m =
+    macFits (key .mackey) (f .protmode) (sentBlock m ++ sentData (f .custom) m) (sentMac (f .custom) m)
 
 -- 9.5.8: an IAM3 always has a header; the data's words stand behind it.
 abbrev pub wordsIn : Custom → List ℕ → List ℕ

@@ -1,4 +1,5 @@
-// Entry: how a reader is let in by IAM (9.5) and MAM (9.6), and the words that an IAM3 writes. Each message for any input:
+// Entry: how a reader is let in by IAM (9.5) and MAM (9.6), and the words that an IAM3 writes. Each message for any
+// input:
 // whether it is offered and in its turn is not judged here.
 use frames::Kind;
 use frames::fields::iam1_of;
@@ -32,7 +33,8 @@ pub enum State {
     IaOk,
 }
 
-/// What the tag holds from one message to the next: its state, the KeyID that was named, its own challenge, and the last
+/// What the tag holds from one message to the next: its state, the KeyID that was named, its own challenge, and the
+/// last
 /// 32 bits of the reader's.
 pub struct Session {
     pub state: State,
@@ -47,7 +49,8 @@ pub struct Reacted {
     pub session: Session,
 }
 
-/// The same of a message that asks for a challenge, with the reply: as many bytes as the outcome says, zeros behind them.
+/// The same of a message that asks for a challenge, with the reply: as many bytes as the outcome says, zeros behind
+/// them.
 pub struct Challenged {
     pub outcome: Outcome,
     pub session: Session,

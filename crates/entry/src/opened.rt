@@ -134,7 +134,8 @@ fn mac_fits(key: Key, f: Iam3, m: &[u8]) -> bool
 // The data's words over the block that the message names; every other byte of both areas stays.
 // Ruled out: the header written, and the filler.
 fn write(block: Block, c: Custom, p: &[u8], identity: &mut [u8], user: &mut [u8])
-    ensures { λ _. ⌜ (now (identity .exit) ≡ storedIn Area.Identity block (wordsIn c (now (p .entry))) (now (identity .entry)))
+    ensures { λ _. ⌜
+        (now (identity .exit) ≡ storedIn Area.Identity block (wordsIn c (now (p .entry))) (now (identity .entry)))
         × (now (user .exit) ≡ storedIn Area.User block (wordsIn c (now (p .entry))) (now (user .entry))) ⌝ }
 {
     memory::store(identity, user, block, payload::words_in(true, c, p));

@@ -44,10 +44,12 @@ two-bytes c h (suc zero) = omega arith
 two-bytes c h (suc (suc i)) = lit< tt
 
 -- three bytes give fields that fit their bits
-pub select-custom-fits : (s : BlockSize) (x y z : ℕ) → x < 256 → y < 256 → z < 256 → customFits (selectCustom s x y z) ≡ true
+pub select-custom-fits : (s : BlockSize) (x y z : ℕ) → x < 256 → y < 256 → z < 256
+    → customFits (selectCustom s x y z) ≡ true
 unfolding customFits selectCustom
 select-custom-fits s x y z hx hy hz =
-    ap₂ both (lt-ltb (x / 16) 16 (omega arith)) (ap₂ both (lt-ltb (x % 16 * 256 + y) 4096 (omega arith)) (lt-ltb (z / 16) 16 (omega arith)))
+    ap₂ both (lt-ltb (x / 16) 16 (omega arith))
+    (ap₂ both (lt-ltb (x % 16 * 256 + y) 4096 (omega arith)) (lt-ltb (z / 16) 16 (omega arith)))
 
 -- ---- challenges, draws and the blocks made of them
 
@@ -68,11 +70,16 @@ module _ (m : List ℕ) (h : Bytes m) where
   challenge-ten = record { ten = bytes-length m 2 10; bytes = bytes-from 10 2 }
 
 -- AES-ENC of a constant, four draws and a challenge
-pub block-block : (enc middle ichallenge : List ℕ) (c : ℕ) → Bytes enc → c ≤ 0xFFFF → length middle ≡ 4 → Bytes middle → Ten ichallenge
+pub block-block : (enc middle ichallenge : List ℕ) (c : ℕ) → Bytes enc → c ≤ 0xFFFF → length middle ≡ 4 → Bytes middle
+    → Ten ichallenge
     → Block (aesEnc enc (twoBytes c ++ (middle ++ ichallenge)))
 unfolding twoBytes
 block-block enc middle ichallenge c k l e h t =
     let s = middle ++ ichallenge in
     let n : length s ≡ 14 = omega (arith, length-append middle ichallenge, t .ten) in
     enc-block enc (twoBytes c ++ s) k
-    (record { sixteen = omega arith; bytes = joined-bytes (twoBytes c) s (two-bytes c l) (joined-bytes middle ichallenge h (t .bytes)) })
+    (record {
+      sixteen = omega arith;
+      bytes =
+          joined-bytes (twoBytes c) s (two-bytes c l) (joined-bytes middle ichallenge h (t .bytes));
+    })

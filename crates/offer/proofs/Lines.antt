@@ -57,7 +57,8 @@ module _ (c : Check Fault) (cs : List (Check Fault)) where
   others-hold h = held (c .holds) (c .otherwise) (judged cs) h .1
 
 -- Two lines, one after the other.
-kept : (b : Bool) (g f : Fault) (v w : Verdict) → (v ≡ Wrong f → w ≡ Wrong f) → pick b v (Wrong g) ≡ Wrong f → pick b w (Wrong g) ≡ Wrong f
+kept : (b : Bool) (g f : Fault) (v w : Verdict) → (v ≡ Wrong f → w ≡ Wrong f) → pick b v (Wrong g) ≡ Wrong f
+    → pick b w (Wrong g) ≡ Wrong f
 kept true g f v w k h = k h
 kept false g f v w k h = h
 
@@ -65,7 +66,9 @@ module _ (ys : List (Check Fault)) where
   pub then-fine : (xs : List (Check Fault)) → judged xs ≡ Fine → judged (xs ++ ys) ≡ judged ys
   unfolding judgedTo
   then-fine [] h = refl
-  then-fine (c ∷ cs) h = rw (held (c .holds) (c .otherwise) (judged cs) h .0) (then-fine cs (held (c .holds) (c .otherwise) (judged cs) h .1))
+  then-fine (c ∷ cs) h =
+      rw (held (c .holds) (c .otherwise) (judged cs) h .0)
+      (then-fine cs (held (c .holds) (c .otherwise) (judged cs) h .1))
 
   pub then-wrong : (f : Fault) (xs : List (Check Fault)) → judged xs ≡ Wrong f → judged (xs ++ ys) ≡ Wrong f
   unfolding judgedTo

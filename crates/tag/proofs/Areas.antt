@@ -23,10 +23,12 @@ use Rattle.tag.specs.declared.Tag.{Tag}
 use Rattle.offer.specs.declared.Fault.the-variants.{NotSupported}
 use Rattle.entry.specs.Sessions.{cleared}
 use Rattle.offer.specs.Records.{blockAsked}
-use Rattle.tag.specs.Answers.{Answer, Call, refused, replied, letIn, tam1Answer, tam2Answer, iam1Answer, iam2Answer, iam3Answer, mam1Answer, mam2Answer, byKind, answerOf}
+use Rattle.tag.specs.Answers.{Answer, Call, refused, replied, letIn, tam1Answer, tam2Answer, iam1Answer}
+use Rattle.tag.specs.Answers.{iam2Answer, iam3Answer, mam1Answer, mam2Answer, byKind, answerOf}
 use Rattle.tag.proofs.Cases.{fine-case, answer-case}
 
--- A byte of an area that is none of the block's: the block is in the other area, or the byte lies before it or behind it.
+-- A byte of an area that is none of the block's: the block is in the other area, or the byte lies before it or behind
+-- it.
 abbrev pub Outside : Area → Block → ℕ → Type 0
 Outside area b i = (sameArea area (b .area) ≡ false) ⊎ ((i < firstByte b) ⊎ (firstByte b + byteCount b ≤ i))
 
@@ -37,13 +39,16 @@ pub record Still (c : Call) (a : Answer) : Type 0 where
 
 -- Every byte but those of the addressed block is as it was, in both areas, and none is added or lost.
 pub record Elsewhere (c : Call) (tag : Tag) (a : Answer) : Type 0 where
-  pub identity : (i : ℕ) → Outside Identity (blockAsked (tag .setup) (iam3Of (c .message) .custom)) i → getD (a .identity) i 0 ≡ getD (c .identity) i 0
-  pub user : (i : ℕ) → Outside User (blockAsked (tag .setup) (iam3Of (c .message) .custom)) i → getD (a .user) i 0 ≡ getD (c .user) i 0
+  pub identity : (i : ℕ) → Outside Identity (blockAsked (tag .setup) (iam3Of (c .message) .custom)) i
+      → getD (a .identity) i 0 ≡ getD (c .identity) i 0
+  pub user : (i : ℕ) → Outside User (blockAsked (tag .setup) (iam3Of (c .message) .custom)) i
+      → getD (a .user) i 0 ≡ getD (c .user) i 0
   pub identityLength : length (a .identity) ≡ length (c .identity)
   pub userLength : length (a .user) ≡ length (c .user)
 
 -- a store changes no such byte
-stored-apart : (area : Area) (b : Block) (bytes s : List ℕ) (i : ℕ) → Outside area b i → getD (storedIn area b bytes s) i 0 ≡ getD s i 0
+stored-apart : (area : Area) (b : Block) (bytes s : List ℕ) (i : ℕ) → Outside area b i
+    → getD (storedIn area b bytes s) i 0 ≡ getD s i 0
 stored-apart area b bytes s i (inl e) = ap (λ (l : List ℕ). getD l i 0) (stored-elsewhere area b bytes s e)
 stored-apart area b bytes s i (inr o) = stored-outside area b bytes s i o
 
@@ -54,18 +59,27 @@ module _ (c : Call) where
 
   pub kind-still : (setup : Setup) (held : Session) (k : Kind) → (k ≡ Iam3 → ⊥) → Still c (byKind c setup held k)
   unfolding byKind tam1Answer tam2Answer iam1Answer iam2Answer mam1Answer mam2Answer replied letIn
-  kind-still setup held Tam1 h = fine-case c (Still c) (λ f. refusal-still f cleared) _ _ (record { identity = refl; user = refl })
-  kind-still setup held Tam2 h = fine-case c (Still c) (λ f. refusal-still f cleared) _ _ (record { identity = refl; user = refl })
-  kind-still setup held Iam1 h = fine-case c (Still c) (λ f. refusal-still f cleared) _ _ (record { identity = refl; user = refl })
-  kind-still setup held Iam2 h = fine-case c (Still c) (λ f. refusal-still f cleared) _ _ (record { identity = refl; user = refl })
+  kind-still setup held Tam1 h =
+      fine-case c (Still c) (λ f. refusal-still f cleared) _ _ (record { identity = refl; user = refl })
+  kind-still setup held Tam2 h =
+      fine-case c (Still c) (λ f. refusal-still f cleared) _ _ (record { identity = refl; user = refl })
+  kind-still setup held Iam1 h =
+      fine-case c (Still c) (λ f. refusal-still f cleared) _ _ (record { identity = refl; user = refl })
+  kind-still setup held Iam2 h =
+      fine-case c (Still c) (λ f. refusal-still f cleared) _ _ (record { identity = refl; user = refl })
   kind-still setup held Iam3 h = absurd (h refl)
-  kind-still setup held Mam1 h = fine-case c (Still c) (λ f. refusal-still f cleared) _ _ (record { identity = refl; user = refl })
-  kind-still setup held Mam2 h = fine-case c (Still c) (λ f. refusal-still f cleared) _ _ (record { identity = refl; user = refl })
+  kind-still setup held Mam1 h =
+      fine-case c (Still c) (λ f. refusal-still f cleared) _ _ (record { identity = refl; user = refl })
+  kind-still setup held Mam2 h =
+      fine-case c (Still c) (λ f. refusal-still f cleared) _ _ (record { identity = refl; user = refl })
   kind-still setup held Unsupported h = refusal-still NotSupported cleared
 
   -- a message that is no IAM3 changes no area
-  pub still : (tag : Tag) → ((first : ℕ) (rest : List ℕ) → c .message ≡ first ∷ rest → kindOf first ≡ Iam3 → ⊥) → Still c (answerOf c tag)
-  still tag h = answer-case c (Still c) (λ f. refusal-still f cleared) tag (λ f. refusal-still f (tag .session)) (λ first rest e o t. kind-still (tag .setup) (tag .session) (kindOf first) (h first rest e))
+  pub still : (tag : Tag) → ((first : ℕ) (rest : List ℕ) → c .message ≡ first ∷ rest → kindOf first ≡ Iam3 → ⊥)
+      → Still c (answerOf c tag)
+  still tag h =
+      answer-case c (Still c) (λ f. refusal-still f cleared) tag (λ f. refusal-still f (tag .session))
+      (λ first rest e o t. kind-still (tag .setup) (tag .session) (kindOf first) (h first rest e))
 
   still-elsewhere : (tag : Tag) (a : Answer) → Still c a → Elsewhere c tag a
   still-elsewhere tag a s = record {
@@ -89,16 +103,31 @@ module _ (c : Call) where
   kind-elsewhere : (tag : Tag) (k : Kind) → Elsewhere c tag (byKind c (tag .setup) (tag .session) k)
   unfolding byKind
   kind-elsewhere tag Iam3 = iam3-elsewhere tag
-  kind-elsewhere tag Tam1 = still-elsewhere tag _ (kind-still (tag .setup) (tag .session) Tam1 (λ e. (let z : _≡_ {A = ℕ} 0 1 = cc in omega arith)))
-  kind-elsewhere tag Tam2 = still-elsewhere tag _ (kind-still (tag .setup) (tag .session) Tam2 (λ e. (let z : _≡_ {A = ℕ} 0 1 = cc in omega arith)))
-  kind-elsewhere tag Iam1 = still-elsewhere tag _ (kind-still (tag .setup) (tag .session) Iam1 (λ e. (let z : _≡_ {A = ℕ} 0 1 = cc in omega arith)))
-  kind-elsewhere tag Iam2 = still-elsewhere tag _ (kind-still (tag .setup) (tag .session) Iam2 (λ e. (let z : _≡_ {A = ℕ} 0 1 = cc in omega arith)))
-  kind-elsewhere tag Mam1 = still-elsewhere tag _ (kind-still (tag .setup) (tag .session) Mam1 (λ e. (let z : _≡_ {A = ℕ} 0 1 = cc in omega arith)))
-  kind-elsewhere tag Mam2 = still-elsewhere tag _ (kind-still (tag .setup) (tag .session) Mam2 (λ e. (let z : _≡_ {A = ℕ} 0 1 = cc in omega arith)))
-  kind-elsewhere tag Unsupported = still-elsewhere tag _ (kind-still (tag .setup) (tag .session) Unsupported (λ e. (let z : _≡_ {A = ℕ} 0 1 = cc in omega arith)))
+  kind-elsewhere tag Tam1 =
+      still-elsewhere tag _
+      (kind-still (tag .setup) (tag .session) Tam1 (λ e. (let z : _≡_ {A = ℕ} 0 1 = cc in omega arith)))
+  kind-elsewhere tag Tam2 =
+      still-elsewhere tag _
+      (kind-still (tag .setup) (tag .session) Tam2 (λ e. (let z : _≡_ {A = ℕ} 0 1 = cc in omega arith)))
+  kind-elsewhere tag Iam1 =
+      still-elsewhere tag _
+      (kind-still (tag .setup) (tag .session) Iam1 (λ e. (let z : _≡_ {A = ℕ} 0 1 = cc in omega arith)))
+  kind-elsewhere tag Iam2 =
+      still-elsewhere tag _
+      (kind-still (tag .setup) (tag .session) Iam2 (λ e. (let z : _≡_ {A = ℕ} 0 1 = cc in omega arith)))
+  kind-elsewhere tag Mam1 =
+      still-elsewhere tag _
+      (kind-still (tag .setup) (tag .session) Mam1 (λ e. (let z : _≡_ {A = ℕ} 0 1 = cc in omega arith)))
+  kind-elsewhere tag Mam2 =
+      still-elsewhere tag _
+      (kind-still (tag .setup) (tag .session) Mam2 (λ e. (let z : _≡_ {A = ℕ} 0 1 = cc in omega arith)))
+  kind-elsewhere tag Unsupported =
+      still-elsewhere tag _
+      (kind-still (tag .setup) (tag .session) Unsupported (λ e. (let z : _≡_ {A = ℕ} 0 1 = cc in omega arith)))
 
   -- whatever the message, every byte outside the addressed block stays
   pub elsewhere : (tag : Tag) → Elsewhere c tag (answerOf c tag)
   elsewhere tag =
       answer-case c (Elsewhere c tag) (λ f. still-elsewhere tag (refused c f cleared) (refusal-still f cleared)) tag
-      (λ f. still-elsewhere tag (refused c f (tag .session)) (refusal-still f (tag .session))) (λ first rest e o t. kind-elsewhere tag (kindOf first))
+      (λ f. still-elsewhere tag (refused c f (tag .session)) (refusal-still f (tag .session)))
+      (λ first rest e o t. kind-elsewhere tag (kindOf first))

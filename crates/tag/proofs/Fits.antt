@@ -1,4 +1,5 @@
--- No second answer fits the contracts of the exported functions: of a step the result, the room and both areas are determined.
+-- No second answer fits the contracts of the exported functions: of a step the result, the room and both areas are
+-- determined.
 use mathlib.Core.Path.{_≡_}
 use mathlib.Core.Bool.{Bool}
 use mathlib.Core.List.{List}
@@ -9,22 +10,12 @@ use Rattle.tag.specs.declared.Stepped.{Stepped}
 use Rattle.tag.specs.declared.Tag.{Tag}
 use Rattle.tag.specs.Answers.{Answer}
 use Rattle.tag.specs.Reactions.{Steps}
-use Rattle.tag.proofs.number.Reads as number
-use Rattle.tag.proofs.number.Kinds as number-kinds
-use Rattle.tag.proofs.reply_length.Reads as reply-length
-use Rattle.tag.proofs.reply_length.Kinds as reply-length-kinds
 use Rattle.tag.proofs.power_up.Reads as power-up
 use Rattle.tag.proofs.power_up.Kinds as power-up-kinds
 use Rattle.tag.proofs.key_held.Reads as key-held
 use Rattle.tag.proofs.key_held.Kinds as key-held-kinds
 use Rattle.tag.proofs.step.Reads as step
 use Rattle.tag.proofs.step.Kinds as step-kinds
-
-pub number-one : OneAnswer 0 number-kinds.ps number-kinds.r number.Post ℕ (λ κs r s. r)
-number-one κs a x y s t p q = one p q
-
-pub reply-length-one : OneAnswer 0 reply-length-kinds.ps reply-length-kinds.r reply-length.Post ℕ (λ κs r s. r)
-reply-length-one κs a x y s t p q = one p q
 
 pub power-up-one : OneAnswer 0 power-up-kinds.ps power-up-kinds.r power-up.Post Tag (λ κs r s. r)
 power-up-one κs a x y s t p q = one p q
@@ -40,5 +31,10 @@ stepped a tag room r after i u h = λ j. record { outcome = h .outcome j; tag = 
 pub step-one : OneAnswer 5 step-kinds.ps step-kinds.r step.Post (Stepped × List ℕ × List ℕ × List ℕ)
     (λ κs r s. (r, now (s .1 .1 .1 .0), now (s .1 .1 .1 .1 .0), now (s .1 .1 .1 .1 .1 .0)))
 step-one κs a x y s t p q =
-    λ j.
-    (one (stepped _ _ _ x _ _ _ p) (stepped _ _ _ y _ _ _ q) j, one (p .reply) (q .reply) j, one (p .identity) (q .identity) j, one (p .user) (q .user) j)
+    λ j. (
+      one (stepped _ _ _ x _ _ _ p) (stepped _ _ _ y _ _ _ q) j,
+      one (p .reply) (q .reply) j,
+      one (p .identity)
+          (q .identity) j,
+      one (p .user) (q .user) j,
+    )

@@ -1,4 +1,5 @@
--- While a challenge waits for its answer, a record has the KeyID that is held: from power-up on no key of zeros stands in for one that is missing.
+-- While a challenge waits for its answer, a record has the KeyID that is held: from power-up on no key of zeros stands
+-- in for one that is missing.
 use mathlib.Core.Path.{_≡_, refl}
 use mathlib.Core.Bool.{true}
 use Prim.Native.Nat.{ℕ}
@@ -18,7 +19,8 @@ use Rattle.entry.specs.Sessions.{cleared, entered}
 use Rattle.tag.specs.States.{poweredUp}
 use Rattle.offer.specs.Records.{keyPresent}
 use Rattle.tag.specs.States.{keyFits}
-use Rattle.tag.specs.Answers.{Answer, Call, refused, replied, letIn, tam1Answer, tam2Answer, iam1Answer, iam2Answer, iam3Answer, mam1Answer, mam2Answer, byKind, answerOf}
+use Rattle.tag.specs.Answers.{Answer, Call, refused, replied, letIn, tam1Answer, tam2Answer, iam1Answer}
+use Rattle.tag.specs.Answers.{iam2Answer, iam3Answer, mam1Answer, mam2Answer, byKind, answerOf}
 use Rattle.tag.proofs.Cases.{fine-case, fine-known, answer-case}
 use Rattle.offer.proofs.Passed.{opening-key}
 
@@ -84,7 +86,9 @@ module _ (setup : Setup) where
     kind-holds held Unsupported = refused-holds NotSupported
 
 -- a call keeps it so
-pub answer-holds : (c : Call) (tag : Tag) → Holds (tag .setup) (tag .session) → Holds (tag .setup) (answerOf c tag .session)
+pub answer-holds : (c : Call) (tag : Tag) → Holds (tag .setup) (tag .session)
+    → Holds (tag .setup) (answerOf c tag .session)
 unfolding refused
 answer-holds c tag h =
-    answer-case c (Of (tag .setup) c) (refused-holds (tag .setup) c) tag (λ f. h) (λ first rest e o t. kind-holds (tag .setup) c (tag .session) (kindOf first))
+    answer-case c (Of (tag .setup) c) (refused-holds (tag .setup) c) tag (λ f. h)
+    (λ first rest e o t. kind-holds (tag .setup) c (tag .session) (kindOf first))

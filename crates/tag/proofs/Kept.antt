@@ -1,4 +1,5 @@
--- Every refusal keeps everything: it sends nothing, changes no byte of either area, and leaves the tag in Initial with nothing held (1 to 6) or as it was (7).
+-- Every refusal keeps everything: it sends nothing, changes no byte of either area, and leaves the tag in Initial with
+-- nothing held (1 to 6) or as it was (7).
 use mathlib.Core.Path.{_≡_, refl, sym, _∙_, subst}
 use mathlib.Core.Bool.{Bool, true, false}
 use mathlib.Core.List.{List, [], _∷_}
@@ -18,14 +19,15 @@ use Rattle.offer.specs.declared.Verdict.{Verdict}
 use Rattle.offer.specs.declared.Verdict.the-variants.{Fine, Wrong}
 use Rattle.entry.specs.Sessions.{cleared}
 use Rattle.tag.specs.States.{inTurn, sessionAfter}
-use Rattle.ground.specs.Checks.{Check}
-use Rattle.tag.specs.Checks.{after}
+use Rattle.ground.specs.Checks.{Check, judgedTo}
 use Rattle.offer.specs.Checks.{judged}
 use Rattle.offer.specs.Records.{offered}
 use Rattle.offer.specs.Judged.{benchChecks, openingChecks}
 use Rattle.tam.specs.Judged.{tam2Checks}
 use Rattle.entry.specs.Judged.{iam2Checks, iam3Checks, mam2Checks}
-use Rattle.tag.specs.Answers.{Answer, Call, refused, replied, letIn, ifFine, tam1Answer, tam2Answer, iam1Answer, iam2Answer, iam3Answer, mam1Answer, mam2Answer, byKind, inOrder, ofMessage, ofBench, answerOf}
+use Rattle.tag.specs.Answers.{Answer, Call, refused, replied, letIn, ifFine, tam1Answer, tam2Answer, iam1Answer}
+use Rattle.tag.specs.Answers.{iam2Answer, iam3Answer, mam1Answer, mam2Answer, byKind, inOrder, ofMessage, ofBench}
+use Rattle.tag.specs.Answers.{answerOf}
 
 -- Nothing was sent and no byte of an area changed; the tag holds `s`.
 pub record Kept (c : Call) (s : Session) (a : Answer) : Type 0 where
@@ -37,16 +39,16 @@ pub record Kept (c : Call) (s : Session) (a : Answer) : Type 0 where
 -- ---- a line of checks refuses by one of its own numbers
 
 module _ (P : Fault → Type 0) where
-  abbrev Each : List Check → Type 0
+  abbrev Each : List (Check Fault) → Type 0
   Each [] = Unit
   Each (k ∷ ks) = P (k .otherwise) × Each ks
 
-  after-fault : (b : Bool) (g f : Fault) (v : Verdict) → P g → (v ≡ Wrong f → P f) → after b g v ≡ Wrong f → P f
+  after-fault : (b : Bool) (g f : Fault) (v : Verdict) → P g → (v ≡ Wrong f → P f) → pick b v (Wrong g) ≡ Wrong f → P f
   after-fault true g f v p h e = h e
   after-fault false g f v p h e = let q : g ≡ f = cc in subst (λ (x : Fault). P x) q p
 
-  fault-of : (ks : List Check) → Each ks → (f : Fault) → judged ks ≡ Wrong f → P f
-  unfolding judged
+  fault-of : (ks : List (Check Fault)) → Each ks → (f : Fault) → judged ks ≡ Wrong f → P f
+  unfolding judgedTo
   fault-of [] h f e = let z : _≡_ {A = ℕ} 0 1 = cc in absurd (omega arith)
   fault-of (k ∷ ks) (p, h) f e = after-fault (k .holds) (k .otherwise) f (judged ks) p (fault-of ks h f) e
 
@@ -62,7 +64,11 @@ KeptInitial c a = (f : Fault) → a .outcome ≡ Refused f → Kept c cleared a 
 module _ (c : Call) where
   refusal-keeps : (g : Fault) → ToInitial g → KeptInitial c (refused c g cleared)
   unfolding refused
-  refusal-keeps g h f e = (record { silent = refl; identity = refl; user = refl; session = refl }, (let q : g ≡ f = cc in subst (λ (x : Fault). ToInitial x) q h))
+  refusal-keeps g h f e = (
+    record { silent = refl; identity = refl; user = refl; session = refl },
+    (let q : g ≡ f = cc in
+        subst (λ (x : Fault). ToInitial x) q h),
+  )
 
   reply-keeps : (reply : List ℕ) (s : Session) → KeptInitial c (replied c reply s)
   unfolding replied
@@ -72,12 +78,14 @@ module _ (c : Call) where
   unfolding letIn
   entry-keeps purpose identity user f e = let z : _≡_ {A = ℕ} 0 1 = cc in absurd (omega arith)
 
-  verdict-keeps : (v : Verdict) (a : Answer) → ((f : Fault) → v ≡ Wrong f → ToInitial f) → KeptInitial c a → KeptInitial c (ifFine c v a)
+  verdict-keeps : (v : Verdict) (a : Answer) → ((f : Fault) → v ≡ Wrong f → ToInitial f) → KeptInitial c a
+      → KeptInitial c (ifFine c v a)
   unfolding ifFine
   verdict-keeps Fine a g k = k
   verdict-keeps (Wrong f) a g k = refusal-keeps f (g f refl)
 
-  fine-keeps : (ks : List Check) (a : Answer) → Each ToInitial ks → KeptInitial c a → KeptInitial c (ifFine c (judged ks) a)
+  fine-keeps : (ks : List (Check Fault)) (a : Answer) → Each ToInitial ks → KeptInitial c a
+      → KeptInitial c (ifFine c (judged ks) a)
   fine-keeps ks a h k = verdict-keeps (judged ks) a (fault-of ToInitial ks h) k
 
   picked-keeps : (b : Bool) (x y : Answer) → KeptInitial c x → KeptInitial c y → KeptInitial c (pick b x y)
@@ -86,12 +94,26 @@ module _ (c : Call) where
 
   module _ (setup : Setup) (held : Session) where
     kind-keeps : (k : Kind) → KeptInitial c (byKind c setup held k)
-    unfolding byKind tam1Answer tam2Answer iam1Answer iam2Answer iam3Answer mam1Answer mam2Answer openingChecks tam2Checks iam2Checks iam3Checks mam2Checks
+    unfolding byKind tam1Answer tam2Answer iam1Answer iam2Answer iam3Answer mam1Answer mam2Answer openingChecks
+        tam2Checks iam2Checks iam3Checks mam2Checks
     kind-keeps Tam1 = fine-keeps _ _ ((λ h. refl), ((λ h. refl), ((λ h. refl), tt))) (reply-keeps _ _)
-    kind-keeps Tam2 = fine-keeps _ _ ((λ h. refl), ((λ h. refl), ((λ h. refl), ((λ h. refl), ((λ h. refl), ((λ h. refl), ((λ h. refl), ((λ h. refl), ((λ h. refl), tt))))))))) (reply-keeps _ _)
+    kind-keeps Tam2 =
+        fine-keeps _ _ (
+          (λ h. refl),
+          (
+            (λ h. refl),
+            ((λ h. refl), ((λ h. refl), ((λ h. refl), ((λ h. refl), ((λ h. refl), ((λ h. refl), ((λ h. refl), tt))))))),
+          ),
+        )
+        (reply-keeps _ _)
     kind-keeps Iam1 = fine-keeps _ _ ((λ h. refl), ((λ h. refl), ((λ h. refl), tt))) (reply-keeps _ _)
     kind-keeps Iam2 = fine-keeps _ _ ((λ h. refl), ((λ h. refl), ((λ h. refl), tt))) (entry-keeps _ _ _)
-    kind-keeps Iam3 = fine-keeps _ _ ((λ h. refl), ((λ h. refl), ((λ h. refl), ((λ h. refl), ((λ h. refl), ((λ h. refl), ((λ h. refl), ((λ h. refl), tt)))))))) (entry-keeps _ _ _)
+    kind-keeps Iam3 =
+        fine-keeps _ _ (
+          (λ h. refl),
+          ((λ h. refl), ((λ h. refl), ((λ h. refl), ((λ h. refl), ((λ h. refl), ((λ h. refl), ((λ h. refl), tt))))))),
+        )
+        (entry-keeps _ _ _)
     kind-keeps Mam1 = fine-keeps _ _ ((λ h. refl), ((λ h. refl), ((λ h. refl), tt))) (reply-keeps _ _)
     kind-keeps Mam2 = fine-keeps _ _ ((λ h. refl), ((λ h. refl), ((λ h. refl), tt))) (entry-keeps _ _ _)
     kind-keeps Unsupported = refusal-keeps NotSupported (λ h. refl)
@@ -100,7 +122,8 @@ module _ (c : Call) where
     unfolding inOrder
     order-keeps k =
         picked-keeps (offered (setup .features) k) _ (refused c NotSupported cleared)
-        (picked-keeps (inTurn (held .state) k) (byKind c setup held k) (refused c OutOfTurn cleared) (kind-keeps k) (refusal-keeps OutOfTurn (λ h. refl)))
+        (picked-keeps (inTurn (held .state) k) (byKind c setup held k) (refused c OutOfTurn cleared) (kind-keeps k)
+        (refusal-keeps OutOfTurn (λ h. refl)))
         (refusal-keeps NotSupported (λ h. refl))
 
     message-keeps : (m : List ℕ) → KeptInitial c (ofMessage c setup held m)
@@ -108,18 +131,33 @@ module _ (c : Call) where
     message-keeps [] = refusal-keeps OtherError (λ h. refl)
     message-keeps (b ∷ m) = order-keeps (kindOf b)
 
-    bench-keeps : (v : Verdict) → ((f : Fault) → v ≡ Wrong f → sessionAfter f held ≡ held) → (f : Fault) → ofBench c setup held v .outcome ≡ Refused f
+    bench-keeps : (v : Verdict) → ((f : Fault) → v ≡ Wrong f → sessionAfter f held ≡ held) → (f : Fault)
+        → ofBench c setup held v .outcome ≡ Refused f
         → Kept c (sessionAfter f held) (ofBench c setup held v)
     unfolding refused
     bench-keeps Fine h f e =
         let k = message-keeps (c .message) f e in
-        record { silent = k .0 .silent; identity = k .0 .identity; user = k .0 .user; session = k .0 .session ∙ sym (k .1 held) }
+        record {
+          silent = k .0 .silent;
+          identity = k .0 .identity;
+          user = k .0 .user;
+          session =
+              k .0 .session ∙ sym (k .1 held);
+        }
     bench-keeps (Wrong g) h f e =
         let q : g ≡ f = cc in
-        record { silent = refl; identity = refl; user = refl; session = sym (subst (λ (x : Fault). sessionAfter x held ≡ held) q (h g refl)) }
+        record {
+          silent = refl;
+          identity = refl;
+          user = refl;
+          session =
+              sym (subst (λ (x : Fault). sessionAfter x held ≡ held) q (h g refl));
+        }
 
 -- Every refusal keeps everything.
-pub refusal-kept : (c : Call) (tag : Tag) (f : Fault) → answerOf c tag .outcome ≡ Refused f → Kept c (sessionAfter f (tag .session)) (answerOf c tag)
+pub refusal-kept : (c : Call) (tag : Tag) (f : Fault) → answerOf c tag .outcome ≡ Refused f
+    → Kept c (sessionAfter f (tag .session)) (answerOf c tag)
 unfolding answerOf benchChecks
 refusal-kept c tag f e =
-    bench-keeps c (tag .setup) (tag .session) _ (fault-of (λ x. sessionAfter x (tag .session) ≡ tag .session) _ (refl, (refl, (refl, (refl, tt))))) f e
+    bench-keeps c (tag .setup) (tag .session) _
+    (fault-of (λ x. sessionAfter x (tag .session) ≡ tag .session) _ (refl, (refl, (refl, (refl, tt))))) f e

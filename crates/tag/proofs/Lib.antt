@@ -1,20 +1,6 @@
-pub mod Settled
-pub mod Passed
-pub mod Named
-pub mod Tam2Asked
-pub mod ReplyBytes
-pub mod Judging
-pub mod KeySearch
-pub mod Lines
-pub mod Listed
-pub mod Parts
-pub mod ReplyLengths
-pub mod Sent
-pub mod Tam2Made
 pub mod Cases
 pub mod Reacting
-pub mod Openings
-pub mod Closings
+pub mod Sending
 pub mod Kept
 pub mod Successors
 pub mod PaperNumbers
@@ -23,4 +9,4 @@ pub mod Areas
 pub mod Turning
 pub mod Fits
 pub mod Played
-pub mod ReplyLayouts
+pub mod Iam1Layout

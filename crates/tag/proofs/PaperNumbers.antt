@@ -1,4 +1,4 @@
--- The scope paper's table of the tag's numbers, row by row, and the reply's length.
+-- The scope paper's table of the tag's numbers, row by row: what is held after each; and the reply's length.
 use mathlib.Core.Path.{_≡_, refl}
 use Prim.Native.Nat.{ℕ}
 use lib.ListN.{length}
@@ -7,39 +7,41 @@ use Rattle.frames.specs.declared.Kind.the-variants.{Tam1, Tam2, Iam1, Iam2, Iam
 use Rattle.frames.specs.Kinds.{kindOf}
 use Rattle.sheet.specs.declared.Setup.{Setup}
 use Rattle.offer.specs.declared.Fault.{Fault}
-use Rattle.offer.specs.declared.Fault.the-variants.{OtherError, NotSupported, MemoryOverrun, MemoryWriteError, OutOfTurn, ProofWrong, BenchFault}
+use Rattle.offer.specs.declared.Fault.the-variants.{OtherError, NotSupported, MemoryOverrun, MemoryWriteError}
+use Rattle.offer.specs.declared.Fault.the-variants.{OutOfTurn, ProofWrong, BenchFault}
 use Rattle.entry.specs.declared.Session.{Session}
 use Rattle.tag.specs.declared.Tag.{Tag}
 use Rattle.entry.specs.Sessions.{cleared}
-use Rattle.offer.specs.Outcomes.{numberOf, replyLength}
+use Rattle.offer.specs.Outcomes.{replyLength}
 use Rattle.tag.specs.States.{sessionAfter}
-use Rattle.tag.specs.Answers.{Answer, Call, refused, replied, letIn, tam1Answer, tam2Answer, iam1Answer, iam2Answer, iam3Answer, mam1Answer, mam2Answer, byKind, answerOf}
+use Rattle.tag.specs.Answers.{Answer, Call, refused, replied, letIn, tam1Answer, tam2Answer, iam1Answer}
+use Rattle.tag.specs.Answers.{iam2Answer, iam3Answer, mam1Answer, mam2Answer, byKind, answerOf}
 use Rattle.tag.proofs.Cases.{fine-case, answer-case}
 
--- A row: the number, and what the tag holds afterwards, where it held `held`.
-abbrev Row : Fault → ℕ → Type 0
-Row f n = (numberOf f ≡ n) × ((held : Session) → sessionAfter f held ≡ cleared)
+-- A row: what the tag holds afterwards, where it held `held`. (The numbers stand in `offer`.)
+abbrev ToInitial : Fault → Type 0
+ToInitial f = (held : Session) → sessionAfter f held ≡ cleared
 
-pub other-error : Row OtherError 1
-other-error = (refl, λ held. refl)
+pub other-error : ToInitial OtherError
+other-error held = refl
 
-pub not-supported : Row NotSupported 2
-not-supported = (refl, λ held. refl)
+pub not-supported : ToInitial NotSupported
+not-supported held = refl
 
-pub memory-overrun : Row MemoryOverrun 3
-memory-overrun = (refl, λ held. refl)
+pub memory-overrun : ToInitial MemoryOverrun
+memory-overrun held = refl
 
-pub memory-write-error : Row MemoryWriteError 4
-memory-write-error = (refl, λ held. refl)
+pub memory-write-error : ToInitial MemoryWriteError
+memory-write-error held = refl
 
-pub out-of-turn : Row OutOfTurn 5
-out-of-turn = (refl, λ held. refl)
+pub out-of-turn : ToInitial OutOfTurn
+out-of-turn held = refl
 
-pub proof-wrong : Row ProofWrong 6
-proof-wrong = (refl, λ held. refl)
+pub proof-wrong : ToInitial ProofWrong
+proof-wrong held = refl
 
-pub bench-fault : (numberOf BenchFault ≡ 7) × ((held : Session) → sessionAfter BenchFault held ≡ held)
-bench-fault = (refl, λ held. refl)
+pub bench-fault : (held : Session) → sessionAfter BenchFault held ≡ held
+bench-fault held = refl
 
 -- The length that is told is that of the reply; with a refusal it is 0.
 abbrev Told : Answer → Type 0
@@ -62,4 +64,6 @@ module _ (c : Call) where
   kind-told setup held Unsupported = refusal-told NotSupported cleared
 
   pub length-told : (tag : Tag) → replyLength (answerOf c tag .outcome) ≡ length (answerOf c tag .reply)
-  length-told tag = answer-case c Told (λ f. refusal-told f cleared) tag (λ f. refusal-told f (tag .session)) (λ first rest e o t. kind-told (tag .setup) (tag .session) (kindOf first))
+  length-told tag =
+      answer-case c Told (λ f. refusal-told f cleared) tag (λ f. refusal-told f (tag .session))
+      (λ first rest e o t. kind-told (tag .setup) (tag .session) (kindOf first))

@@ -1,4 +1,5 @@
--- The code's run is the definition's: over any sequence of calls, what is returned, every room and both areas are those of the fold.
+-- The code's run is the definition's: over any sequence of calls, what is returned, every room and both areas are those
+-- of the fold.
 use mathlib.Core.Path.{_≡_, refl, subst}
 use mathlib.Core.List.{List, [], _∷_}
 use Prim.Native.Nat.{ℕ}
@@ -15,11 +16,18 @@ use Rattle.tag.proofs.step.Reads as step
 use Rattle.tag.proofs.step.Kinds as step-kinds
 
 -- A call, as the run has it, is the contract that the checker reads from the source of `step`.
-pub call-is-step : (κs : Lfts 5) (a : Dens κs step-kinds.ps) (r : resT step-kinds.r κs .Denot) (e : AtExit (endedOf 5 step-kinds.ps step-kinds.r) κs)
+pub call-is-step : (κs : Lfts 5) (a : Dens κs step-kinds.ps) (r : resT step-kinds.r κs .Denot)
+    (e : AtExit (endedOf 5 step-kinds.ps step-kinds.r) κs)
     → step.Post κs a r e
     ≡ Called (a .0) (now (a .1 .1 .1 .1 .0)) (now (a .1 .1 .1 .1 .1 .0))
     (record { message = now (a .1 .0); draws = now (a .1 .1 .0); room = now (a .1 .1 .1 .0) })
-    (record { stepped = r; room = now (e .1 .1 .1 .0); identity = now (e .1 .1 .1 .1 .0); user = now (e .1 .1 .1 .1 .1 .0) })
+    (record {
+      stepped = r;
+      room = now (e .1 .1 .1 .0);
+      identity = now (e .1 .1 .1 .1 .0);
+      user =
+          now (e .1 .1 .1 .1 .1 .0);
+    })
 call-is-step κs a r e = refl
 
 module _ (identity user : List ℕ) (tag : Tag) (b : Brought) where
@@ -29,10 +37,17 @@ module _ (identity user : List ℕ) (tag : Tag) (b : Brought) where
   -- what one call leaves
   called : (x : Left) → Called tag identity user b x → x ≡ leftOf tag b answer
   called x h =
-      λ j. record { stepped = record { outcome = h .outcome j; tag = h .next j }; room = h .reply j; identity = h .identity j; user = h .user j }
+      λ j. record {
+        stepped = record { outcome = h .outcome j; tag = h .next j };
+        room = h .reply j;
+        identity =
+            h .identity j;
+        user = h .user j;
+      }
 
 -- what a run leaves
-pub played : (bs : List Brought) (xs : List Left) (tag : Tag) (identity user : List ℕ) → Plays tag identity user bs xs → xs ≡ leftAll tag bs (run tag identity user (sentAll bs))
+pub played : (bs : List Brought) (xs : List Left) (tag : Tag) (identity user : List ℕ) → Plays tag identity user bs xs
+    → xs ≡ leftAll tag bs (run tag identity user (sentAll bs))
 unfolding Plays leftAll run sentAll
 played [] [] tag identity user h = refl
 played [] (x ∷ xs) tag identity user h = absurd h

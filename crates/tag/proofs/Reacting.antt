@@ -1,55 +1,82 @@
 -- What a refusal, a reply and a reader that is let in leave behind.
 use mathlib.Core.Path.{_≡_, refl, sym, ap, _∙_, subst}
 use mathlib.Core.List.{List}
-use Prim.Native.Nat.{ℕ}
-use lib.ListN.{length}
+use Prim.Native.Nat.{ℕ, _≤_}
+use native.Mathlib.Omega.{arith}
+use lib.ListN.{length, take, drop, replicate, length-append}
 use Rattle.modes.specs.Room.{over}
+use Rattle.memory.specs.declared.Area.{Area}
+use Rattle.memory.specs.declared.Area.the-variants.{Identity, User}
+use Rattle.payload.proofs.Overs.{over-taken}
 use Rattle.offer.specs.declared.Fault.{Fault}
-use Rattle.offer.specs.declared.Outcome.the-variants.{Replied, Entered, Refused}
-use Rattle.entry.specs.declared.Reacted.{Reacted}
-use Rattle.entry.specs.declared.Session.{Session}
+use Rattle.offer.specs.declared.Outcome.{Outcome}
 use Rattle.offer.specs.declared.Verdict.{Verdict}
 use Rattle.offer.specs.declared.Verdict.the-variants.{Fine, Wrong}
-use Rattle.entry.specs.Sessions.{cleared, entered}
+use Rattle.offer.specs.Outcomes.{replyLength, settled, sending, sent}
+use Rattle.entry.specs.declared.Reacted.{Reacted}
+use Rattle.entry.specs.declared.Session.{Session}
+use Rattle.entry.specs.Sessions.{cleared}
+use Rattle.entry.specs.Given.{LetsIn, Writes}
+use Rattle.entry.proofs.Giving.{Turned}
 use Rattle.tag.specs.Answers.{Answer, Call, refused, replied, letIn, ifFine}
 use Rattle.tag.specs.Reactions.{Reacts, ReactsIn}
 
--- What `refused` and `let_in` of the code give.
-abbrev pub Turned : Reacted → Fault → Type 0
-Turned r f = (r .outcome ≡ Refused f) × (r .session ≡ cleared)
+-- what is sent over n zeros, where both are n bytes: it is as long as the outcome says, and no longer than n
+module _ (v : Verdict) (bytes reply : List ℕ) (n : ℕ) (long : length reply ≡ n) where
+  said : (w : Verdict) → replyLength (sending w bytes) ≡ length (sent w bytes)
+  said Fine = refl
+  said (Wrong f) = refl
 
-abbrev pub LetIn : Reacted → ℕ → Type 0
-LetIn r purpose = (r .outcome ≡ Entered purpose) × (r .session ≡ entered)
+  module _ (o : Outcome) (oe : o ≡ sending v bytes) (re : reply ≡ over (sent v bytes) (replicate n 0)) where
+    told : replyLength o ≡ length (sent v bytes)
+    told = ap replyLength oe ∙ said v
+
+    pub told-fits : replyLength o ≤ length reply
+    told-fits =
+        let s = sent v bytes in
+        let e = ap length re in
+        omega (arith, told, length-append s (drop (length s) (replicate n 0)), e)
+
+    pub told-sent : take (replyLength o) reply ≡ sent v bytes
+    told-sent = ap (take (replyLength o)) re ∙ over-taken (sent v bytes) (replicate n 0) (replyLength o) (sym told)
 
 module _ (c : Call) (room : List ℕ) (r : Reacted) where
-  pub reacts-refused : (f : Fault) → Turned r f → Reacts (refused c f cleared) room r room
+  reacts-refused : (f : Fault) → Turned r f → Reacts (refused c f cleared) room r room
   unfolding refused
   reacts-refused f t = record { outcome = t .0; session = t .1; reply = refl }
-
-  pub reacts-let-in : (purpose : ℕ) (identity user : List ℕ) → LetIn r purpose → Reacts (letIn c purpose identity user) room r room
-  unfolding letIn
-  reacts-let-in purpose identity user t = record { outcome = t .0; session = t .1; reply = refl }
-
-  pub reacts-replied : (reply after : List ℕ) (n : ℕ) (s : Session) → r .outcome ≡ Replied n → n ≡ length reply → r .session ≡ s → after ≡ over reply room
-      → Reacts (replied c reply s) room r after
-  unfolding replied
-  reacts-replied reply after n s o e t h = record { outcome = o ∙ ap Replied e; session = t; reply = h }
 
   -- a refusal keeps both areas
   pub in-refused : (f : Fault) → Turned r f → ReactsIn (refused c f cleared) room r room (c .identity) (c .user)
   unfolding refused
   in-refused f t = record { reacts = reacts-refused f t; identity = refl; user = refl }
 
-  -- a line of checks that ends with a fault, and one that ends well
-  module _ (v : Verdict) (a : Answer) where
-    pub reacts-wrong : (f : Fault) → v ≡ Wrong f → Turned r f → Reacts (ifFine c v a) room r room
-    unfolding ifFine
-    reacts-wrong f e t = subst (λ (w : Verdict). Reacts (ifFine c w a) room r room) (sym e) (reacts-refused f t)
+  -- a reply
+  pub reacts-sent : (v : Verdict) (bytes after : List ℕ) (s : Session) → r .outcome ≡ sending v bytes
+      → r .session ≡ settled v s (λ f. cleared) → after ≡ over (sent v bytes) room
+      → Reacts (ifFine c v (replied c bytes s)) room r after
+  unfolding ifFine replied refused
+  reacts-sent Fine bytes after s o e h = record { outcome = o; session = e; reply = h }
+  reacts-sent (Wrong f) bytes after s o e h = record { outcome = o; session = e; reply = h }
 
-    pub reacts-fine : (after : List ℕ) → v ≡ Fine → Reacts a room r after → Reacts (ifFine c v a) room r after
-    unfolding ifFine
-    reacts-fine after e h = subst (λ (w : Verdict). Reacts (ifFine c w a) room r after) (sym e) h
+  -- a reader that is let in, or is not
+  pub reacts-let-in : (v : Verdict) (purpose : ℕ) → LetsIn v purpose r
+      → Reacts (ifFine c v (letIn c purpose (c .identity) (c .user))) room r room
+  unfolding ifFine letIn refused
+  reacts-let-in Fine purpose h = record { outcome = h .outcome; session = h .session; reply = refl }
+  reacts-let-in (Wrong f) purpose h = record { outcome = h .outcome; session = h .session; reply = refl }
 
-    pub in-wrong : (f : Fault) → v ≡ Wrong f → Turned r f → ReactsIn (ifFine c v a) room r room (c .identity) (c .user)
-    unfolding ifFine
-    in-wrong f e t = subst (λ (w : Verdict). ReactsIn (ifFine c w a) room r room (c .identity) (c .user)) (sym e) (in-refused f t)
+  -- the same, with words that are written
+  pub in-written : (v : Verdict) (purpose : ℕ) (stored : Area → List ℕ → List ℕ) (i u : List ℕ)
+      → Writes v purpose stored (c .identity) (c .user) r i u
+      → ReactsIn (ifFine c v (letIn c purpose (stored Identity (c .identity)) (stored User (c .user)))) room r room i u
+  unfolding ifFine letIn refused
+  in-written Fine purpose stored i u h = record {
+    reacts = record { outcome = h .letsIn .outcome; session = h .letsIn .session; reply = refl };
+    identity = h .inIdentity;
+    user = h .inUser;
+  }
+  in-written (Wrong f) purpose stored i u h = record {
+    reacts = record { outcome = h .letsIn .outcome; session = h .letsIn .session; reply = refl };
+    identity = h .inIdentity;
+    user = h .inUser;
+  }

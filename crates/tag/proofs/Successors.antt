@@ -1,4 +1,5 @@
--- Annex A: a message that is accepted was in its turn, and each leads to the state that Table A.1 names. And what is held there: nothing in Initial and in IA-OK.
+-- Annex A: a message that is accepted was in its turn, and each leads to the state that Table A.1 names. And what is
+-- held there: nothing in Initial and in IA-OK.
 use mathlib.Core.Path.{_≡_, refl, sym, ap, _∙_}
 use mathlib.Core.Bool.{Bool, true, false, false≢true}
 use mathlib.Core.List.{List, [], _∷_}
@@ -19,7 +20,8 @@ use Rattle.entry.specs.Sessions.{cleared, entered}
 use Rattle.tag.specs.States.{poweredUp, atRest, afterIam1, afterMam1, inTurn, tableA1}
 use Rattle.tag.specs.Runs.{Sent, callOf, tagAfter, run}
 use Rattle.offer.specs.Records.{offered}
-use Rattle.tag.specs.Answers.{Answer, Call, refused, replied, letIn, tam1Answer, tam2Answer, iam1Answer, iam2Answer, iam3Answer, mam1Answer, mam2Answer, byKind, answerOf}
+use Rattle.tag.specs.Answers.{Answer, Call, refused, replied, letIn, tam1Answer, tam2Answer, iam1Answer}
+use Rattle.tag.specs.Answers.{iam2Answer, iam3Answer, mam1Answer, mam2Answer, byKind, answerOf}
 use Rattle.tag.proofs.Cases.{fine-case, answer-case}
 
 -- Table A.1, the last column.
@@ -111,7 +113,8 @@ row IaOk Unsupported e = absurd (false≢true e)
 abbrev pub Accepted : Answer → Type 0
 Accepted a = (f : Fault) → a .outcome ≡ Refused f → ⊥
 
--- What is known of an accepted message: the tag offers it, and Table A.1 has a row for it, whose next state is the tag's.
+-- What is known of an accepted message: the tag offers it, and Table A.1 has a row for it, whose next state is the
+-- tag's.
 pub record Successor (c : Call) (tag : Tag) (a : Answer) : Type 0 where
   pub first : ℕ
   pub rest : List ℕ
@@ -131,7 +134,8 @@ module _ (c : Call) where
   Leads k a = Accepted a → In k a
 
   kind-leads : (setup : Setup) (held : Session) (k : Kind) → Leads k (byKind c setup held k)
-  unfolding byKind tam1Answer tam2Answer iam1Answer iam2Answer iam3Answer mam1Answer mam2Answer replied letIn cleared entered
+  unfolding byKind tam1Answer tam2Answer iam1Answer iam2Answer iam3Answer mam1Answer mam2Answer replied letIn cleared
+      entered
   kind-leads setup held Tam1 = fine-case c (Leads Tam1) (λ f. refusal-not (In Tam1) f cleared) _ _ (λ h. refl)
   kind-leads setup held Tam2 = fine-case c (Leads Tam2) (λ f. refusal-not (In Tam2) f cleared) _ _ (λ h. refl)
   kind-leads setup held Iam1 = fine-case c (Leads Iam1) (λ f. refusal-not (In Iam1) f cleared) _ _ (λ h. refl)
@@ -143,8 +147,17 @@ module _ (c : Call) where
 
   pub successor : (tag : Tag) → Accepted (answerOf c tag) → Successor c tag (answerOf c tag)
   successor tag =
-      answer-case c (λ a. Accepted a → Successor c tag a) (λ f. refusal-not (Successor c tag) f cleared) tag (λ f. refusal-not (Successor c tag) f (tag .session))
-      (λ first rest e o t h. record { first = first; rest = rest; message = e; offer = o; row = row (tag .session .state) (kindOf first) t ∙ ap (λ (x : State). x ∷ []) (sym (kind-leads (tag .setup) (tag .session) (kindOf first) h)) })
+      answer-case c (λ a. Accepted a → Successor c tag a) (λ f. refusal-not (Successor c tag) f cleared) tag
+      (λ f. refusal-not (Successor c tag) f (tag .session))
+      (λ first rest e o t h. record {
+        first = first;
+        rest = rest;
+        message = e;
+        offer = o;
+        row =
+            row (tag .session .state) (kindOf first) t
+            ∙ ap (λ (x : State). x ∷ []) (sym (kind-leads (tag .setup) (tag .session) (kindOf first) h));
+      })
 
 -- ---- what is held
 
@@ -177,17 +190,25 @@ module _ (c : Call) where
   unfolding byKind tam1Answer tam2Answer iam1Answer iam2Answer iam3Answer mam1Answer mam2Answer replied letIn
   kind-rests setup held Tam1 = fine-case c (λ a. Rested (a .session)) (λ f. refused-rests f) _ _ cleared-rests
   kind-rests setup held Tam2 = fine-case c (λ a. Rested (a .session)) (λ f. refused-rests f) _ _ cleared-rests
-  kind-rests setup held Iam1 = fine-case c (λ a. Rested (a .session)) (λ f. refused-rests f) _ _ (waiting-rests _ (λ e. (let z : _≡_ {A = ℕ} 0 1 = cc in omega arith)) (λ e. (let z : _≡_ {A = ℕ} 0 1 = cc in omega arith)))
+  kind-rests setup held Iam1 =
+      fine-case c (λ a. Rested (a .session)) (λ f. refused-rests f) _ _
+      (waiting-rests _ (λ e. (let z : _≡_ {A = ℕ} 0 1 = cc in omega arith))
+      (λ e. (let z : _≡_ {A = ℕ} 0 1 = cc in omega arith)))
   kind-rests setup held Iam2 = fine-case c (λ a. Rested (a .session)) (λ f. refused-rests f) _ _ entered-rests
   kind-rests setup held Iam3 = fine-case c (λ a. Rested (a .session)) (λ f. refused-rests f) _ _ entered-rests
-  kind-rests setup held Mam1 = fine-case c (λ a. Rested (a .session)) (λ f. refused-rests f) _ _ (waiting-rests _ (λ e. (let z : _≡_ {A = ℕ} 0 1 = cc in omega arith)) (λ e. (let z : _≡_ {A = ℕ} 0 1 = cc in omega arith)))
+  kind-rests setup held Mam1 =
+      fine-case c (λ a. Rested (a .session)) (λ f. refused-rests f) _ _
+      (waiting-rests _ (λ e. (let z : _≡_ {A = ℕ} 0 1 = cc in omega arith))
+      (λ e. (let z : _≡_ {A = ℕ} 0 1 = cc in omega arith)))
   kind-rests setup held Mam2 = fine-case c (λ a. Rested (a .session)) (λ f. refused-rests f) _ _ entered-rests
   kind-rests setup held Unsupported = refused-rests NotSupported
 
   -- a call keeps it so
   pub answer-rests : (tag : Tag) → Rested (tag .session) → Rested (answerOf c tag .session)
   unfolding refused
-  answer-rests tag h = answer-case c (λ a. Rested (a .session)) (λ f. cleared-rests) tag (λ f. h) (λ first rest e o t. kind-rests (tag .setup) (tag .session) (kindOf first))
+  answer-rests tag h =
+      answer-case c (λ a. Rested (a .session)) (λ f. cleared-rests) tag (λ f. h)
+      (λ first rest e o t. kind-rests (tag .setup) (tag .session) (kindOf first))
 
 -- Any two tags in Initial with the same setup are equal, and so in IA-OK.
 pub initial-equal : (s t : Session) → Rested s → Rested t → s .state ≡ Initial → t .state ≡ Initial → s ≡ t
@@ -198,7 +219,8 @@ unfoldable pub AllRested : List Answer → Type 0
 AllRested [] = Unit
 AllRested (a ∷ answers) = Rested (a .session) × AllRested answers
 
-pub run-rests : (sent : List Sent) (tag : Tag) (identity user : List ℕ) → Rested (tag .session) → AllRested (run tag identity user sent)
+pub run-rests : (sent : List Sent) (tag : Tag) (identity user : List ℕ) → Rested (tag .session)
+    → AllRested (run tag identity user sent)
 unfolding run AllRested
 run-rests [] tag identity user h = tt
 run-rests (s ∷ sent) tag identity user h =

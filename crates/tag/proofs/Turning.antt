@@ -24,10 +24,14 @@ use Rattle.offer.specs.Outcomes.{numberGiven}
 use Rattle.offer.specs.Checks.{judged}
 use Rattle.offer.specs.Records.{offered}
 use Rattle.offer.specs.Judged.{benchChecks}
-use Rattle.tag.specs.Answers.{Answer, Call, refused, tam1Answer, tam2Answer, iam1Answer, iam2Answer, iam3Answer, mam1Answer, mam2Answer, byKind, inOrder, ofMessage, ofBench, answerOf}
+use Rattle.tag.specs.Answers.{Answer, Call, refused, tam1Answer, tam2Answer, iam1Answer, iam2Answer, iam3Answer}
+use Rattle.tag.specs.Answers.{mam1Answer, mam2Answer, byKind, inOrder, ofMessage, ofBench, answerOf}
+use Rattle.entry.specs.Given.{LetsIn, Writes, iam2Verdict, iam2Purpose, iam3Verdict, iam3Purpose, iam3Stored}
+use Rattle.entry.specs.Given.{mam2Verdict, mam2Purpose}
+use Rattle.entry.proofs.Giving.{Turned}
 use Rattle.tag.specs.Reactions.{lent, Reacts, ReactsIn, Steps}
 use Rattle.tag.proofs.Areas.{kind-still}
-use Rattle.tag.proofs.Reacting.{Turned, in-refused}
+use Rattle.tag.proofs.Reacting.{in-refused, reacts-let-in, in-written}
 
 module _ (c : Call) (setup : Setup) (held : Session) (room : List ℕ) (r : Reacted) where
   -- what the answer to a kind leaves, with both areas
@@ -35,10 +39,12 @@ module _ (c : Call) (setup : Setup) (held : Session) (room : List ℕ) (r : Reac
   OfKind k after = ReactsIn (byKind c setup held k) room r after (c .identity) (c .user)
 
   -- a kind that is no IAM3 keeps both areas
-  apart : (k l : Kind) (after : List ℕ) → (l ≡ Iam3 → ⊥) → k ≡ l → Reacts (byKind c setup held l) room r after → OfKind k after
+  apart : (k l : Kind) (after : List ℕ) → (l ≡ Iam3 → ⊥) → k ≡ l → Reacts (byKind c setup held l) room r after
+      → OfKind k after
   apart k l after n e h =
       let s = kind-still c setup held l n in
-      subst (λ (x : Kind). OfKind x after) (sym e) (record { reacts = h; identity = sym (s .identity); user = sym (s .user) })
+      subst (λ (x : Kind). OfKind x after) (sym e)
+      (record { reacts = h; identity = sym (s .identity); user = sym (s .user) })
 
   module _ (k : Kind) (after : List ℕ) where
     pub is-tam1 : k ≡ Tam1 → Reacts (tam1Answer c setup) room r after → OfKind k after
@@ -53,21 +59,30 @@ module _ (c : Call) (setup : Setup) (held : Session) (room : List ℕ) (r : Reac
     unfolding byKind
     is-iam1 = apart k Iam1 after (λ e. (let z : _≡_ {A = ℕ} 0 1 = cc in omega arith))
 
-    pub is-iam2 : k ≡ Iam2 → Reacts (iam2Answer c setup held) room r after → OfKind k after
-    unfolding byKind
-    is-iam2 = apart k Iam2 after (λ e. (let z : _≡_ {A = ℕ} 0 1 = cc in omega arith))
+    pub is-iam2 : k ≡ Iam2 → LetsIn (iam2Verdict setup held (c .message)) (iam2Purpose setup held (c .message)) r
+        → OfKind k room
+    unfolding byKind iam2Answer
+    is-iam2 e h =
+        apart k Iam2 room (λ x. (let z : _≡_ {A = ℕ} 0 1 = cc in omega arith)) e (reacts-let-in c room r _ _ h)
 
     pub is-mam1 : k ≡ Mam1 → Reacts (mam1Answer c setup) room r after → OfKind k after
     unfolding byKind
     is-mam1 = apart k Mam1 after (λ e. (let z : _≡_ {A = ℕ} 0 1 = cc in omega arith))
 
-    pub is-mam2 : k ≡ Mam2 → Reacts (mam2Answer c setup held) room r after → OfKind k after
-    unfolding byKind
-    is-mam2 = apart k Mam2 after (λ e. (let z : _≡_ {A = ℕ} 0 1 = cc in omega arith))
+    pub is-mam2 : k ≡ Mam2 → LetsIn (mam2Verdict setup held (c .message)) (mam2Purpose setup held (c .message)) r
+        → OfKind k room
+    unfolding byKind mam2Answer
+    is-mam2 e h =
+        apart k Mam2 room (λ x. (let z : _≡_ {A = ℕ} 0 1 = cc in omega arith)) e (reacts-let-in c room r _ _ h)
 
-    pub is-iam3 : (i u : List ℕ) → k ≡ Iam3 → ReactsIn (iam3Answer c setup held) room r after i u → ReactsIn (byKind c setup held k) room r after i u
-    unfolding byKind
-    is-iam3 i u e h = subst (λ (x : Kind). ReactsIn (byKind c setup held x) room r after i u) (sym e) h
+    pub is-iam3 : (i u : List ℕ) → k ≡ Iam3
+        → Writes (iam3Verdict setup held (c .message)) (iam3Purpose setup held (c .message))
+        (iam3Stored setup held (c .message)) (c .identity) (c .user) r i u
+        → ReactsIn (byKind c setup held k) room r room i u
+    unfolding byKind iam3Answer
+    is-iam3 i u e h =
+        subst (λ (x : Kind). ReactsIn (byKind c setup held x) room r room i u) (sym e)
+        (in-written c room r _ _ (iam3Stored setup held (c .message)) i u h)
 
   pub is-none : (k : Kind) → k ≡ Unsupported → Turned r NotSupported → OfKind k room
   unfolding byKind
@@ -75,54 +90,73 @@ module _ (c : Call) (setup : Setup) (held : Session) (room : List ℕ) (r : Reac
 
   -- offered, and in its turn
   module _ (k : Kind) where
-    pub not-offered : offered (setup .features) k ≡ false → Turned r NotSupported → ReactsIn (inOrder c setup held k) room r room (c .identity) (c .user)
+    pub not-offered : offered (setup .features) k ≡ false → Turned r NotSupported
+        → ReactsIn (inOrder c setup held k) room r room (c .identity) (c .user)
     unfolding inOrder
     not-offered e t =
-        subst (λ (b : Bool). ReactsIn (pick b (pick (inTurn (held .state) k) (byKind c setup held k) (refused c OutOfTurn cleared)) (refused c NotSupported cleared)) room r room (c .identity) (c .user)) (sym e)
+        subst (λ (b : Bool). ReactsIn
+        (pick b (pick (inTurn (held .state) k) (byKind c setup held k) (refused c OutOfTurn cleared))
+        (refused c NotSupported cleared)) room r room (c .identity) (c .user)) (sym e)
         (in-refused c room r NotSupported t)
 
     module _ (o : offered (setup .features) k ≡ true) where
-      in-place : (b : Bool) (after i u : List ℕ) → inTurn (held .state) k ≡ b → ReactsIn (pick b (byKind c setup held k) (refused c OutOfTurn cleared)) room r after i u → ReactsIn (inOrder c setup held k) room r after i u
+      in-place : (b : Bool) (after i u : List ℕ) → inTurn (held .state) k ≡ b
+          → ReactsIn (pick b (byKind c setup held k) (refused c OutOfTurn cleared)) room r after i u
+          → ReactsIn (inOrder c setup held k) room r after i u
       unfolding inOrder
       in-place b after i u e =
           subst (λ (a : Answer). ReactsIn a room r after i u)
-          (λ j. pick (sym o j) (pick (sym e j) (byKind c setup held k) (refused c OutOfTurn cleared)) (refused c NotSupported cleared))
+          (λ j. pick (sym o j) (pick (sym e j) (byKind c setup held k) (refused c OutOfTurn cleared))
+          (refused c NotSupported cleared))
 
-      pub out-of-turn : inTurn (held .state) k ≡ false → Turned r OutOfTurn → ReactsIn (inOrder c setup held k) room r room (c .identity) (c .user)
+      pub out-of-turn : inTurn (held .state) k ≡ false → Turned r OutOfTurn
+          → ReactsIn (inOrder c setup held k) room r room (c .identity) (c .user)
       out-of-turn e t = in-place false room (c .identity) (c .user) e (in-refused c room r OutOfTurn t)
 
-      pub in-its-turn : (after i u : List ℕ) → inTurn (held .state) k ≡ true → ReactsIn (byKind c setup held k) room r after i u → ReactsIn (inOrder c setup held k) room r after i u
+      pub in-its-turn : (after i u : List ℕ) → inTurn (held .state) k ≡ true
+          → ReactsIn (byKind c setup held k) room r after i u → ReactsIn (inOrder c setup held k) room r after i u
       in-its-turn after i u e = in-place true after i u e
 
   -- a message that is there
-  pub nothing-there : (m : List ℕ) → length m ≡ 0 → Turned r OtherError → ReactsIn (ofMessage c setup held m) room r room (c .identity) (c .user)
+  pub nothing-there : (m : List ℕ) → length m ≡ 0 → Turned r OtherError
+      → ReactsIn (ofMessage c setup held m) room r room (c .identity) (c .user)
   unfolding ofMessage
   nothing-there [] e t = in-refused c room r OtherError t
   nothing-there (x ∷ m) e t = absurd (let z : ⊥ = omega arith in z)
 
-  pub something-there : (m : List ℕ) (k : Kind) (after i u : List ℕ) → (length m ≡ 0 → ⊥) → k ≡ kindOf (getD m 0 0) → ReactsIn (inOrder c setup held k) room r after i u
+  pub something-there : (m : List ℕ) (k : Kind) (after i u : List ℕ) → (length m ≡ 0 → ⊥) → k ≡ kindOf (getD m 0 0)
+      → ReactsIn (inOrder c setup held k) room r after i u
       → ReactsIn (ofMessage c setup held m) room r after i u
   unfolding ofMessage
   something-there [] k after i u n e h = absurd (n refl)
-  something-there (x ∷ m) k after i u n e h = subst (λ (y : Kind). ReactsIn (inOrder c setup held y) room r after i u) e h
+  something-there (x ∷ m) k after i u n e h =
+      subst (λ (y : Kind). ReactsIn (inOrder c setup held y) room r after i u) e h
 
 -- The whole call.
-module _ (tag : Tag) (m draws room i u : List ℕ) (v : Verdict) (w : v ≡ judged (benchChecks (tag .setup) (length draws) (length room) (length i) (length u))) where
+module _ (tag : Tag) (m draws room i u : List ℕ) (v : Verdict)
+    (w : v ≡ judged (benchChecks (tag .setup) (length draws) (length room) (length i) (length u))) where
   abbrev call : Call
   call = lent m draws room i u
 
-  pub bench-wrong : (f : Fault) → v ≡ Wrong f → Steps (answerOf call tag) tag room (record { outcome = Refused f; tag = tag }) room i u
+  pub bench-wrong : (f : Fault) → v ≡ Wrong f
+      → Steps (answerOf call tag) tag room (record { outcome = Refused f; tag = tag }) room i u
   unfolding answerOf refused
   bench-wrong f x =
-      subst (λ (y : Verdict). Steps (ofBench call (tag .setup) (tag .session) y) tag room (record { outcome = Refused f; tag = tag }) room i u) (sym x ∙ w)
+      subst (λ (y : Verdict). Steps (ofBench call (tag .setup) (tag .session) y) tag room
+      (record { outcome = Refused f; tag = tag }) room i u) (sym x ∙ w)
       (record { outcome = refl; number = refl; next = refl; reply = refl; identity = refl; user = refl })
 
-  pub bench-fine : (q : Reacted) (d after i′ u′ : List ℕ) → v ≡ Fine → d ≡ draws → ReactsIn (ofMessage (lent m d room i u) (tag .setup) (tag .session) m) room q after i′ u′
-      → Steps (answerOf call tag) tag room (record { outcome = q .outcome; tag = record { setup = tag .setup; session = q .session } }) after i′ u′
+  pub bench-fine : (q : Reacted) (d after i′ u′ : List ℕ) → v ≡ Fine → d ≡ draws
+      → ReactsIn (ofMessage (lent m d room i u) (tag .setup) (tag .session) m) room q after i′ u′
+      → Steps (answerOf call tag) tag room
+      (record { outcome = q .outcome; tag = record { setup = tag .setup; session = q .session } }) after i′ u′
   unfolding answerOf
   bench-fine q d after i′ u′ x e h =
-      let k = subst (λ (l : List ℕ). ReactsIn (ofMessage (lent m l room i u) (tag .setup) (tag .session) m) room q after i′ u′) e h in
-      subst (λ (y : Verdict). Steps (ofBench call (tag .setup) (tag .session) y) tag room (record { outcome = q .outcome; tag = record { setup = tag .setup; session = q .session } }) after i′ u′) (sym x ∙ w)
+      let k = subst (λ (l : List ℕ). ReactsIn (ofMessage (lent m l room i u) (tag .setup) (tag .session) m) room q after
+      i′ u′) e h in
+      subst (λ (y : Verdict). Steps (ofBench call (tag .setup) (tag .session) y) tag room
+      (record { outcome = q .outcome; tag = record { setup = tag .setup; session = q .session } }) after i′ u′)
+      (sym x ∙ w)
       (record {
         outcome = k .reacts .outcome;
         number = ap numberGiven (k .reacts .outcome);

@@ -1,11 +1,5 @@
 pub mod States
-pub mod Checks
-pub mod Records
-pub mod Replies
-pub mod Opened
-pub mod Judged
 pub mod Answers
-pub mod Parts
 pub mod Runs
 pub mod Plays
 pub mod Reactions

@@ -1,4 +1,5 @@
--- A run of the code: each call is given the tag and the areas that the last one left, and leaves what its contract says.
+-- A run of the code: each call is given the tag and the areas that the last one left, and leaves what its contract
+-- says.
 use mathlib.Core.List.{List, [], _∷_}
 use Prim.Native.Nat.{ℕ}
 use lib.ListN.{length}
@@ -25,14 +26,16 @@ pub record Left : Type 0 where
 -- One call of the code, by its contract.
 abbrev pub Called : Tag → List ℕ → List ℕ → Brought → Left → Type 0
 Called tag identity user b x =
-    Steps (answerOf (lent (b .message) (b .draws) (b .room) identity user) tag) tag (b .room) (x .stepped) (x .room) (x .identity) (x .user)
+    Steps (answerOf (lent (b .message) (b .draws) (b .room) identity user) tag) tag (b .room) (x .stepped) (x .room)
+    (x .identity) (x .user)
 
 -- A run of such calls.
 unfoldable pub Plays : Tag → List ℕ → List ℕ → List Brought → List Left → Type 0
 Plays tag identity user [] [] = Unit
 Plays tag identity user [] (x ∷ xs) = ⊥
 Plays tag identity user (b ∷ bs) [] = ⊥
-Plays tag identity user (b ∷ bs) (x ∷ xs) = Called tag identity user b x × Plays (x .stepped .tag) (x .identity) (x .user) bs xs
+Plays tag identity user (b ∷ bs) (x ∷ xs) =
+    Called tag identity user b x × Plays (x .stepped .tag) (x .identity) (x .user) bs xs
 
 -- What the definition's run says is left: of the room only the length counts for an answer.
 abbrev pub sentOf : Brought → Sent

@@ -1,4 +1,6 @@
--- What a call leaves behind: the answer's outcome and session in what is returned, its reply over the first bytes of the room, its areas in the areas.
+-- What a call leaves behind: the answer's outcome and session in what is returned, its reply over the first bytes of
+-- the
+-- room, its areas in the areas.
 use mathlib.Core.Path.{_≡_}
 use mathlib.Core.List.{List}
 use Prim.Native.Nat.{ℕ}
@@ -22,22 +24,15 @@ pub record Reacts (a : Answer) (room : List ℕ) (r : Reacted) (after : List ℕ
   pub session : r .session ≡ a .session
   pub reply : after ≡ over (a .reply) room
 
--- The same of a message that reads no area, and of one that also needs no draws and has no reply.
+-- The same of a message that reads no area.
 abbrev pub ReactsApart : (List ℕ → List ℕ → Answer) → List ℕ → Reacted → List ℕ → Type 0
 ReactsApart a room r after = (identity user : List ℕ) → Reacts (a identity user) room r after
-
-abbrev pub ReactsAlone : (List ℕ → List ℕ → List ℕ → List ℕ → Answer) → Reacted → Type 0
-ReactsAlone a r = (draws room identity user : List ℕ) → Reacts (a draws room identity user) room r room
 
 -- What is returned, the room, and both areas.
 pub record ReactsIn (a : Answer) (room : List ℕ) (r : Reacted) (after i u : List ℕ) : Type 0 where
   pub reacts : Reacts a room r after
   pub identity : i ≡ a .identity
   pub user : u ≡ a .user
-
--- The same of a message that needs no draws and has no reply.
-abbrev pub ReactsWriting : (List ℕ → List ℕ → Answer) → Reacted → List ℕ → List ℕ → Type 0
-ReactsWriting a r i u = (draws room : List ℕ) → ReactsIn (a draws room) room r room i u
 
 -- What a step leaves, by name and by number: the tag's setup stays.
 pub record Steps (a : Answer) (tag : Tag) (room : List ℕ) (r : Stepped) (after i u : List ℕ) : Type 0 where

@@ -11,7 +11,14 @@ pub record Sent : Type 0 where
   pub room : ℕ
 
 abbrev pub callOf : Sent → List ℕ → List ℕ → Call
-callOf s identity user = record { message = s .message; draws = s .draws; room = s .room; identity = identity; user = user }
+callOf s identity user = record {
+  message = s .message;
+  draws = s .draws;
+  room = s .room;
+  identity = identity;
+  user =
+      user;
+}
 
 -- The tag after an answer.
 abbrev pub tagAfter : Tag → Answer → Tag

@@ -1,31 +1,20 @@
--- A tag's states and what it holds from one message to the next: clause 8, Annex A, and the scope paper, "States" and "Numbers the tag gives".
+-- A tag's states: clause 8, Annex A, and the scope paper, "States".
 use Prim.Native.Nat.{ℕ}
 use mathlib.Core.Bool.{Bool, true, false}
 use mathlib.Core.List.{List, [], _∷_}
-use lib.ListN.{replicate}
 use Rattle.sheet.specs.declared.Setup.{Setup}
 use Rattle.frames.specs.declared.Kind.{Kind}
 use Rattle.frames.specs.declared.Kind.the-variants.{Tam1, Tam2, Iam1, Iam2, Iam3, Mam1, Mam2, Unsupported}
+use Rattle.offer.specs.declared.Fault.{Fault}
+use Rattle.offer.specs.declared.Fault.the-variants.{OtherError, NotSupported, MemoryOverrun, MemoryWriteError}
+use Rattle.offer.specs.declared.Fault.the-variants.{OutOfTurn}
+use Rattle.offer.specs.declared.Fault.the-variants.{ProofWrong, BenchFault}
+use Rattle.offer.specs.Records.{keyPresent}
 use Rattle.entry.specs.declared.State.{State}
 use Rattle.entry.specs.declared.State.the-variants.{Initial, IamInit, MamInit, IaOk}
 use Rattle.entry.specs.declared.Session.{Session}
+use Rattle.entry.specs.Sessions.{cleared}
 use Rattle.tag.specs.declared.Tag.{Tag}
-use Rattle.offer.specs.declared.Outcome.{Outcome}
-use Rattle.offer.specs.declared.Outcome.the-variants.{Replied, Entered, Refused}
-use Rattle.offer.specs.declared.Fault.{Fault}
-use Rattle.offer.specs.declared.Fault.the-variants.{OtherError, NotSupported, MemoryOverrun, MemoryWriteError, OutOfTurn, ProofWrong, BenchFault}
-
--- Clause 8: a state in which nothing is held.
-abbrev pub nothingHeld : State → Session
-nothingHeld state = record { state = state; keyid = 0; tchallenge = replicate 10 0; ichallenge = replicate 4 0 }
-
--- Entering Initial clears every held value.
-unfoldable pub cleared : Session
-cleared = nothingHeld Initial
-
--- Entering IA-OK no challenge and no KeyID is of use any more.
-unfoldable pub entered : Session
-entered = nothingHeld IaOk
 
 -- Power-up and reset.
 unfoldable pub poweredUp : Setup → Tag
@@ -61,27 +50,14 @@ inTurn s Mam1 = atRest s
 inTurn s Mam2 = afterMam1 s
 inTurn s Unsupported = false
 
--- The scope paper's number of each refusal.
-abbrev pub numberOf : Fault → ℕ
-numberOf OtherError = 1
-numberOf NotSupported = 2
-numberOf MemoryOverrun = 3
-numberOf MemoryWriteError = 4
-numberOf OutOfTurn = 5
-numberOf ProofWrong = 6
-numberOf BenchFault = 7
+-- While a challenge waits for its answer, a record has the KeyID that is held.
+unfoldable pub keyFits : Setup → State → ℕ → Bool
+keyFits setup Initial keyid = true
+keyFits setup IamInit keyid = keyPresent setup keyid
+keyFits setup MamInit keyid = keyPresent setup keyid
+keyFits setup IaOk keyid = true
 
--- The number that a call gives, 0 where nothing is refused; the reply's length; and what the tag holds after each refusal.
-abbrev pub numberGiven : Outcome → ℕ
-numberGiven (Replied n) = 0
-numberGiven (Entered purpose) = 0
-numberGiven (Refused f) = numberOf f
-
-abbrev pub replyLength : Outcome → ℕ
-replyLength (Replied n) = n
-replyLength (Entered purpose) = 0
-replyLength (Refused f) = 0
-
+-- What the tag holds after each refusal.
 abbrev pub sessionAfter : Fault → Session → Session
 sessionAfter OtherError held = cleared
 sessionAfter NotSupported held = cleared
@@ -91,7 +67,8 @@ sessionAfter OutOfTurn held = cleared
 sessionAfter ProofWrong held = cleared
 sessionAfter BenchFault held = held
 
--- Table A.1, row by row: the next state of each message that a state takes. Any other pair is an error, and leads to Initial.
+-- Table A.1, row by row: the next state of each message that a state takes. Any other pair is an error, and leads to
+-- Initial.
 abbrev pub tableA1 : State → Kind → List State
 tableA1 s Tam1 = Initial ∷ []
 tableA1 s Tam2 = Initial ∷ []

@@ -1,36 +1,18 @@
 // The soft tag of ISO/IEC 29167-10: one message in, a reply or a number out.
+use entry::Session;
+use entry::State;
+use offer::Outcome;
+use offer::Verdict;
 use sheet::Setup;
 ghost use mathlib.Core.Path.{_≡_};
 ghost use lib.ListN.{length};
-ghost use Rattle.tag.specs.States.{poweredUp};
-ghost use Rattle.offer.specs.Outcomes.{numberOf, numberGiven, replyLength};
 ghost use Rattle.offer.specs.Records.{keyPresent};
-ghost use Rattle.tag.specs.States.{keyFits};
+ghost use Rattle.tag.specs.States.{poweredUp, keyFits};
 ghost use Rattle.tag.specs.Answers.{answerOf};
 ghost use Rattle.tag.specs.Reactions.{lent, Steps};
 
-mod records; // records.rt: what a setup offers, and what a message names
-mod judged; // judged.rt: the checks of each message, in their order
-mod replies; // replies.rt: what the tag sends
-mod opened; // opened.rt: what is judged of what the reader sent
-mod kinds; // kinds.rt: what each kind of message comes to
+mod kinds; // kinds.rt: what each kind that is answered comes to, in the room
 mod turns; // turns.rt: the checks before a message's kind counts
-
-/// The states of Annex A.
-pub enum State {
-    Initial,
-    IamInit,
-    MamInit,
-    IaOk,
-}
-
-/// What the tag holds from one message to the next: its state, the KeyID that was named, its own challenge, and the last 32 bits of the reader's.
-pub struct Session {
-    pub state: State,
-    pub keyid: u8,
-    pub tchallenge: [u8; 10],
-    pub ichallenge: [u8; 4],
-}
 
 /// A tag: what its sheet says, which never changes, and what it holds.
 pub struct Tag {
@@ -38,81 +20,10 @@ pub struct Tag {
     pub session: Session,
 }
 
-/// Why a message is refused: the scope paper's numbers 1 to 7.
-pub enum Fault {
-    OtherError,
-    NotSupported,
-    MemoryOverrun,
-    MemoryWriteError,
-    OutOfTurn,
-    ProofWrong,
-    BenchFault,
-}
-
-/// The end of a line of checks.
-pub enum Verdict {
-    Fine,
-    Wrong(Fault),
-}
-
-/// What a call comes to: a reply of so many bytes, a reader that is let in with its Purpose (the reply is empty), or a refusal.
-pub enum Outcome {
-    Replied(usize),
-    Entered(u8),
-    Refused(Fault),
-}
-
-/// The outcome, and what the tag holds afterwards.
-pub struct Reacted {
-    pub outcome: Outcome,
-    pub session: Session,
-}
-
 /// The outcome, and the tag afterwards.
 pub struct Stepped {
     pub outcome: Outcome,
     pub tag: Tag,
-}
-
-// The scope paper's number of a refusal.
-fn fault_number(fault: Fault) -> u8
-    ensures { λ r. ⌜ r ≡ numberOf fault ⌝ }
-{
-    match fault {
-        Fault::OtherError => 1,
-        Fault::NotSupported => 2,
-        Fault::MemoryOverrun => 3,
-        Fault::MemoryWriteError => 4,
-        Fault::OutOfTurn => 5,
-        Fault::ProofWrong => 6,
-        Fault::BenchFault => 7,
-    }
-}
-
-/// The scope paper's number of an outcome, 0 where nothing is refused.
-///
-/// Ruled out: 2 for a wrong length; a reply's length in the place of a number.
-pub fn number(outcome: Outcome) -> u8
-    ensures { λ r. ⌜ r ≡ numberGiven outcome ⌝ }
-{
-    match outcome {
-        Outcome::Replied(_) => 0,
-        Outcome::Entered(_) => 0,
-        Outcome::Refused(fault) => fault_number(fault),
-    }
-}
-
-/// The length of the reply.
-///
-/// Ruled out: a length given with a refusal; a Purpose given as a length.
-pub fn reply_length(outcome: Outcome) -> usize
-    ensures { λ r. ⌜ r ≡ replyLength outcome ⌝ }
-{
-    match outcome {
-        Outcome::Replied(n) => n,
-        Outcome::Entered(_) => 0,
-        Outcome::Refused(_) => 0,
-    }
 }
 
 /// A tag at power-up, and after a reset: nothing is held (clause 8).
@@ -123,7 +34,7 @@ pub fn power_up(setup: Setup) -> Tag
 {
     Tag {
         setup,
-        session: kinds::cleared(),
+        session: entry::cleared(),
     }
 }
 
@@ -131,15 +42,16 @@ pub fn power_up(setup: Setup) -> Tag
 fn known(setup: Setup, keyid: u8) -> bool
     ensures { λ r. ⌜ r ≡ keyPresent setup keyid ⌝ }
 {
-    let keys = setup.keys;
-    let found = records::find(keys, keyid);
+    let found = offer::records::find(setup, keyid);
     found.present
 }
 
-/// Does a record have the KeyID that the tag holds, where a challenge waits for its answer? Of a tag from power-up on it does
-/// (`Holding`); a host that stores tags asks it of what it takes up again.
+/// Does a record have the KeyID that the tag holds, where a challenge waits for its answer? Of a tag from power-up on
+/// it
+/// does (`Holding`); a host that stores tags asks it of what it takes up again.
 ///
-/// Ruled out: a KeyID that no record has, taken with the key of zeros; a tag in Initial refused for the KeyID 0 that stands there.
+/// Ruled out: a KeyID that no record has, taken with the key of zeros; a tag in Initial refused for the KeyID 0 that
+/// stands there.
 pub fn key_held(tag: Tag) -> bool
     ensures { λ r. ⌜ r ≡ keyFits (tag .setup) (tag .session .state) (tag .session .keyid) ⌝ }
 {
@@ -179,11 +91,13 @@ pub fn step(
     identity: &mut [u8],
     user: &mut [u8],
 ) -> Stepped
-    ensures { λ r. ⌜ Steps (answerOf (lent (now (message .entry)) (now (draws .entry)) (now (room .entry)) (now (identity .entry)) (now (user .entry))) tag) tag (now (room .entry)) r (now (room .exit)) (now (identity .exit)) (now (user .exit)) ⌝ }
+    ensures { λ r. ⌜ Steps (answerOf (lent (now (message .entry)) (now (draws .entry)) (now (room .entry))
+        (now (identity .entry)) (now (user .entry))) tag) tag (now (room .entry)) r
+        (now (room .exit)) (now (identity .exit)) (now (user .exit)) ⌝ }
 {
     let setup = tag.setup;
     let held = tag.session;
-    let verdict = judged::bench(setup, draws.len(), room.len(), identity.len(), user.len());
+    let verdict = offer::judged::bench(setup, draws.len(), room.len(), identity.len(), user.len());
     if let Verdict::Wrong(fault) = verdict {
         return Stepped {
             outcome: Outcome::Refused(fault),

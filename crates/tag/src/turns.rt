@@ -1,17 +1,70 @@
 // A message before its kind counts: is it there, is it offered, is it in its turn (Annex A)?
-use super::Fault;
-use super::Reacted;
-use super::Session;
 use super::kinds;
-use super::kinds::refused;
-use super::records;
+use entry::Reacted;
+use entry::Session;
+use entry::State;
+use entry::refused;
 use frames::Kind;
+use offer::Fault;
+use offer::records;
 use sheet::Setup;
+ghost use mathlib.Core.Path.{_≡_};
 ghost use Prim.Native.Nat.{_≤_};
 ghost use lib.ListN.{length};
 ghost use Rattle.frames.specs.Lengths.{replyRoom};
+ghost use Rattle.tag.specs.States.{atRest, afterIam1, afterMam1, inTurn};
 ghost use Rattle.tag.specs.Answers.{byKind, inOrder, ofMessage};
 ghost use Rattle.tag.specs.Reactions.{lent, ReactsIn};
+
+fn at_rest(state: State) -> bool
+    ensures { λ r. ⌜ r ≡ atRest state ⌝ }
+{
+    match state {
+        State::Initial => true,
+        State::IamInit => false, // a challenge waits for its answer
+        State::MamInit => false,
+        State::IaOk => true,
+    }
+}
+
+fn after_iam1(state: State) -> bool
+    ensures { λ r. ⌜ r ≡ afterIam1 state ⌝ }
+{
+    match state {
+        State::Initial => false,
+        State::IamInit => true,
+        State::MamInit => false,
+        State::IaOk => false,
+    }
+}
+
+fn after_mam1(state: State) -> bool
+    ensures { λ r. ⌜ r ≡ afterMam1 state ⌝ }
+{
+    match state {
+        State::Initial => false,
+        State::IamInit => false,
+        State::MamInit => true,
+        State::IaOk => false,
+    }
+}
+
+// Whether the state takes the message (Table A.1).
+// Ruled out: IAM1 taken between a challenge and its answer; MAM2 taken after IAM1.
+fn in_turn(state: State, kind: Kind) -> bool
+    ensures { λ r. ⌜ r ≡ inTurn state kind ⌝ }
+{
+    match kind {
+        Kind::Tam1 => true,
+        Kind::Tam2 => true,
+        Kind::Iam1 => at_rest(state),
+        Kind::Iam2 => after_iam1(state),
+        Kind::Iam3 => after_iam1(state),
+        Kind::Mam1 => at_rest(state),
+        Kind::Mam2 => after_mam1(state),
+        Kind::Unsupported => false,
+    }
+}
 
 // What a message of a kind comes to.
 fn by_kind(
@@ -25,7 +78,9 @@ fn by_kind(
     user: &mut [u8],
 ) -> Reacted
     requires { ⌜ replyRoom ≤ length (now room) ⌝ }
-    ensures { λ r. ⌜ ReactsIn (byKind (lent (now (m .entry)) draws (now (room .entry)) (now (identity .entry)) (now (user .entry))) setup held kind) (now (room .entry)) r (now (room .exit)) (now (identity .exit)) (now (user .exit)) ⌝ }
+    ensures { λ r. ⌜ ReactsIn (byKind
+        (lent (now (m .entry)) draws (now (room .entry)) (now (identity .entry)) (now (user .entry))) setup held kind)
+        (now (room .entry)) r (now (room .exit)) (now (identity .exit)) (now (user .exit)) ⌝ }
 {
     match kind {
         Kind::Tam1 => {
@@ -38,16 +93,16 @@ fn by_kind(
             return kinds::iam1(setup, m, draws, room);
         }
         Kind::Iam2 => {
-            return kinds::iam2(setup, held, m);
+            return entry::iam2(setup, held, m);
         }
         Kind::Iam3 => {
-            return kinds::iam3(setup, held, m, identity, user);
+            return entry::iam3(setup, held, m, identity, user);
         }
         Kind::Mam1 => {
             return kinds::mam1(setup, m, draws, room);
         }
         Kind::Mam2 => {
-            return kinds::mam2(setup, held, m);
+            return entry::mam2(setup, held, m);
         }
         Kind::Unsupported => {
             return refused(Fault::NotSupported);
@@ -67,14 +122,16 @@ fn in_order(
     user: &mut [u8],
 ) -> Reacted
     requires { ⌜ replyRoom ≤ length (now room) ⌝ }
-    ensures { λ r. ⌜ ReactsIn (inOrder (lent (now (m .entry)) draws (now (room .entry)) (now (identity .entry)) (now (user .entry))) setup held kind) (now (room .entry)) r (now (room .exit)) (now (identity .exit)) (now (user .exit)) ⌝ }
+    ensures { λ r. ⌜ ReactsIn (inOrder
+        (lent (now (m .entry)) draws (now (room .entry)) (now (identity .entry)) (now (user .entry))) setup held kind)
+        (now (room .entry)) r (now (room .exit)) (now (identity .exit)) (now (user .exit)) ⌝ }
 {
     let features = setup.features;
     if !records::offered(features, kind) {
         return refused(Fault::NotSupported);
     }
     let state = held.state;
-    if !records::in_turn(state, kind) {
+    if !in_turn(state, kind) {
         return refused(Fault::OutOfTurn);
     }
     by_kind(kind, setup, held, m, draws, room, identity, user)
@@ -92,7 +149,10 @@ pub fn take(
     user: &mut [u8],
 ) -> Reacted
     requires { ⌜ replyRoom ≤ length (now room) ⌝ }
-    ensures { λ r. ⌜ ReactsIn (ofMessage (lent (now (m .entry)) draws (now (room .entry)) (now (identity .entry)) (now (user .entry))) setup held (now (m .entry))) (now (room .entry)) r (now (room .exit)) (now (identity .exit)) (now (user .exit)) ⌝ }
+    ensures { λ r. ⌜ ReactsIn (ofMessage
+        (lent (now (m .entry)) draws (now (room .entry)) (now (identity .entry)) (now (user .entry))) setup held
+        (now (m .entry)))
+        (now (room .entry)) r (now (room .exit)) (now (identity .exit)) (now (user .exit)) ⌝ }
 {
     if m.len() == 0 {
         return refused(Fault::OtherError);

@@ -4,13 +4,13 @@ use console::answer::within;
 use console::fields;
 use console::words::count;
 use console::words::word;
+use entry::State;
 use lines::numbers::low_word;
 use lines::numbers::times;
 use lines::print;
+use offer::Outcome;
 use sheet::Setup;
 use sheet::Verdict;
-use tag::Outcome;
-use tag::State;
 use tag::Tag;
 
 // The tag's place on the bench from one command to the next: a tag, where a sheet was accepted, and the bytes lent of each area.
@@ -228,7 +228,7 @@ fn told(outcome: Outcome, state: State, room: &[u8]) {
         }
         Outcome::Refused(_) => {
             print::text(b"refused ");
-            answer::decimal(tag::number(outcome) as u16);
+            answer::decimal(offer::number(outcome) as u16);
             state_told(state);
             print::text(b"\n");
         }

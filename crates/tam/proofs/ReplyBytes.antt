@@ -35,7 +35,9 @@ use Rattle.tam.specs.Replies.{tamBlock, tam1Reply, tam2Body, tam2Reply}
 tam2-constant-le : (rev : Bool) (protmode : ℕ) → tam2Constant rev protmode ≤ 0xFFFF
 unfolding tam2Constant
 tam2-constant-le false protmode = omega arith
-tam2-constant-le true protmode = by-mode-le C-TAM2-0 C-TAM2-1 C-TAM2-2 C-TAM2-3 protmode 0xFFFF (omega arith) (omega arith) (omega arith) (omega arith)
+tam2-constant-le true protmode =
+    by-mode-le C-TAM2-0 C-TAM2-1 C-TAM2-2 C-TAM2-3 protmode 0xFFFF (omega arith) (omega arith) (omega arith)
+    (omega arith)
 
 pub header-bytes : (c : Custom) → customFits c ≡ true → Bytes (headerOf c)
 unfolding headerOf headerStart
@@ -47,7 +49,8 @@ header-bytes c fit (suc zero) = omega arith
 header-bytes c fit (suc (suc zero)) = let r = custom-range c fit in omega arith
 header-bytes c fit (suc (suc (suc i))) = zeros-bytes (headerLength (c .blocksize) - 3) i
 
-pub carried-bytes : (rev : Bool) (c : Custom) (words : List ℕ) → customFits c ≡ true → Bytes words → Bytes (carriedData rev c words)
+pub carried-bytes : (rev : Bool) (c : Custom) (words : List ℕ) → customFits c ≡ true → Bytes words
+    → Bytes (carriedData rev c words)
 unfolding carriedData filled
 carried-bytes rev c words fit h =
     let s = pick rev (headerOf c) [] ++ words in
@@ -58,25 +61,33 @@ carried-bytes rev c words fit h =
 -- ---- the replies
 
 module _ (draws : List ℕ) (d : Ten draws) where
-  pub tam-block-block : (enc ichallenge : List ℕ) (c : ℕ) → Bytes enc → c ≤ 0xFFFF → Ten ichallenge → Block (tamBlock enc (twoBytes c) draws ichallenge)
+  pub tam-block-block : (enc ichallenge : List ℕ) (c : ℕ) → Bytes enc → c ≤ 0xFFFF → Ten ichallenge
+      → Block (tamBlock enc (twoBytes c) draws ichallenge)
   unfolding tamBlock
   tam-block-block enc ichallenge c k l t =
-      block-block enc (take 4 draws) ichallenge c k l (length-take-le 4 draws (omega (arith, d .ten))) (bytes-take 4 draws (d .bytes)) t
+      block-block enc (take 4 draws) ichallenge c k l (length-take-le 4 draws (omega (arith, d .ten)))
+      (bytes-take 4 draws (d .bytes)) t
 
   module _ (key : Key) (enc : Bytes (key .enc)) where
     pub tam1-bytes : (m : Tam1) → Ten (m .ichallenge) → Bytes (tam1Reply key m draws)
     unfolding tam1Reply
     tam1-bytes m t = tam-block-block (key .enc) (m .ichallenge) C-TAM1 enc (omega arith) t .bytes
 
-    pub tam2-bytes : (m : Tam2) (words : List ℕ) → Bytes (key .mackey) → Ten (m .ichallenge) → customFits (m .custom) ≡ true → Bytes words → Bytes (tam2Reply key m words draws)
+    pub tam2-bytes : (m : Tam2) (words : List ℕ) → Bytes (key .mackey) → Ten (m .ichallenge)
+        → customFits (m .custom) ≡ true → Bytes words → Bytes (tam2Reply key m words draws)
     unfolding tam2Reply withMac tam2Body
     tam2-bytes m words mac t fit h =
         let a = tamBlock (key .enc) (twoBytes (tam2Constant (m .rev) (m .protmode))) draws (m .ichallenge) in
         let p = carriedData (m .rev) (m .custom) words in
         let x = pick (encrypts (m .protmode)) (cbcEncAes a (key .enc) p) p in
-        let ha : Bytes a = tam-block-block (key .enc) (m .ichallenge) (tam2Constant (m .rev) (m .protmode)) enc (tam2-constant-le (m .rev) (m .protmode)) t .bytes in
+        let ha : Bytes a =
+        tam-block-block (key .enc) (m .ichallenge) (tam2Constant (m .rev) (m .protmode)) enc
+        (tam2-constant-le (m .rev) (m .protmode)) t .bytes in
         let hp : Bytes p = carried-bytes (m .rev) (m .custom) words fit h in
         let hs : Bytes (a ++ x) =
-        joined-bytes a x ha (pick-bytes (encrypts (m .protmode)) (cbcEncAes a (key .enc) p) p (cbc-enc-aes-bytes a (key .enc) p ha enc hp) hp) in
+        joined-bytes a x ha
+        (pick-bytes (encrypts (m .protmode)) (cbcEncAes a (key .enc) p) p
+        (cbc-enc-aes-bytes a (key .enc) p ha enc hp) hp) in
         joined-bytes (a ++ x) (pick (hasMac (m .protmode)) (cmac96 (key .mackey) (a ++ x)) []) hs
-        (pick-bytes (hasMac (m .protmode)) (cmac96 (key .mackey) (a ++ x)) [] (mac-bytes (key .mackey) mac (a ++ x) hs) none-bytes)
+        (pick-bytes (hasMac (m .protmode)) (cmac96 (key .mackey) (a ++ x)) [] (mac-bytes (key .mackey) mac (a ++ x) hs)
+        none-bytes)

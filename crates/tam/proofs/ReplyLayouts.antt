@@ -1,4 +1,5 @@
--- The layout of each reply, by kind, Rev and ProtMode: 9.4.3, Tables 7 to 14. A is the authentication block, P header, data and
+-- The layout of each reply, by kind, Rev and ProtMode: 9.4.3, Tables 7 to 14. A is the authentication block, P header,
+-- data and
 -- filler, X is P chained to A, and the MAC covers what goes before it.
 use mathlib.Core.Path.{_≡_, refl}
 use mathlib.Core.Bool.{true, false}
@@ -21,7 +22,8 @@ use Rattle.payload.specs.Protected.{encrypts, withMac}
 use Rattle.tam.specs.Replies.{tamBlock, tam1Reply, tam2Body, tam2Reply}
 
 -- TAM1: 96C5, TRnd, IChallenge.
-pub tam1-layout : (key : Key) (m : Tam1) (draws : List ℕ) → tam1Reply key m draws ≡ aesEnc (key .enc) (twoBytes 0x96C5 ++ (take 4 draws ++ m .ichallenge))
+pub tam1-layout : (key : Key) (m : Tam1) (draws : List ℕ)
+    → tam1Reply key m draws ≡ aesEnc (key .enc) (twoBytes 0x96C5 ++ (take 4 draws ++ m .ichallenge))
 unfolding tam1Reply tamBlock
 tam1-layout key m draws = refl
 
@@ -30,7 +32,8 @@ pub rev-0-constant : (protmode : ℕ) → tam2Constant false protmode ≡ 0x96C5
 unfolding tam2Constant
 rev-0-constant protmode = refl
 
-pub rev-1-constants : (tam2Constant true 0 ≡ 0x96C0) × (tam2Constant true 1 ≡ 0x96C1) × (tam2Constant true 2 ≡ 0x96C2) × (tam2Constant true 3 ≡ 0x96C3)
+pub rev-1-constants : (tam2Constant true 0 ≡ 0x96C0) × (tam2Constant true 1 ≡ 0x96C1) × (tam2Constant true 2 ≡ 0x96C2) ×
+    (tam2Constant true 3 ≡ 0x96C3)
 unfolding tam2Constant byMode
 rev-1-constants = (refl, refl, refl, refl)
 
@@ -72,6 +75,7 @@ module _ (c : Custom) (words : List ℕ) where
   unfolding carriedData
   rev-0-layout = refl
 
-  pub rev-1-layout : carriedData true c words ≡ filled (blocksLength (c .blocksize) true (c .blockcount)) (headerOf c ++ words)
+  pub rev-1-layout : carriedData true c words ≡ filled (blocksLength (c .blocksize) true (c .blockcount))
+      (headerOf c ++ words)
   unfolding carriedData
   rev-1-layout = refl

@@ -33,19 +33,32 @@ chosen-long : (b : Bool) (a enc p : List ℕ) → length p % 16 ≡ 0 → length
 chosen-long true a enc p e = cbc-enc-long a enc p e
 chosen-long false a enc p e = refl
 
-pub body-long : (protmode : ℕ) (a enc p : List ℕ) → length p % 16 ≡ 0 → length (pick (encrypts protmode) (cbcEncAes a enc p) p) ≡ length p
+pub body-long : (protmode : ℕ) (a enc p : List ℕ) → length p % 16 ≡ 0
+    → length (pick (encrypts protmode) (cbcEncAes a enc p) p) ≡ length p
 body-long protmode = chosen-long (encrypts protmode)
 
 -- a block, data and perhaps a MAC
 pub made-long : (protmode n : ℕ) (mackey enc a p : List ℕ) → length a ≡ 16 → length p ≡ n → n % 16 ≡ 0
-    → (let s = a ++ pick (encrypts protmode) (cbcEncAes a enc p) p in length (s ++ pick (hasMac protmode) (cmac96 mackey s) []) ≡ 16 + n + macLength protmode)
+    → (let s = a ++ pick (encrypts protmode) (cbcEncAes a enc p) p in
+    length (s ++ pick (hasMac protmode) (cmac96 mackey s) []) ≡ 16 + n + macLength protmode)
 made-long protmode n mackey enc a p h e w =
     let x = pick (encrypts protmode) (cbcEncAes a enc p) p in
-    omega (arith, length-append (a ++ x) (pick (hasMac protmode) (cmac96 mackey (a ++ x)) []), length-append a x, body-long protmode a enc p (omega arith), mac-long protmode mackey (a ++ x))
+    omega (
+      arith,
+      length-append (a ++ x) (pick (hasMac protmode) (cmac96 mackey (a ++ x)) []),
+      length-append a x,
+      body-long protmode a enc p (omega arith),
+      mac-long protmode mackey (a ++ x),
+    )
 
-module _ (key : Key) (m : Tam2) (words draws : List ℕ) (count : length words ≤ dataLength (m .custom .blocksize) (m .custom .blockcount)) where
-  pub tam2-long : length (tam2Reply key m words draws) ≡ tam2ReplyLength (m .custom .blocksize) (m .rev) (m .custom .blockcount) (m .protmode)
+module _ (key : Key) (m : Tam2) (words draws : List ℕ)
+    (count : length words ≤ dataLength (m .custom .blocksize) (m .custom .blockcount)) where
+  pub tam2-long : length (tam2Reply key m words draws) ≡ tam2ReplyLength (m .custom .blocksize) (m .rev)
+      (m .custom .blockcount) (m .protmode)
   unfolding tam2Reply withMac tam2Body tam2ReplyLength tam2MacAt
   tam2-long =
-      made-long (m .protmode) (blocksLength (m .custom .blocksize) (m .rev) (m .custom .blockcount)) (key .mackey) (key .enc) (tamBlock (key .enc) (twoBytes (tam2Constant (m .rev) (m .protmode))) draws (m .ichallenge))
-      (carriedData (m .rev) (m .custom) words) (tam-block-long (key .enc) _ draws (m .ichallenge)) (carried-long (m .rev) (m .custom) words count) (blocks-whole (m .custom .blocksize) (m .rev) (m .custom .blockcount))
+      made-long (m .protmode) (blocksLength (m .custom .blocksize) (m .rev) (m .custom .blockcount)) (key .mackey)
+      (key .enc) (tamBlock (key .enc) (twoBytes (tam2Constant (m .rev) (m .protmode))) draws (m .ichallenge))
+      (carriedData (m .rev) (m .custom) words) (tam-block-long (key .enc) _ draws (m .ichallenge))
+      (carried-long (m .rev) (m .custom) words count)
+      (blocks-whole (m .custom .blocksize) (m .rev) (m .custom .blockcount))

@@ -42,12 +42,14 @@ macOf protmode mackey s = pick (hasMac protmode) (cmac96 mackey s) []
 
 module _ (protmode : ℕ) (b : Bool) (enc a p room after : List ℕ) (told : b ≡ encrypts protmode) where
   pub body-chained : (answer : Chaining) → b ≡ true → length p % 16 ≡ 0 → length p ≤ length room
-      → Into (chains (length p) (length room)) (cbcEncAes a enc p) room answer after → after ≡ over (pick (encrypts protmode) (cbcEncAes a enc p) p) room
+      → Into (chains (length p) (length room)) (cbcEncAes a enc p) room answer after
+      → after ≡ over (pick (encrypts protmode) (cbcEncAes a enc p) p) room
   body-chained answer t w h i =
       i .leaves ∙ ap (λ (x : Bool). pick x (over (cbcEncAes a enc p) room) room) (enough (length p) (length room) w h)
       ∙ ap (λ (x : Bool). over (pick x (cbcEncAes a enc p) p) room) (sym t ∙ told)
 
-  pub body-plain : b ≡ false → after ≡ take (length p) p ++ drop (length p) room → after ≡ over (pick (encrypts protmode) (cbcEncAes a enc p) p) room
+  pub body-plain : b ≡ false → after ≡ take (length p) p ++ drop (length p) room
+      → after ≡ over (pick (encrypts protmode) (cbcEncAes a enc p) p) room
   body-plain f e = copied p room after e ∙ ap (λ (x : Bool). over (pick x (cbcEncAes a enc p) p) room) (sym f ∙ told)
 
 -- ---- the whole
@@ -55,17 +57,25 @@ module _ (protmode : ℕ) (b : Bool) (enc a p room after : List ℕ) (told : b �
 module _ (key : Key) (m : Tam2) (words draws : List ℕ) (fit : customFits (m .custom) ≡ true)
     (count : length words ≤ dataLength (m .custom .blocksize) (m .custom .blockcount))
   where
-    is-reply : (let s = sent (m .protmode) (key .enc) (tamBlock (key .enc) (twoBytes (tam2Constant (m .rev) (m .protmode))) draws (m .ichallenge)) (carriedData (m .rev) (m .custom) words) in
+    is-reply : (let s =
+        sent (m .protmode) (key .enc)
+        (tamBlock (key .enc) (twoBytes (tam2Constant (m .rev) (m .protmode))) draws (m .ichallenge))
+        (carriedData (m .rev) (m .custom) words) in
         s ++ macOf (m .protmode) (key .mackey) s ≡ tam2Reply key m words draws)
     unfolding tam2Reply withMac tam2Body
     is-reply = refl
 
     -- p holds the data, r the block and the data as they are sent, z these with their MAC
-    pub tam2-made : (n result : ℕ) (x y : Bool) (p k a room r z : List ℕ) → n ≡ blocksLength (m .custom .blocksize) (m .rev) (m .custom .blockcount)
-        → Built (both (customFits (m .custom)) (leb (length words) (dataLength (m .custom .blocksize) (m .custom .blockcount)))) (blocksLength (m .custom .blocksize) (m .rev) (m .custom .blockcount)) (carriedData (m .rev) (m .custom) words) (replicate 144 0) x p
+    pub tam2-made : (n result : ℕ) (x y : Bool) (p k a room r z : List ℕ)
+        → n ≡ blocksLength (m .custom .blocksize) (m .rev) (m .custom .blockcount)
+        → Built (both (customFits (m .custom))
+        (leb (length words) (dataLength (m .custom .blocksize) (m .custom .blockcount))))
+        (blocksLength (m .custom .blocksize) (m .rev) (m .custom .blockcount)) (carriedData (m .rev) (m .custom) words)
+        (replicate 144 0) x p
         → k ≡ twoBytes (tam2Constant (m .rev) (m .protmode)) → a ≡ tamBlock (key .enc) k draws (m .ichallenge)
         → r ≡ over (sent (m .protmode) (key .enc) a (take n p)) room → length r ≡ length room → replyRoom ≤ length room
-        → Built (macTakes (m .protmode) (16 + n)) (16 + n + macLength (m .protmode)) (withMac (key .mackey) (m .protmode) (take (16 + n) r)) r y z
+        → Built (macTakes (m .protmode) (16 + n)) (16 + n + macLength (m .protmode))
+        (withMac (key .mackey) (m .protmode) (take (16 + n) r)) r y z
         → result ≡ tam2ReplyLength (m .custom .blocksize) (m .rev) (m .custom .blockcount) (m .protmode)
         → (result ≡ length (tam2Reply key m words draws)) × (z ≡ over (tam2Reply key m words draws) room)
     unfolding withMac
@@ -73,23 +83,35 @@ module _ (key : Key) (m : Tam2) (words draws : List ℕ) (fit : customFits (m .c
         let q = carriedData (m .rev) (m .custom) words in
         let most : n ≤ 144 = omega (arith, en, blocks-fit (m .rev) (m .custom) fit) in
         let ep : p ≡ over q (replicate 144 0) =
-        built-over _ _ q (replicate 144 0) (ap₂ both fit (le-leb (length words) (dataLength (m .custom .blocksize) (m .custom .blockcount)) count)) (omega (arith, en)) (carried-long (m .rev) (m .custom) words count) p x bp in
-        let eq : take n p ≡ q = ap (take n) ep ∙ over-taken q (replicate 144 0) n (carried-long (m .rev) (m .custom) words count ∙ sym en) in
+        built-over _ _ q (replicate 144 0)
+        (ap₂ both fit (le-leb (length words) (dataLength (m .custom .blocksize) (m .custom .blockcount)) count))
+        (omega (arith, en)) (carried-long (m .rev) (m .custom) words count) p x bp in
+        let eq : take n p ≡ q =
+        ap (take n) ep ∙ over-taken q (replicate 144 0) n (carried-long (m .rev) (m .custom) words count ∙ sym en) in
         let long : length (take n p) ≡ n = ap length eq ∙ carried-long (m .rev) (m .custom) words count ∙ sym en in
-        let whole : n % 16 ≡ 0 = ap (λ (i : ℕ). i % 16) en ∙ blocks-whole (m .custom .blocksize) (m .rev) (m .custom .blockcount) in
+        let whole : n % 16 ≡ 0 =
+        ap (λ (i : ℕ). i % 16) en ∙ blocks-whole (m .custom .blocksize) (m .rev) (m .custom .blockcount) in
         let sixteen : length a ≡ 16 = ap length ea ∙ tam-block-long (key .enc) k draws (m .ichallenge) in
         let s = sent (m .protmode) (key .enc) a (take n p) in
         let t : length s ≡ 16 + n =
-        omega (arith, length-append a (pick (encrypts (m .protmode)) (cbcEncAes a (key .enc) (take n p)) (take n p)), body-long (m .protmode) a (key .enc) (take n p) (omega arith)) in
+        omega (
+          arith,
+          length-append a (pick (encrypts (m .protmode)) (cbcEncAes a (key .enc) (take n p)) (take n p)),
+          body-long (m .protmode) a (key .enc) (take n p) (omega arith),
+        ) in
         let same : s ++ macOf (m .protmode) (key .mackey) s ≡ tam2Reply key m words draws =
-        ap₂ {C = List ℕ} (λ x y. sent (m .protmode) (key .enc) x y ++ macOf (m .protmode) (key .mackey) (sent (m .protmode) (key .enc) x y))
+        ap₂ {C = List ℕ}
+        (λ x y. sent (m .protmode) (key .enc) x y ++ macOf (m .protmode) (key .mackey)
+        (sent (m .protmode) (key .enc) x y))
         (ea ∙ ap (λ (l : List ℕ). tamBlock (key .enc) l draws (m .ichallenge)) ek) eq
         ∙ is-reply in
         let c = take (16 + n) r in
         let lc : length c ≡ 16 + n = length-take-le (16 + n) r (omega arith) in
         let ez : z ≡ over (c ++ macOf (m .protmode) (key .mackey) c) r =
-        built-over _ _ (withMac (key .mackey) (m .protmode) c) r (whole-taken (m .protmode) (16 + n) (omega arith) (omega arith)) (omega (arith, mac-most (m .protmode)))
+        built-over _ _ (withMac (key .mackey) (m .protmode) c) r
+        (whole-taken (m .protmode) (16 + n) (omega arith) (omega arith)) (omega (arith, mac-most (m .protmode)))
         (with-mac-long (m .protmode) (key .mackey) c ∙ ap (λ (i : ℕ). i + macLength (m .protmode)) lc) z y bz in (
           eresult ∙ sym (tam2-long key m words draws count),
-          ez ∙ front-finished s room r (16 + n) (macOf (m .protmode) (key .mackey)) t er ∙ ap (λ (l : List ℕ). over l room) same,
+          ez ∙ front-finished s room r (16 + n) (macOf (m .protmode) (key .mackey)) t er
+              ∙ ap (λ (l : List ℕ). over l room) same,
         )

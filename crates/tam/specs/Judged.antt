@@ -1,4 +1,5 @@
--- What is judged of a TAM2 before anything is done, in the order of 9.4.5 and of the scope paper. The line is built of its
+-- What is judged of a TAM2 before anything is done, in the order of 9.4.5 and of the scope paper. The line is built of
+-- its
 -- parts, each judged by a function of its own; the whole is the last definition. (TAM1's is the opening line.)
 use Prim.Native.Nat.{ℕ}
 use mathlib.Core.Bool.{not}

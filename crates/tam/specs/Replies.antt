@@ -1,4 +1,5 @@
--- What the tag sends: 9.4.3, 9.4.6. The keys are those of the record that the message named; `draws` are the tag's random
+-- What the tag sends: 9.4.3, 9.4.6. The keys are those of the record that the message named; `draws` are the tag's
+-- random
 -- bytes.
 use Prim.Native.Nat.{ℕ}
 use mathlib.Core.List.{List, _++_}
@@ -21,7 +22,8 @@ tamBlock enc constant draws ichallenge = aesEnc enc (constant ++ (take 4 draws +
 unfoldable pub tam1Reply : Key → Tam1 → List ℕ → List ℕ
 tam1Reply key m draws = tamBlock (key .enc) (twoBytes C-TAM1) draws (m .ichallenge)
 
--- 9.4.6.2 to 9.4.6.9: the authentication block A, the data as they are or chained to A, and the MAC over both as they are sent.
+-- 9.4.6.2 to 9.4.6.9: the authentication block A, the data as they are or chained to A, and the MAC over both as they
+-- are sent.
 unfoldable pub tam2Body : Key → ℕ → List ℕ → List ℕ → List ℕ
 tam2Body key protmode a p = pick (encrypts protmode) (cbcEncAes a (key .enc) p) p
 

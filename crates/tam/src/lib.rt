@@ -1,4 +1,5 @@
-// TAM: checks and replies of TAM1 and TAM2 (9.4), for any message. A tag that offers nothing else needs no more than this.
+// TAM: checks and replies of TAM1 and TAM2 (9.4), for any message. A tag that offers nothing else needs no more than
+// this.
 use frames::Kind;
 use frames::fields::tam1_of;
 use frames::fields::tam2_of;

@@ -16,7 +16,8 @@ ghost use Rattle.frames.specs.Lengths.{replyRoom};
 ghost use Rattle.payload.specs.Protected.{encrypts};
 ghost use Rattle.tam.specs.Replies.{tamBlock, tam1Reply, tam2Reply};
 
-/// The authentication block (9.4.3, 9.4.6.1). Ruled out: the last four draws as TRnd, and IChallenge before TRnd.
+/// The authentication block (9.4.3, 9.4.6.1).
+/// Ruled out: the last four draws as TRnd, and IChallenge before TRnd.
 pub fn tam_block(
     enc: [u8; 16],
     constant: [u8; 2],
@@ -41,7 +42,8 @@ pub fn tam1_reply(key: Key, m: Tam1, draws: [u8; 10]) -> [u8; 16]
 // The data as they are sent: chained to the block a, or as they are (Table 3).
 fn body(enc: [u8; 16], protmode: u8, a: [u8; 16], p: &[u8], room: &mut [u8])
     requires { ⌜ (length (now p) % 16 ≡ 0) × (length (now p) ≤ length (now room)) ⌝ }
-    ensures { λ _. ⌜ now (room .exit) ≡ over (pick (encrypts protmode) (cbcEncAes a enc (now (p .entry))) (now (p .entry))) (now (room .entry)) ⌝ }
+    ensures { λ _. ⌜ now (room .exit) ≡
+        over (pick (encrypts protmode) (cbcEncAes a enc (now (p .entry))) (now (p .entry))) (now (room .entry)) ⌝ }
 {
     if payload::encrypts(protmode) {
         modes::cbc_enc_aes(a, enc, p, room);
@@ -53,7 +55,8 @@ fn body(enc: [u8; 16], protmode: u8, a: [u8; 16], p: &[u8], room: &mut [u8])
 // The block a, and behind it the data as they are sent.
 fn authenticated(enc: [u8; 16], protmode: u8, a: [u8; 16], p: &[u8], room: &mut [u8])
     requires { ⌜ (length (now p) % 16 ≡ 0) × (16 + length (now p) ≤ length (now room)) ⌝ }
-    ensures { λ _. ⌜ now (room .exit) ≡ over (a ++ pick (encrypts protmode) (cbcEncAes a enc (now (p .entry))) (now (p .entry))) (now (room .entry)) ⌝ }
+    ensures { λ _. ⌜ now (room .exit) ≡
+        over (a ++ pick (encrypts protmode) (cbcEncAes a enc (now (p .entry))) (now (p .entry))) (now (room .entry)) ⌝ }
 {
     payload::put(&mut *room, 0, &a);
     body(enc, protmode, a, p, &mut room[16..]);
@@ -62,8 +65,11 @@ fn authenticated(enc: [u8; 16], protmode: u8, a: [u8; 16], p: &[u8], room: &mut 
 /// The reply to TAM2 (9.4.6.2 to 9.4.6.9) into the first bytes of the room; its length.
 /// Ruled out: the MAC of the data before they are chained, and a header in Rev 0.
 pub fn tam2_reply(key: Key, m: Tam2, words: &[u8], draws: [u8; 10], room: &mut [u8]) -> usize
-    requires { ⌜ (customFits (m .custom) ≡ true) × (length (now words) ≤ dataLength (m .custom .blocksize) (m .custom .blockcount)) × (replyRoom ≤ length (now room)) ⌝ }
-    ensures { λ r. ⌜ (r ≡ length (tam2Reply key m (now (words .entry)) draws)) × (now (room .exit) ≡ over (tam2Reply key m (now (words .entry)) draws) (now (room .entry))) ⌝ }
+    requires { ⌜ (customFits (m .custom) ≡ true)
+        × (length (now words) ≤ dataLength (m .custom .blocksize) (m .custom .blockcount))
+        × (replyRoom ≤ length (now room)) ⌝ }
+    ensures { λ r. ⌜ (r ≡ length (tam2Reply key m (now (words .entry)) draws))
+        × (now (room .exit) ≡ over (tam2Reply key m (now (words .entry)) draws) (now (room .entry))) ⌝ }
 {
     let enc = key.enc;
     let mackey = key.mackey;

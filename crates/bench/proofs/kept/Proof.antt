@@ -49,8 +49,8 @@ use Rattle.offer.specs.declared.Outcome.{Outcome}
 use Rattle.bench.specs.Kept.{left}
 use Rattle.tag.proofs.Tag as T
 use Rattle.tag.proofs.Tag.Laws as T′
-use Rattle.tag.proofs.Outcome as O
-use Rattle.tag.proofs.Outcome.Laws as O′
+use Rattle.offer.proofs.Outcome as O
+use Rattle.offer.proofs.Outcome.Laws as O′
 use Rattle.tag.proofs.Stepped as S
 use Rattle.tag.proofs.Stepped.Laws as S′
 use Rattle.bench.proofs.Values.{R, mach, bytes}

@@ -48,8 +48,8 @@ use Rattle.tag.specs.declared.Tag.{Tag}
 use Rattle.tag.specs.declared.Stepped.{Stepped}
 use Rattle.tag.proofs.Tag as T
 use Rattle.tag.proofs.Tag.Laws as T′
-use Rattle.tag.proofs.Outcome as O
-use Rattle.tag.proofs.Outcome.Laws as O′
+use Rattle.offer.proofs.Outcome as O
+use Rattle.offer.proofs.Outcome.Laws as O′
 use Rattle.tag.proofs.Stepped as S
 use Rattle.tag.proofs.Stepped.Laws as S′
 use Rattle.tag.proofs.step as by-value

@@ -26,23 +26,33 @@ enum-told-4 c = search needs
 
 returns : tie.Need-returns
 unfolding keyFits
-returns c = let a = c .before .before .before .before .args .tag in sym (ap (λ (s : State). keyFits (a .setup) s (a .session .keyid)) (c .enum-told .given .1))
+returns c =
+    let c4 = c .before .before .before .before in
+    let a = c4 .args .tag in
+    sym (ap (λ (s : State). keyFits (a .setup) s (a .session .keyid)) (c .enum-told .given .1))
 
 returns-2 : tie.Need-returns-2
 unfolding keyFits
 returns-2 c =
-    let a = c .before .before .before .before .before .args .tag in
-    c .known .ensures ∙ sym (ap (λ (s : State). keyFits (a .setup) s (a .session .keyid)) (c .before .enum-told2 .given .1))
+    let c1 = c .before in
+    let c5 = c1 .before .before .before .before in
+    let a = c5 .args .tag in
+    c .known .ensures ∙ sym (ap (λ (s : State). keyFits (a .setup) s (a .session .keyid)) (c1 .enum-told2 .given .1))
 
 returns-3 : tie.Need-returns-3
 unfolding keyFits
 returns-3 c =
-    let a = c .before .before .before .before .before .args .tag in
-    c .known2 .ensures ∙ sym (ap (λ (s : State). keyFits (a .setup) s (a .session .keyid)) (c .before .enum-told3 .given .1))
+    let c1 = c .before in
+    let c5 = c1 .before .before .before .before in
+    let a = c5 .args .tag in
+    c .known2 .ensures ∙ sym (ap (λ (s : State). keyFits (a .setup) s (a .session .keyid)) (c1 .enum-told3 .given .1))
 
 returns-4 : tie.Need-returns-4
 unfolding keyFits
-returns-4 c = let a = c .before .before .before .before .args .tag in sym (ap (λ (s : State). keyFits (a .setup) s (a .session .keyid)) (c .enum-told4 .given .1))
+returns-4 c =
+    let c4 = c .before .before .before .before in
+    let a = c4 .args .tag in
+    sym (ap (λ (s : State). keyFits (a .setup) s (a .session .keyid)) (c .enum-told4 .given .1))
 
 pub key-held-spec : {M : Type 1} → statement M
 key-held-spec =

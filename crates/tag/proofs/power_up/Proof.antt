@@ -1,12 +1,10 @@
+-- `tag::power_up` meets its contract.
 use mathlib.Core.Path.{ap}
 use Rattle.entry.specs.declared.Session.{Session}
 use Rattle.tag.specs.States.{poweredUp}
 use borrow.Author.Needs.{needs}
 use Rattle.tag.proofs.power_up.Statement.{statement}
 use Rattle.tag.proofs.power_up.Tie as tie
-use Rattle.tag.proofs.power_up.Reads as reads
-use Rattle.tag.proofs.power_up.Lts as lts
-use Rattle.tag.proofs.kinds.cleared.Reads as cleared-reads
 
 cleared-requires : tie.Need-cleared-requires
 cleared-requires c κs = search needs

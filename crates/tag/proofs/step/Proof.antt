@@ -13,16 +13,31 @@ enum-known-verdict : tie.Need-enum-known-verdict
 enum-known-verdict c = search needs
 
 returns : tie.Need-returns
-returns c = let a = c .before .before .before .before .before .before .before .before .before .before .before .args in bench-wrong (a .tag) (a .message .now) (a .draws .now) (a .room .now) (a .identity .now) (a .user .now) _ (c .before .before .before .bench .ensures) _ (c .before .verdict .given .1)
+returns c =
+    let c1 = c .before in
+    let c3 = c1 .before .before in
+    let c11 = c3 .before .before .before .before .before .before .before .before in
+    let a = c11 .args in
+    bench-wrong (a .tag) (a .message .now) (a .draws .now) (a .room .now) (a .identity .now) (a .user .now) _
+    (c3 .bench .ensures) _ (c1 .verdict .given .1)
 
 enum-told : tie.Need-enum-told
 enum-told c = search needs
 
 ten-requires : tie.Need-ten-requires
-ten-requires c κs = let a = c .before .before .before .before .before .before .before .before .before .before .args in bench-draws (a .tag .setup) _ _ _ _ (sym (c .before .before .bench .ensures) ∙ c .enum-told .given .1)
+ten-requires c κs =
+    let c2 = c .before .before in
+    let c10 = c2 .before .before .before .before .before .before .before .before in
+    let a = c10 .args in
+    bench-draws (a .tag .setup) _ _ _ _ (sym (c2 .bench .ensures) ∙ c .enum-told .given .1)
 
 take-requires : tie.Need-take-requires
-take-requires c κs = let a = c .before .before .before .before .before .before .before .before .before .before .before .before .before .before .args in bench-room (a .tag .setup) _ _ _ _ (sym (c .before .before .before .before .before .before .bench .ensures) ∙ c .before .before .before .before .enum-told .given .1)
+take-requires c κs =
+    let c4 = c .before .before .before .before in
+    let c6 = c4 .before .before in
+    let c14 = c6 .before .before .before .before .before .before .before .before in
+    let a = c14 .args in
+    bench-room (a .tag .setup) _ _ _ _ (sym (c6 .bench .ensures) ∙ c4 .enum-told .given .1)
 
 same-length : tie.Need-same-length
 same-length c = search needs
@@ -34,7 +49,15 @@ same-length-3 : tie.Need-same-length-3
 same-length-3 c = search needs
 
 returns-2 : tie.Need-returns-2
-returns-2 c = let a = c .before .before .before .before .before .before .before .before .before .before .before .before .before .before .before .before .before .before .before .before .before .before .args in bench-fine (a .tag) (a .message .now) (a .draws .now) (a .room .now) (a .identity .now) (a .user .now) _ (c .before .before .before .before .before .before .before .before .before .before .before .before .before .before .bench .ensures) _ _ _ _ _ (c .before .before .before .before .before .before .before .before .before .before .before .before .enum-told .given .1) (c .before .before .before .before .before .before .before .before .before .before .before .ten .ensures) (c .before .before .before .before .before .before .before .take .ensures)
+returns-2 c =
+    let c7 = c .before .before .before .before .before .before .before in
+    let c11 = c7 .before .before .before .before in
+    let c12 = c11 .before in
+    let c14 = c12 .before .before in
+    let c22 = c14 .before .before .before .before .before .before .before .before in
+    let a = c22 .args in
+    bench-fine (a .tag) (a .message .now) (a .draws .now) (a .room .now) (a .identity .now) (a .user .now) _
+    (c14 .bench .ensures) _ _ _ _ _ (c12 .enum-told .given .1) (c11 .ten .ensures) (c7 .take .ensures)
 
 pub step-spec : {M : Type 1} → statement M
 step-spec =

@@ -16,7 +16,11 @@ copy-requires : tie.Need-copy-requires
 copy-requires c κs = search needs
 
 returns : tie.Need-returns
-returns c = let s = c .before .before .before .before .args .draws .now in copied s (replicate 10 0) _ (c .before .copy .ensures .1) ∙ over-all s (replicate 10 0) (c .before .before .before .before .pre)
+returns c =
+    let c1 = c .before in
+    let c4 = c1 .before .before .before in
+    let s = c4 .args .draws .now in
+    copied s (replicate 10 0) _ (c1 .copy .ensures .1) ∙ over-all s (replicate 10 0) (c4 .pre)
 
 pub ten-spec : {M : Type 1} → statement M
 ten-spec = tie.close (tie.spec slice-aggregate-copy copy-requires returns)

@@ -31,26 +31,48 @@ fits-requires c κs = tt
 
 returns-4 : tie.Need-returns-4
 returns-4 c =
-    passes _ _ (not-false _ (c .before .before .before .before .before .before .before .before .if1 .left))
-    (passes _ _ (yes (c .before .before .before .before .before .before .before .permits .ensures) (c .before .before .before .before .before .before .if2 .left))
-    (fails _ _ (second (yes (c .before .before .before .before .size-offered .ensures) (c .before .before .before .if3 .left)) (no (c .before .fits2 .ensures) (c .if4 .taken)))))
+    let c1 = c .before in
+    let c3 = c1 .before .before in
+    let c4 = c3 .before in
+    let c6 = c4 .before .before in
+    let c7 = c6 .before in
+    let c8 = c7 .before in
+    passes _ _ (not-false _ (c8 .if1 .left))
+    (passes _ _ (yes (c7 .permits .ensures) (c6 .if2 .left))
+    (fails _ _ (second (yes (c4 .size-offered .ensures) (c3 .if3 .left)) (no (c1 .fits2 .ensures) (c .if4 .taken)))))
 
 locked-requires : tie.Need-locked-requires
 locked-requires c κs = tt
 
 returns-5 : tie.Need-returns-5
 returns-5 c =
-    passes _ _ (not-false _ (c .before .before .before .before .before .before .before .before .before .before .before .if1 .left))
-    (passes _ _ (yes (c .before .before .before .before .before .before .before .before .before .before .permits .ensures) (c .before .before .before .before .before .before .before .before .before .if2 .left))
-    (passes _ _ (second (yes (c .before .before .before .before .before .before .before .size-offered .ensures) (c .before .before .before .before .before .before .if3 .left)) (yes (c .before .before .before .before .fits2 .ensures) (c .before .before .before .if4 .left)))
-    (fails _ _ (ap not (said (c .before .locked .ensures) (c .if5 .taken))))))
+    let c1 = c .before in
+    let c3 = c1 .before .before in
+    let c4 = c3 .before in
+    let c6 = c4 .before .before in
+    let c7 = c6 .before in
+    let c9 = c7 .before .before in
+    let c10 = c9 .before in
+    let c11 = c10 .before in
+    passes _ _ (not-false _ (c11 .if1 .left))
+    (passes _ _ (yes (c10 .permits .ensures) (c9 .if2 .left))
+    (passes _ _ (second (yes (c7 .size-offered .ensures) (c6 .if3 .left)) (yes (c4 .fits2 .ensures) (c3 .if4 .left)))
+    (fails _ _ (ap not (said (c1 .locked .ensures) (c .if5 .taken))))))
 
 returns-6 : tie.Need-returns-6
 returns-6 c =
-    passes _ _ (not-false _ (c .before .before .before .before .before .before .before .before .before .before .before .if1 .left))
-    (passes _ _ (yes (c .before .before .before .before .before .before .before .before .before .before .permits .ensures) (c .before .before .before .before .before .before .before .before .before .if2 .left))
-    (passes _ _ (second (yes (c .before .before .before .before .before .before .before .size-offered .ensures) (c .before .before .before .before .before .before .if3 .left)) (yes (c .before .before .before .before .fits2 .ensures) (c .before .before .before .if4 .left)))
-    (passes _ _ (ap not (said (c .before .locked .ensures) (c .if5 .left))) ends)))
+    let c1 = c .before in
+    let c3 = c1 .before .before in
+    let c4 = c3 .before in
+    let c6 = c4 .before .before in
+    let c7 = c6 .before in
+    let c9 = c7 .before .before in
+    let c10 = c9 .before in
+    let c11 = c10 .before in
+    passes _ _ (not-false _ (c11 .if1 .left))
+    (passes _ _ (yes (c10 .permits .ensures) (c9 .if2 .left))
+    (passes _ _ (second (yes (c7 .size-offered .ensures) (c6 .if3 .left)) (yes (c4 .fits2 .ensures) (c3 .if4 .left)))
+    (passes _ _ (ap not (said (c1 .locked .ensures) (c .if5 .left))) ends)))
 
 pub iam3-block-spec : {M : Type 1} → statement M
 iam3-block-spec =

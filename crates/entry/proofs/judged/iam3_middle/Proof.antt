@@ -28,9 +28,14 @@ iam3-block-requires c κs = tt
 returns-3 : tie.Need-returns-3
 unfolding slotNamed blockAsked
 returns-3 c =
-    passes _ _ (yes (c .before .before .before .before .before .before .before .before .mode-supported .ensures) (c .before .before .before .before .before .before .before .if1 .left))
-    (passes _ _ (eq-eqb _ _ (c .before .before .before .before .before .if2 .left))
-    (rw (← c .before .before .slot .ensures, ← c .before .block-asked .ensures) (c .iam3-block .ensures)))
+    let c1 = c .before in
+    let c2 = c1 .before in
+    let c5 = c2 .before .before .before in
+    let c7 = c5 .before .before in
+    let c8 = c7 .before in
+    passes _ _ (yes (c8 .mode-supported .ensures) (c7 .if1 .left))
+    (passes _ _ (eq-eqb _ _ (c5 .if2 .left))
+    (rw (← c2 .slot .ensures, ← c1 .block-asked .ensures) (c .iam3-block .ensures)))
 
 pub iam3-middle-spec : {M : Type 1} → statement M
 iam3-middle-spec =

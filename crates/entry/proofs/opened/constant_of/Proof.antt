@@ -20,7 +20,11 @@ constant-in-requires : tie.Need-constant-in-requires
 constant-in-requires c κs = search needs
 
 returns : tie.Need-returns
-returns c = c .constant-in .ensures ∙ ap constantIn (c .before .iam3-constant .ensures) ∙ constant-back (iam3Constant (c .before .before .args .protmode)) 0
+returns c =
+    let c1 = c .before in
+    let c2 = c1 .before in
+    c .constant-in .ensures ∙ ap constantIn (c1 .iam3-constant .ensures)
+    ∙ constant-back (iam3Constant (c2 .args .protmode)) 0
 
 pub constant-of-spec : {M : Type 1} → statement M
 constant-of-spec =

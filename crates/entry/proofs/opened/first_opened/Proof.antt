@@ -22,8 +22,11 @@ encrypt-requires : tie.Need-encrypt-requires
 encrypt-requires c κs = search needs
 
 returns : tie.Need-returns
-returns c = let a = c .before .before .before .before .before .args in
-    c .encrypt .ensures ∙ ap (aesEnc (a .key .enc)) (c .before .first-block .ensures ∙ first-sent (a .m .now) (c .before .before .before .before .before .pre))
+returns c =
+    let c1 = c .before in
+    let c5 = c1 .before .before .before .before in
+    let a = c5 .args in
+    c .encrypt .ensures ∙ ap (aesEnc (a .key .enc)) (c1 .first-block .ensures ∙ first-sent (a .m .now) (c5 .pre))
 
 pub first-opened-spec : {M : Type 1} → statement M
 first-opened-spec =

@@ -29,8 +29,20 @@ both-requires-3 : tie.Need-both-requires-3
 both-requires-3 c κs = search needs
 
 returns : tie.Need-returns
-returns c = let s = c .before .before .before .before .before .before .before .before .before .before .before .pre in let a = c .before .before .before .before .before .before .before .before .before .before .before .args in
-    iam3-tested (a .key) (a .held) (a .f) (a .m .now) (a .b) (a .p .now) _ _ _ _ _ _ _ _ (s .1) (s .2) (c .before .before .before .before .before .before .before .constant-of .ensures) (c .before .before .before .before .before .before .iam-proof .ensures) (c .before .before .before .before .before .mac-fits .ensures) (c .before .before .before .before .header-fits .ensures) (c .before .before .before .filler-fits .ensures) (c .before .before .both .ensures) (c .before .both2 .ensures) (c .both3 .ensures)
+returns c =
+    let c1 = c .before in
+    let c2 = c1 .before in
+    let c3 = c2 .before in
+    let c4 = c3 .before in
+    let c5 = c4 .before in
+    let c6 = c5 .before in
+    let c7 = c6 .before in
+    let c11 = c7 .before .before .before .before in
+    let s = c11 .pre in
+    let a = c11 .args in
+    iam3-tested (a .key) (a .held) (a .f) (a .m .now) (a .b) (a .p .now) _ _ _ _ _ _ _ _ (s .1) (s .2)
+    (c7 .constant-of .ensures) (c6 .iam-proof .ensures) (c5 .mac-fits .ensures) (c4 .header-fits .ensures)
+    (c3 .filler-fits .ensures) (c2 .both .ensures) (c1 .both2 .ensures) (c .both3 .ensures)
 
 pub iam3-proof-spec : {M : Type 1} → statement M
 iam3-proof-spec =

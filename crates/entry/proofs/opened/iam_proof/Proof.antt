@@ -42,8 +42,16 @@ both-requires-2 : tie.Need-both-requires-2
 both-requires-2 c κs = search needs
 
 returns : tie.Need-returns
-returns c = let a = c .before .before .before .before .before .before .before .before .before .before .args in
-    iam-tested (a .constant) _ (a .held) (a .t3) _ _ _ _ _ _ _ (c .before .before .before .before .before .before .before .before .before .constant-in .ensures) refl (c .before .before .before .before .before .before .before .before .purpose .ensures) (c .before .before .before .before .before .before .before .purpose-allowed .ensures) refl (c .before .before .same .ensures) (c .before .both .ensures) (c .both2 .ensures)
+returns c =
+    let c1 = c .before in
+    let c2 = c1 .before in
+    let c7 = c2 .before .before .before .before .before in
+    let c8 = c7 .before in
+    let c9 = c8 .before in
+    let c10 = c9 .before in
+    let a = c10 .args in
+    iam-tested (a .constant) _ (a .held) (a .t3) _ _ _ _ _ _ _ (c9 .constant-in .ensures) refl (c8 .purpose .ensures)
+    (c7 .purpose-allowed .ensures) refl (c2 .same .ensures) (c1 .both .ensures) (c .both2 .ensures)
 
 pub iam-proof-spec : {M : Type 1} → statement M
 iam-proof-spec =

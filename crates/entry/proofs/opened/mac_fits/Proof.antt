@@ -41,12 +41,17 @@ mac-fits-requires c κs = search needs
 
 returns : tie.Need-returns
 unfolding sentMacFits
-returns c = let b = c .before .before .before .before .blocks-length in
-    let a = c .before .before .before .before .before .before .before .args in
+returns c =
+    let c4 = c .before .before .before .before in
+    let c7 = c4 .before .before .before in
+    let b = c4 .blocks-length in
+    let a = c7 .args in
     let m = a .m .now in
     let n = blocksLength (a .f .custom .blocksize) true (a .f .custom .blockcount) in
-    let over : take (20 + b .result - 4) (drop 4 m) ≡ sentBlock m ++ sentData (a .f .custom) m = ap (λ (k : ℕ). take (20 + k - 4) (drop 4 m)) (b .ensures) ∙ covered m n in
-    let behind : take (length m - (20 + b .result)) (drop (20 + b .result) m) ≡ sentMac (a .f .custom) m = rest-sent m (20 + b .result) ∙ ap (λ (k : ℕ). drop (20 + k) m) (b .ensures) in
+    let over : take (20 + b .result - 4) (drop 4 m) ≡ sentBlock m ++ sentData (a .f .custom) m =
+    ap (λ (k : ℕ). take (20 + k - 4) (drop 4 m)) (b .ensures) ∙ covered m n in
+    let behind : take (length m - (20 + b .result)) (drop (20 + b .result) m) ≡ sentMac (a .f .custom) m =
+    rest-sent m (20 + b .result) ∙ ap (λ (k : ℕ). drop (20 + k) m) (b .ensures) in
     c .mac-fits .ensures ∙ ap₂ (λ (x y : List ℕ). macFits (a .key .mackey) (a .f .protmode) x y) over behind
 
 pub mac-fits-spec : {M : Type 1} → statement M

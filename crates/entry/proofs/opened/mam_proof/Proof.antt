@@ -29,7 +29,10 @@ both-requires c κs = search needs
 
 returns : tie.Need-returns
 unfolding mamProof
-returns c = c .both .ensures ∙ (λ j. both (c .before .before .before .before .before .before .iam-proof .ensures j) (c .before .same .ensures j))
+returns c =
+    let c1 = c .before in
+    let c6 = c1 .before .before .before .before .before in
+    c .both .ensures ∙ (λ j. both (c6 .iam-proof .ensures j) (c1 .same .ensures j))
 
 pub mam-proof-spec : {M : Type 1} → statement M
 mam-proof-spec =

@@ -54,21 +54,29 @@ same-length : tie.Need-same-length
 same-length c = search needs
 
 returns : tie.Need-returns
-returns c = let t = c .before .before .before .before .before .before .before .before in
+returns c =
+    let c2 = c .before .before in
+    let c5 = c2 .before .before .before in
+    let c8 = c5 .before .before .before in
+    let t = c8 in
     let b = t .before .before in
     let s = b .before .before .before .before in
     let a = s .args in
     let m = a .m .now in
     let n = blocksLength (a .f .custom .blocksize) true (a .f .custom .blockcount) in
     let part = take (20 + b .blocks-length .result - 20) (drop 20 m) in
-    let sent : part ≡ sentData (a .f .custom) m = data-sent m (b .blocks-length .result) ∙ ap (λ (k : ℕ). take k (drop 20 m)) (b .blocks-length .ensures) in
+    let sent : part ≡ sentData (a .f .custom) m =
+    data-sent m (b .blocks-length .result) ∙ ap (λ (k : ℕ). take k (drop 20 m)) (b .blocks-length .ensures) in
     let long : length part ≡ n = ap length sent ∙ data-long (a .f .custom) m (s .pre .0) in
-    let iv = c .before .before .before .before .before .first-block in
+    let iv = c5 .first-block in
     let from : iv .result ≡ sentBlock m = iv .ensures ∙ first-sent m (omega arith) in
-    let fits = enough (length part) (length (a .out .now)) (omega (arith, blocks-whole (a .f .custom .blocksize) true (a .f .custom .blockcount))) (omega arith) in
+    let fits = enough (length part) (length (a .out .now))
+    (omega (arith, blocks-whole (a .f .custom .blocksize) true (a .f .custom .blockcount))) (omega arith) in
     let out : cbcDecAes (iv .result) (a .key .enc) part ≡ openedData (a .key) (a .f) m =
-    ap₂ (λ (v d : List ℕ). cbcDecAes v (a .key .enc) d) from sent ∙ sym (opened-chained (a .key) (a .f) m (sym (t .before .encrypts .ensures) ∙ t .if1 .taken)) in
-    into-taken _ (cbcDecAes (iv .result) (a .key .enc) part) (a .out .now) _ _ (c .before .before .cbc-dec-aes .ensures) fits ∙ ap (λ (l : List ℕ). over l (a .out .now)) out
+    ap₂ (λ (v d : List ℕ). cbcDecAes v (a .key .enc) d) from sent
+    ∙ sym (opened-chained (a .key) (a .f) m (sym (t .before .encrypts .ensures) ∙ t .if1 .taken)) in
+    into-taken _ (cbcDecAes (iv .result) (a .key .enc) part) (a .out .now) _ _ (c2 .cbc-dec-aes .ensures) fits
+    ∙ ap (λ (l : List ℕ). over l (a .out .now)) out
 
 sub-copy : tie.Need-sub-copy
 sub-copy c = search needs
@@ -86,15 +94,20 @@ same-length-2 : tie.Need-same-length-2
 same-length-2 c = search needs
 
 returns-2 : tie.Need-returns-2
-returns-2 c = let t = c .before .before .before .before .before in
+returns-2 c =
+    let c2 = c .before .before in
+    let c5 = c2 .before .before .before in
+    let t = c5 in
     let b = t .before .before in
     let s = b .before .before .before .before in
     let a = s .args in
     let m = a .m .now in
     let part = take (20 + b .blocks-length .result - 20) (drop 20 m) in
-    let sent : part ≡ sentData (a .f .custom) m = data-sent m (b .blocks-length .result) ∙ ap (λ (k : ℕ). take k (drop 20 m)) (b .blocks-length .ensures) in
-    let out : part ≡ openedData (a .key) (a .f) m = sent ∙ sym (opened-plain (a .key) (a .f) m (sym (t .before .encrypts .ensures) ∙ t .if1 .left)) in
-    copied part (a .out .now) _ (c .before .before .copy .ensures .1) ∙ ap (λ (l : List ℕ). over l (a .out .now)) out
+    let sent : part ≡ sentData (a .f .custom) m =
+    data-sent m (b .blocks-length .result) ∙ ap (λ (k : ℕ). take k (drop 20 m)) (b .blocks-length .ensures) in
+    let out : part ≡ openedData (a .key) (a .f) m =
+    sent ∙ sym (opened-plain (a .key) (a .f) m (sym (t .before .encrypts .ensures) ∙ t .if1 .left)) in
+    copied part (a .out .now) _ (c2 .copy .ensures .1) ∙ ap (λ (l : List ℕ). over l (a .out .now)) out
 
 pub open-data-spec : {M : Type 1} → statement M
 open-data-spec =

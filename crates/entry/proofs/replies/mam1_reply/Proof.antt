@@ -31,8 +31,13 @@ with-clear-requires c κs = search needs
 
 returns : tie.Need-returns
 returns c =
-    let a = c .before .before .before .before .before .before in
-    mam1-made (a .args .key) (a .args .m) (a .args .t3) _ _ _ _ (array-length 10 (a .args .t3) _ (a .good .1 .1 .0)) (c .before .before .before .mam1-constant .ensures) (c .before .before .block-of .ensures) (c .before .encrypt .ensures) (c .with-clear .ensures)
+    let c1 = c .before in
+    let c2 = c1 .before in
+    let c3 = c2 .before in
+    let c6 = c3 .before .before .before in
+    let a = c6 in
+    mam1-made (a .args .key) (a .args .m) (a .args .t3) _ _ _ _ (array-length 10 (a .args .t3) _ (a .good .1 .1 .0))
+    (c3 .mam1-constant .ensures) (c2 .block-of .ensures) (c1 .encrypt .ensures) (c .with-clear .ensures)
 
 pub mam1-reply-spec : {M : Type 1} → statement M
 mam1-reply-spec =

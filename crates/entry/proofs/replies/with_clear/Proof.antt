@@ -26,7 +26,10 @@ array-share-prefix-draws : tie.Need-array-share-prefix-draws
 array-share-prefix-draws c = search needs
 
 slice-aggregate-put-4 : tie.Need-slice-aggregate-put-4
-slice-aggregate-put-4 c = let a = c .before .before .before .before .before .before in sym (length-take-le 6 (a .args .t2) (omega (arith, array-length 10 (a .args .t2) _ (a .good .1 .0))))
+slice-aggregate-put-4 c =
+    let c6 = c .before .before .before .before .before .before in
+    let a = c6 in
+    sym (length-take-le 6 (a .args .t2) (omega (arith, array-length 10 (a .args .t2) _ (a .good .1 .0))))
 
 put-requires-2 : tie.Need-put-requires-2
 put-requires-2 c κs = let a = c .before .before .before .before .before .before in
@@ -34,12 +37,18 @@ put-requires-2 c κs = let a = c .before .before .before .before .before .before
     omega (arith, length-take-le 6 (a .args .t2) (omega arith))
 
 returns : tie.Need-returns
-returns c = let a = c .before .before .before .before .before .before .before .before in
+returns c =
+    let c1 = c .before in
+    let c5 = c1 .before .before .before .before in
+    let c8 = c5 .before .before .before in
+    let a = c8 in
     let k = array-length 16 (a .args .t1) _ (a .good .0) in
     let n = array-length 10 (a .args .t2) _ (a .good .1 .0) in
     let l = length-take-le 6 (a .args .t2) (omega arith) in
-    put-two (a .args .t1) (take 6 (a .args .t2)) (replicate 22 0) (c .before .before .before .before .before .put .last .0) (c .before .put2 .last .0) 16 k (omega arith)
-    (put-over 0 (a .args .t1) (replicate 22 0) (omega arith) _ _ (c .before .before .before .before .before .put .ensures)) (put-over 16 (take 6 (a .args .t2)) (c .before .before .before .before .before .put .last .0) (omega arith) _ _ (c .before .put2 .ensures))
+    put-two (a .args .t1) (take 6 (a .args .t2)) (replicate 22 0) (c5 .put .last .0) (c1 .put2 .last .0) 16 k
+    (omega arith)
+    (put-over 0 (a .args .t1) (replicate 22 0) (omega arith) _ _ (c5 .put .ensures))
+    (put-over 16 (take 6 (a .args .t2)) (c5 .put .last .0) (omega arith) _ _ (c1 .put2 .ensures))
 
 pub with-clear-spec : {M : Type 1} → statement M
 with-clear-spec =

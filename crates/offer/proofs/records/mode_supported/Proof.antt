@@ -17,11 +17,19 @@ has-mac-requires c κs = tt
 
 returns-2 : tie.Need-returns-2
 unfolding modeSupported
-returns-2 c = rw (sym (c .before .before .before .mode-offered .ensures) ∙ not-false _ (c .before .before .if1 .left), sym (c .before .has-mac .ensures) ∙ c .if2 .taken)
+returns-2 c =
+    let c1 = c .before in
+    let c2 = c1 .before in
+    let c3 = c2 .before in
+    rw (sym (c3 .mode-offered .ensures) ∙ not-false _ (c2 .if1 .left), sym (c1 .has-mac .ensures) ∙ c .if2 .taken)
 
 returns-3 : tie.Need-returns-3
 unfolding modeSupported
-returns-3 c = rw (sym (c .before .before .before .mode-offered .ensures) ∙ not-false _ (c .before .before .if1 .left), sym (c .before .has-mac .ensures) ∙ c .if2 .left)
+returns-3 c =
+    let c1 = c .before in
+    let c2 = c1 .before in
+    let c3 = c2 .before in
+    rw (sym (c3 .mode-offered .ensures) ∙ not-false _ (c2 .if1 .left), sym (c1 .has-mac .ensures) ∙ c .if2 .left)
 
 pub mode-supported-spec : {M : Type 1} → statement M
 mode-supported-spec =

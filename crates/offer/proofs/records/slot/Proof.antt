@@ -11,7 +11,9 @@ no-slot-requires : tie.Need-no-slot-requires
 no-slot-requires c κs = tt
 
 returns : tie.Need-returns
-returns c = c .no-slot .ensures ∙ sym (List·getD-eq-default (c .before .before .args .t1) noSlot (omega (arith, c .before .before .good .0 .1 .0)))
+returns c =
+    let c2 = c .before .before in
+    c .no-slot .ensures ∙ sym (List·getD-eq-default (c2 .args .t1) noSlot (omega (arith, c2 .good .0 .1 .0)))
 
 mul-result : tie.Need-mul-result
 mul-result c = search needs

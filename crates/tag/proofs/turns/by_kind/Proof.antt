@@ -15,7 +15,13 @@ same-length : tie.Need-same-length
 same-length c = search needs
 
 returns : tie.Need-returns
-returns c = let a = c .before .before .before .before .before .before .before .before .before .before .args in is-tam1 (lent (a .m .now) (a .draws) (a .room .now) (a .identity .now) (a .user .now)) (a .setup) (a .held) (a .room .now) _ _ _ (c .before .before .before .before .enum-told .given .1) ((c .before .before .tam1 .ensures) (a .identity .now) (a .user .now))
+returns c =
+    let c2 = c .before .before in
+    let c4 = c2 .before .before in
+    let c10 = c4 .before .before .before .before .before .before in
+    let a = c10 .args in
+    is-tam1 (lent (a .m .now) (a .draws) (a .room .now) (a .identity .now) (a .user .now)) (a .setup) (a .held)
+    (a .room .now) _ _ _ (c4 .enum-told .given .1) ((c2 .tam1 .ensures) (a .identity .now) (a .user .now))
 
 enum-told-2 : tie.Need-enum-told-2
 enum-told-2 c = search needs
@@ -33,7 +39,13 @@ same-length-4 : tie.Need-same-length-4
 same-length-4 c = search needs
 
 returns-2 : tie.Need-returns-2
-returns-2 c = let a = c .before .before .before .before .before .before .before .before .before .before .before .before .args in is-tam2 (lent (a .m .now) (a .draws) (a .room .now) (a .identity .now) (a .user .now)) (a .setup) (a .held) (a .room .now) _ _ _ (c .before .before .before .before .before .before .enum-told2 .given .1) (c .before .before .tam2 .ensures)
+returns-2 c =
+    let c2 = c .before .before in
+    let c6 = c2 .before .before .before .before in
+    let c12 = c6 .before .before .before .before .before .before in
+    let a = c12 .args in
+    is-tam2 (lent (a .m .now) (a .draws) (a .room .now) (a .identity .now) (a .user .now)) (a .setup) (a .held)
+    (a .room .now) _ _ _ (c6 .enum-told2 .given .1) (c2 .tam2 .ensures)
 
 enum-told-3 : tie.Need-enum-told-3
 enum-told-3 c = search needs
@@ -45,7 +57,13 @@ same-length-5 : tie.Need-same-length-5
 same-length-5 c = search needs
 
 returns-3 : tie.Need-returns-3
-returns-3 c = let a = c .before .before .before .before .before .before .before .before .before .before .args in is-iam1 (lent (a .m .now) (a .draws) (a .room .now) (a .identity .now) (a .user .now)) (a .setup) (a .held) (a .room .now) _ _ _ (c .before .before .before .before .enum-told3 .given .1) ((c .before .before .iam1 .ensures) (a .identity .now) (a .user .now))
+returns-3 c =
+    let c2 = c .before .before in
+    let c4 = c2 .before .before in
+    let c10 = c4 .before .before .before .before .before .before in
+    let a = c10 .args in
+    is-iam1 (lent (a .m .now) (a .draws) (a .room .now) (a .identity .now) (a .user .now)) (a .setup) (a .held)
+    (a .room .now) _ _ _ (c4 .enum-told3 .given .1) ((c2 .iam1 .ensures) (a .identity .now) (a .user .now))
 
 enum-told-4 : tie.Need-enum-told-4
 enum-told-4 c = search needs
@@ -54,7 +72,12 @@ iam2-requires : tie.Need-iam2-requires
 iam2-requires c κs = search needs
 
 returns-4 : tie.Need-returns-4
-returns-4 c = let a = c .before .before .before .before .before .before .before .args in is-iam2 (lent (a .m .now) (a .draws) (a .room .now) (a .identity .now) (a .user .now)) (a .setup) (a .held) (a .room .now) _ _ _ (c .before .enum-told4 .given .1) ((c .iam2 .ensures) (a .draws) (a .room .now) (a .identity .now) (a .user .now))
+returns-4 c =
+    let c1 = c .before in
+    let c7 = c1 .before .before .before .before .before .before in
+    let a = c7 .args in
+    is-iam2 (lent (a .m .now) (a .draws) (a .room .now) (a .identity .now) (a .user .now)) (a .setup) (a .held)
+    (a .room .now) _ _ (a .room .now) (c1 .enum-told4 .given .1) (c .iam2 .ensures)
 
 enum-told-5 : tie.Need-enum-told-5
 enum-told-5 c = search needs
@@ -69,7 +92,13 @@ same-length-7 : tie.Need-same-length-7
 same-length-7 c = search needs
 
 returns-5 : tie.Need-returns-5
-returns-5 c = let a = c .before .before .before .before .before .before .before .before .before .before .before .before .before .args in is-iam3 (lent (a .m .now) (a .draws) (a .room .now) (a .identity .now) (a .user .now)) (a .setup) (a .held) (a .room .now) _ _ _ _ _ (c .before .before .before .before .before .before .before .enum-told5 .given .1) ((c .before .before .before .before .iam3 .ensures) (a .draws) (a .room .now))
+returns-5 c =
+    let c4 = c .before .before .before .before in
+    let c7 = c4 .before .before .before in
+    let c13 = c7 .before .before .before .before .before .before in
+    let a = c13 .args in
+    is-iam3 (lent (a .m .now) (a .draws) (a .room .now) (a .identity .now) (a .user .now)) (a .setup) (a .held)
+    (a .room .now) _ _ (a .room .now) _ _ (c7 .enum-told5 .given .1) (c4 .iam3 .ensures)
 
 enum-told-6 : tie.Need-enum-told-6
 enum-told-6 c = search needs
@@ -81,7 +110,13 @@ same-length-8 : tie.Need-same-length-8
 same-length-8 c = search needs
 
 returns-6 : tie.Need-returns-6
-returns-6 c = let a = c .before .before .before .before .before .before .before .before .before .before .args in is-mam1 (lent (a .m .now) (a .draws) (a .room .now) (a .identity .now) (a .user .now)) (a .setup) (a .held) (a .room .now) _ _ _ (c .before .before .before .before .enum-told6 .given .1) ((c .before .before .mam1 .ensures) (a .identity .now) (a .user .now))
+returns-6 c =
+    let c2 = c .before .before in
+    let c4 = c2 .before .before in
+    let c10 = c4 .before .before .before .before .before .before in
+    let a = c10 .args in
+    is-mam1 (lent (a .m .now) (a .draws) (a .room .now) (a .identity .now) (a .user .now)) (a .setup) (a .held)
+    (a .room .now) _ _ _ (c4 .enum-told6 .given .1) ((c2 .mam1 .ensures) (a .identity .now) (a .user .now))
 
 enum-told-7 : tie.Need-enum-told-7
 enum-told-7 c = search needs
@@ -90,7 +125,12 @@ mam2-requires : tie.Need-mam2-requires
 mam2-requires c κs = search needs
 
 returns-7 : tie.Need-returns-7
-returns-7 c = let a = c .before .before .before .before .before .before .before .args in is-mam2 (lent (a .m .now) (a .draws) (a .room .now) (a .identity .now) (a .user .now)) (a .setup) (a .held) (a .room .now) _ _ _ (c .before .enum-told7 .given .1) ((c .mam2 .ensures) (a .draws) (a .room .now) (a .identity .now) (a .user .now))
+returns-7 c =
+    let c1 = c .before in
+    let c7 = c1 .before .before .before .before .before .before in
+    let a = c7 .args in
+    is-mam2 (lent (a .m .now) (a .draws) (a .room .now) (a .identity .now) (a .user .now)) (a .setup) (a .held)
+    (a .room .now) _ _ (a .room .now) (c1 .enum-told7 .given .1) (c .mam2 .ensures)
 
 enum-told-8 : tie.Need-enum-told-8
 enum-told-8 c = search needs
@@ -99,7 +139,12 @@ refused-requires : tie.Need-refused-requires
 refused-requires c κs = search needs
 
 returns-8 : tie.Need-returns-8
-returns-8 c = let a = c .before .before .before .before .before .before .before .args in is-none (lent (a .m .now) (a .draws) (a .room .now) (a .identity .now) (a .user .now)) (a .setup) (a .held) (a .room .now) _ _ (c .before .enum-told8 .given .1) (c .refused .ensures)
+returns-8 c =
+    let c1 = c .before in
+    let c7 = c1 .before .before .before .before .before .before in
+    let a = c7 .args in
+    is-none (lent (a .m .now) (a .draws) (a .room .now) (a .identity .now) (a .user .now)) (a .setup) (a .held)
+    (a .room .now) _ _ (c1 .enum-told8 .given .1) (c .refused .ensures)
 
 pub by-kind-spec : {M : Type 1} → statement M
 by-kind-spec =

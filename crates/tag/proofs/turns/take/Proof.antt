@@ -9,7 +9,12 @@ refused-requires : tie.Need-refused-requires
 refused-requires c κs = search needs
 
 returns : tie.Need-returns
-returns c = let a = c .before .before .before .before .before .before .args in nothing-there (lent (a .m .now) (a .draws) (a .room .now) (a .identity .now) (a .user .now)) (a .setup) (a .held) (a .room .now) _ (a .m .now) (c .before .if1 .taken) (c .refused .ensures)
+returns c =
+    let c1 = c .before in
+    let c6 = c1 .before .before .before .before .before in
+    let a = c6 .args in
+    nothing-there (lent (a .m .now) (a .draws) (a .room .now) (a .identity .now) (a .user .now)) (a .setup) (a .held)
+    (a .room .now) _ (a .m .now) (c1 .if1 .taken) (c .refused .ensures)
 
 shared-slice-read-kind-of : tie.Need-shared-slice-read-kind-of
 shared-slice-read-kind-of c = search needs
@@ -30,7 +35,14 @@ same-length-3 : tie.Need-same-length-3
 same-length-3 c = search needs
 
 returns-2 : tie.Need-returns-2
-returns-2 c = let a = c .before .before .before .before .before .before .before .before .before .before .before .before .before .before .before .before .before .args in something-there (lent (a .m .now) (a .draws) (a .room .now) (a .identity .now) (a .user .now)) (a .setup) (a .held) (a .room .now) _ (a .m .now) _ _ _ _ (c .before .before .before .before .before .before .before .before .before .before .before .before .if1 .left) (c .before .before .before .before .before .before .before .before .before .before .kind-of .ensures) (c .before .before .before .before .before .before .in-order .ensures)
+returns-2 c =
+    let c6 = c .before .before .before .before .before .before in
+    let c10 = c6 .before .before .before .before in
+    let c12 = c10 .before .before in
+    let c17 = c12 .before .before .before .before .before in
+    let a = c17 .args in
+    something-there (lent (a .m .now) (a .draws) (a .room .now) (a .identity .now) (a .user .now)) (a .setup) (a .held)
+    (a .room .now) _ (a .m .now) _ _ _ _ (c12 .if1 .left) (c10 .kind-of .ensures) (c6 .in-order .ensures)
 
 pub take-spec : {M : Type 1} → statement M
 take-spec =

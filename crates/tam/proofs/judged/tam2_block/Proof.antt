@@ -29,17 +29,29 @@ mode-supported-requires c κs = tt
 
 returns-4 : tie.Need-returns-4
 returns-4 c =
-    passes _ _ (not-false _ (c .before .before .before .before .before .before .before .if1 .left))
-    (passes _ _ (yes (c .before .before .before .before .before .before .permits .ensures) (c .before .before .before .before .before .if2 .left))
-    (passes _ _ (yes (c .before .before .before .fits2 .ensures) (c .before .before .if3 .left))
-    (passes _ _ (said (c .before .mode-supported .ensures) (c .if4 .taken)) ends)))
+    let c1 = c .before in
+    let c2 = c1 .before in
+    let c3 = c2 .before in
+    let c5 = c3 .before .before in
+    let c6 = c5 .before in
+    let c7 = c6 .before in
+    passes _ _ (not-false _ (c7 .if1 .left))
+    (passes _ _ (yes (c6 .permits .ensures) (c5 .if2 .left))
+    (passes _ _ (yes (c3 .fits2 .ensures) (c2 .if3 .left))
+    (passes _ _ (said (c1 .mode-supported .ensures) (c .if4 .taken)) ends)))
 
 returns-5 : tie.Need-returns-5
 returns-5 c =
-    passes _ _ (not-false _ (c .before .before .before .before .before .before .before .if1 .left))
-    (passes _ _ (yes (c .before .before .before .before .before .before .permits .ensures) (c .before .before .before .before .before .if2 .left))
-    (passes _ _ (yes (c .before .before .before .fits2 .ensures) (c .before .before .if3 .left))
-    (fails _ _ (said (c .before .mode-supported .ensures) (c .if4 .left)))))
+    let c1 = c .before in
+    let c2 = c1 .before in
+    let c3 = c2 .before in
+    let c5 = c3 .before .before in
+    let c6 = c5 .before in
+    let c7 = c6 .before in
+    passes _ _ (not-false _ (c7 .if1 .left))
+    (passes _ _ (yes (c6 .permits .ensures) (c5 .if2 .left))
+    (passes _ _ (yes (c3 .fits2 .ensures) (c2 .if3 .left))
+    (fails _ _ (said (c1 .mode-supported .ensures) (c .if4 .left)))))
 
 pub tam2-block-spec : {M : Type 1} → statement M
 tam2-block-spec =

@@ -21,8 +21,12 @@ returns-2 c =
 
 returns-3 : tie.Need-returns-3
 returns-3 c =
-    passes _ _ (yes (c .before .before .before .before .before .size-offered .ensures) (c .before .before .before .before .if1 .left))
-    (passes _ _ (yes (c .before .before .before .rev-offered .ensures) (c .before .before .if2 .left))
+    let c2 = c .before .before in
+    let c3 = c2 .before in
+    let c4 = c3 .before in
+    let c5 = c4 .before in
+    passes _ _ (yes (c5 .size-offered .ensures) (c4 .if1 .left))
+    (passes _ _ (yes (c3 .rev-offered .ensures) (c2 .if2 .left))
     (fails _ _ (ne-eqb _ _ (c .if3 .taken))))
 
 find-requires : tie.Need-find-requires
@@ -30,10 +34,16 @@ find-requires c κs = tt
 
 returns-4 : tie.Need-returns-4
 returns-4 c =
-    passes _ _ (yes (c .before .before .before .before .before .before .before .before .size-offered .ensures) (c .before .before .before .before .before .before .before .if1 .left))
-    (passes _ _ (yes (c .before .before .before .before .before .before .rev-offered .ensures) (c .before .before .before .before .before .if2 .left))
-    (passes _ _ (eq-eqb _ _ (c .before .before .before .if3 .left))
-    (fails _ _ (no (c .before .before .find .ensures .0) (c .if4 .taken)))))
+    let c2 = c .before .before in
+    let c3 = c2 .before in
+    let c5 = c3 .before .before in
+    let c6 = c5 .before in
+    let c7 = c6 .before in
+    let c8 = c7 .before in
+    passes _ _ (yes (c8 .size-offered .ensures) (c7 .if1 .left))
+    (passes _ _ (yes (c6 .rev-offered .ensures) (c5 .if2 .left))
+    (passes _ _ (eq-eqb _ _ (c3 .if3 .left))
+    (fails _ _ (no (c2 .find .ensures .0) (c .if4 .taken)))))
 
 slot-requires : tie.Need-slot-requires
 slot-requires c κs = tt
@@ -47,11 +57,20 @@ tam2-block-requires c κs = tt
 returns-5 : tie.Need-returns-5
 unfolding slotNamed blockAsked
 returns-5 c =
-    passes _ _ (yes (c .before .before .before .before .before .before .before .before .before .before .before .before .before .size-offered .ensures) (c .before .before .before .before .before .before .before .before .before .before .before .before .if1 .left))
-    (passes _ _ (yes (c .before .before .before .before .before .before .before .before .before .before .before .rev-offered .ensures) (c .before .before .before .before .before .before .before .before .before .before .if2 .left))
-    (passes _ _ (eq-eqb _ _ (c .before .before .before .before .before .before .before .before .if3 .left))
-    (passes _ _ (yes (c .before .before .before .before .before .before .before .find .ensures .0) (c .before .before .before .before .before .if4 .left))
-    (rw (← c .before .before .before .before .before .before .before .find .ensures .1, ← c .before .before .slot .ensures, ← c .before .block-asked .ensures) (c .tam2-block .ensures)))))
+    let c1 = c .before in
+    let c2 = c1 .before in
+    let c5 = c2 .before .before .before in
+    let c7 = c5 .before .before in
+    let c8 = c7 .before in
+    let c10 = c8 .before .before in
+    let c11 = c10 .before in
+    let c12 = c11 .before in
+    let c13 = c12 .before in
+    passes _ _ (yes (c13 .size-offered .ensures) (c12 .if1 .left))
+    (passes _ _ (yes (c11 .rev-offered .ensures) (c10 .if2 .left))
+    (passes _ _ (eq-eqb _ _ (c8 .if3 .left))
+    (passes _ _ (yes (c7 .find .ensures .0) (c5 .if4 .left))
+    (rw (← c7 .find .ensures .1, ← c2 .slot .ensures, ← c1 .block-asked .ensures) (c .tam2-block .ensures)))))
 
 pub tam2-fields-spec : {M : Type 1} → statement M
 tam2-fields-spec =

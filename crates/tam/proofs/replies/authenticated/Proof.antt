@@ -29,10 +29,15 @@ same-length : tie.Need-same-length
 same-length c = search needs
 
 returns : tie.Need-returns
-returns c = let a = c .before .before .before .before .before .before .before .before .before .before .before in
+returns c =
+    let c2 = c .before .before in
+    let c6 = c2 .before .before .before .before in
+    let c11 = c6 .before .before .before .before .before in
+    let a = c11 in
     let k = array-length 16 (a .args .t3) _ (a .good .1 .1 .0) in
-    let p = c .before .before .before .before .before .before .put in
-    next-back (a .args .t3) _ (a .args .room .now) (p .last .0) (c .before .before .body .last .1 .1 .1 .1 .0) 16 k (put-over 0 (a .args .t3) (a .args .room .now) (omega arith) _ _ (p .ensures)) (c .before .before .body .ensures)
+    let p = c6 .put in
+    next-back (a .args .t3) _ (a .args .room .now) (p .last .0) (c2 .body .last .1 .1 .1 .1 .0) 16 k
+    (put-over 0 (a .args .t3) (a .args .room .now) (omega arith) _ _ (p .ensures)) (c2 .body .ensures)
 
 pub authenticated-spec : {M : Type 1} → statement M
 authenticated-spec =

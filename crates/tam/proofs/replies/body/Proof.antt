@@ -14,8 +14,14 @@ same-length : tie.Need-same-length
 same-length c = search needs
 
 returns : tie.Need-returns
-returns c = let a = c .before .before .before .before .before .before .before .before in
-    body-chained (a .args .protmode) _ (a .args .enc) (a .args .a) (a .args .p .now) (a .args .room .now) _ (c .before .before .before .before .before .encrypts .ensures) _ (c .before .before .before .before .if1 .taken) (a .pre .0) (a .pre .1) (c .before .before .cbc-enc-aes .ensures)
+returns c =
+    let c2 = c .before .before in
+    let c4 = c2 .before .before in
+    let c5 = c4 .before in
+    let c8 = c5 .before .before .before in
+    let a = c8 in
+    body-chained (a .args .protmode) _ (a .args .enc) (a .args .a) (a .args .p .now) (a .args .room .now) _
+    (c5 .encrypts .ensures) _ (c4 .if1 .taken) (a .pre .0) (a .pre .1) (c2 .cbc-enc-aes .ensures)
 
 copy-requires : tie.Need-copy-requires
 copy-requires c κs = search needs
@@ -24,8 +30,14 @@ same-length-2 : tie.Need-same-length-2
 same-length-2 c = search needs
 
 returns-2 : tie.Need-returns-2
-returns-2 c = let a = c .before .before .before .before .before .before .before .before in
-    body-plain (a .args .protmode) _ (a .args .enc) (a .args .a) (a .args .p .now) (a .args .room .now) _ (c .before .before .before .before .before .encrypts .ensures) (c .before .before .before .before .if1 .left) (c .before .before .copy .ensures .1)
+returns-2 c =
+    let c2 = c .before .before in
+    let c4 = c2 .before .before in
+    let c5 = c4 .before in
+    let c8 = c5 .before .before .before in
+    let a = c8 in
+    body-plain (a .args .protmode) _ (a .args .enc) (a .args .a) (a .args .p .now) (a .args .room .now) _
+    (c5 .encrypts .ensures) (c4 .if1 .left) (c2 .copy .ensures .1)
 
 pub body-spec : {M : Type 1} → statement M
 body-spec =

@@ -16,8 +16,11 @@ tam-block-requires c κs = search needs
 returns : tie.Need-returns
 unfolding tam1Reply
 returns c =
-    let a = c .before .before .before .before .args in
-    c .tam-block .ensures ∙ ap (λ (k : List ℕ). tamBlock (a .key .enc) k (a .draws) (a .m .ichallenge)) (c .before .tam1-constant .ensures)
+    let c1 = c .before in
+    let c4 = c1 .before .before .before in
+    let a = c4 .args in
+    c .tam-block .ensures ∙ ap (λ (k : List ℕ). tamBlock (a .key .enc) k (a .draws) (a .m .ichallenge))
+    (c1 .tam1-constant .ensures)
 
 pub tam1-reply-spec : {M : Type 1} → statement M
 tam1-reply-spec = tie.close (tie.spec tam1-constant-requires tam-block-requires returns)

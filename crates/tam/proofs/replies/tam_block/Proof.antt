@@ -25,8 +25,11 @@ encrypt-requires c κs = search needs
 
 returns : tie.Need-returns
 returns c =
-    let a = c .before .before in
-    tam-block-made (a .args .enc) (a .args .constant) (a .args .t3) (a .args .ichallenge) _ _ (array-length 10 (a .args .t3) _ (a .good .1 .1 .0)) (c .before .block-of .ensures) (c .encrypt .ensures)
+    let c1 = c .before in
+    let c2 = c1 .before in
+    let a = c2 in
+    tam-block-made (a .args .enc) (a .args .constant) (a .args .t3) (a .args .ichallenge) _ _
+    (array-length 10 (a .args .t3) _ (a .good .1 .1 .0)) (c1 .block-of .ensures) (c .encrypt .ensures)
 
 pub tam-block-spec : {M : Type 1} → statement M
 tam-block-spec =
