@@ -25,8 +25,8 @@ returns : tie.Need-returns
 returns c =
     let c2 = c .before .before in
     let c4 = c2 .before .before in
-    let c8 = c4 .before .before .before .before in
-    let a = c8 .args in
+    let c9 = c4 .before .before .before .before .before in
+    let a = c9 .args in
     tam2-wrong (setupOf (a .terms) (a .keys .now)) (a .message .now) (a .draws) _ (a .identity .now) (a .user .now) (c4 .tam2 .ensures) _ _
     (c2 .verdict .given .1) (c .refused .ensures)
 
@@ -52,13 +52,13 @@ tam2-reply-requires : tie.Need-tam2-reply-requires
 tam2-reply-requires c κs =
     let c1 = c .before in
     let c2 = c1 .before in
-    let c6 = c2 .before .before .before .before in
-    let c12 = c6 .before .before .before .before .before .before in
-    let c13 = c12 .before in
-    let a = c13 .args in
-    let f = c6 .tam2-of .result in
-    let fit = tam2-custom-fits (a .message .now) (λ i. c12 .shared-slice-known .given i .fits) in (
-      ap (λ (g : Tam2). customFits (g .custom)) (c6 .tam2-of .ensures) ∙ fit,
+    let c7 = c2 .before .before .before .before .before in
+    let c13 = c7 .before .before .before .before .before .before in
+    let c15 = c13 .before .before in
+    let a = c15 .args in
+    let f = c7 .tam2-of .result in
+    let fit = tam2-custom-fits (a .message .now) (λ i. c13 .shared-slice-known2 .given i .fits) in (
+      ap (λ (g : Tam2). customFits (g .custom)) (c7 .tam2-of .ensures) ∙ fit,
       words-fit (a .terms .profiles) (f .custom) (a .identity .now) (a .user .now) (c2 .words-asked .ensures) (c1 .window .ensures),
       omega (arith, length-replicate {A = ℕ} 172 0),
     )
@@ -68,14 +68,14 @@ returns-2 c =
     let c1 = c .before in
     let c3 = c1 .before .before in
     let c4 = c3 .before in
-    let c7 = c4 .before .before .before in
-    let c8 = c7 .before in
+    let c8 = c4 .before .before .before .before in
     let c9 = c8 .before in
-    let c11 = c9 .before .before in
-    let c15 = c11 .before .before .before .before in
-    let a = c15 .args in
-    tam2-fine (setupOf (a .terms) (a .keys .now)) (a .message .now) (a .draws) _ (a .identity .now) (a .user .now) (c11 .tam2 .ensures) _ _ _ _ _ _
-    (c9 .enum-told .given .1) (c8 .tam2-of .ensures) (c7 .find .ensures .1) (c4 .words-asked .ensures)
+    let c10 = c9 .before in
+    let c12 = c10 .before .before in
+    let c17 = c12 .before .before .before .before .before in
+    let a = c17 .args in
+    tam2-fine (setupOf (a .terms) (a .keys .now)) (a .message .now) (a .draws) _ (a .identity .now) (a .user .now) (c12 .tam2 .ensures) _ _ _ _ _ _
+    (c10 .enum-told .given .1) (c9 .tam2-of .ensures) (c8 .find .ensures .1) (c4 .words-asked .ensures)
     (c3 .window .ensures) (c1 .tam2-reply .ensures .0) (c1 .tam2-reply .ensures .1)
 
 pub tam2-spec : {M : Type 1} → statement M
