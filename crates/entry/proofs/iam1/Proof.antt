@@ -24,7 +24,7 @@ returns c =
     let c4 = c2 .before .before in
     let c5 = c4 .before in
     let c7 = c5 .before .before in
-    let a = c7 .args in
+    let a = c7 .before .args in
     iam1-wrong (keysIn (a .keys .now)) (a .message .now) (a .t3) _ _ (c5 .iam1-of .ensures) (c4 .opening .ensures) _ _
     (c2 .verdict .given .1) (c .unchallenged .ensures)
 
@@ -47,9 +47,9 @@ returns-2 c =
     let c6 = c4 .before .before in
     let c7 = c6 .before in
     let c9 = c7 .before .before in
-    let a = c9 .args in
+    let a = c9 .before .args in
     iam1-fine (keysIn (a .keys .now)) (a .message .now) (a .t3) _ _ (c7 .iam1-of .ensures) (c6 .opening .ensures) _
-    (array-length 10 (a .t3) _ (c9 .good .1 .1 .0)) (c4 .enum-told .given .1) (c1 .copy .ensures .1)
+    (array-length 10 (a .t3) _ (c9 .before .good .1 .1 .0)) (c4 .enum-told .given .1) (c1 .copy .ensures .1)
 
 pub iam1-spec : {M : Type 1} → statement M
 iam1-spec =

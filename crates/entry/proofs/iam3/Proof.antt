@@ -22,8 +22,8 @@ returns c =
     let c2 = c .before .before in
     let c4 = c2 .before .before in
     let c6 = c4 .before .before in
-    let c10 = c6 .before .before .before .before in
-    let a = c10 .args in
+    let c11 = c6 .before .before .before .before .before in
+    let a = c11 .args in
     iam3-refused (setupOf (a .terms) (a .keys .now)) (a .held) (a .message .now) _ (c6 .find .ensures .1) _ (c4 .iam3-fields .ensures)
     (a .identity .now) (a .user .now) _ _ (c2 .verdict .given .1) (c .refused .ensures)
 
@@ -38,14 +38,14 @@ words-asked-requires c κs = search needs
 
 iam3-requires : tie.Need-iam3-requires
 iam3-requires c κs =
-    let c4 = c .before .before .before .before in
-    let c5 = c4 .before in
-    let c7 = c5 .before .before in
-    let c13 = c7 .before .before .before .before .before .before in
-    let a = c13 .args in
-    let fine = c5 .enum-told .given .1 in
-    let fields = c4 .iam3-of .ensures in
-    (fields, iam3-whole (a .terms) _ (a .message .now) _ _ (c7 .iam3-fields .ensures) fine fields)
+    let c5 = c .before .before .before .before .before in
+    let c6 = c5 .before in
+    let c8 = c6 .before .before in
+    let c15 = c8 .before .before .before .before .before .before .before in
+    let a = c15 .args in
+    let fine = c6 .enum-told .given .1 in
+    let fields = c5 .iam3-of .ensures in
+    (fields, iam3-whole (a .terms) _ (a .message .now) _ _ (c8 .iam3-fields .ensures) fine fields)
 
 same-length : tie.Need-same-length
 same-length c = search needs
@@ -57,15 +57,15 @@ returns-2 : tie.Need-returns-2
 returns-2 c =
     let c4 = c .before .before .before .before in
     let c7 = c4 .before .before .before in
-    let c9 = c7 .before .before in
-    let c10 = c9 .before in
-    let c12 = c10 .before .before in
-    let c14 = c12 .before .before in
-    let c18 = c14 .before .before .before .before in
-    let a = c18 .args in
-    iam3-settled (setupOf (a .terms) (a .keys .now)) (a .held) (a .message .now) _ (c14 .find .ensures .1) _ (c12 .iam3-fields .ensures)
-    (a .identity .now) (a .user .now) _ (c9 .iam3-of .ensures) _ (c7 .words-asked .ensures) _ _ _
-    (c10 .enum-told .given .1) (c4 .iam3 .ensures)
+    let c10 = c7 .before .before .before in
+    let c11 = c10 .before in
+    let c13 = c11 .before .before in
+    let c15 = c13 .before .before in
+    let c20 = c15 .before .before .before .before .before in
+    let a = c20 .args in
+    iam3-settled (setupOf (a .terms) (a .keys .now)) (a .held) (a .message .now) _ (c15 .find .ensures .1) _ (c13 .iam3-fields .ensures)
+    (a .identity .now) (a .user .now) _ (c10 .iam3-of .ensures) _ (c7 .words-asked .ensures) _ _ _
+    (c11 .enum-told .given .1) (c4 .iam3 .ensures)
 
 pub iam3-spec : {M : Type 1} → statement M
 iam3-spec =

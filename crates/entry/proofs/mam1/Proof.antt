@@ -24,7 +24,7 @@ returns c =
     let c4 = c2 .before .before in
     let c5 = c4 .before in
     let c7 = c5 .before .before in
-    let a = c7 .args in
+    let a = c7 .before .args in
     mam1-wrong (keysIn (a .keys .now)) (a .message .now) (a .draws) _ _ (c5 .mam1-of .ensures) (c4 .opening .ensures) _ _
     (c2 .verdict .given .1) (c .unchallenged .ensures)
 
@@ -57,9 +57,9 @@ returns-2 c =
     let c6 = c4 .before .before in
     let c7 = c6 .before in
     let c9 = c7 .before .before in
-    let a = c9 .args in
+    let a = c9 .before .args in
     mam1-fine (keysIn (a .keys .now)) (a .message .now) (a .draws) _ _ (c7 .mam1-of .ensures) (c6 .opening .ensures) _ _
-    (array-length 10 (a .draws) _ (c9 .good .1 .1 .0)) (c4 .enum-told .given .1) (c3 .find .ensures .1)
+    (array-length 10 (a .draws) _ (c9 .before .good .1 .1 .0)) (c4 .enum-told .given .1) (c3 .find .ensures .1)
     (c1 .mam1-reply .ensures)
 
 pub mam1-spec : {M : Type 1} → statement M
