@@ -16,10 +16,10 @@ use Rattle.frames.specs.declared.Kind.{Kind}
 use Rattle.frames.specs.declared.Kind.the-variants.{Tam1, Tam2, Iam1, Iam2, Iam3, Mam1, Mam2, Unsupported}
 use Rattle.frames.specs.Kinds.{kindOf}
 use Rattle.frames.specs.Messages.{iam3Of}
-use Rattle.sheet.specs.declared.Setup.{Setup}
+use Rattle.sheet.specs.Setups.{Setup}
 use Rattle.offer.specs.declared.Fault.{Fault}
 use Rattle.entry.specs.declared.Session.{Session}
-use Rattle.tag.specs.declared.Tag.{Tag}
+use Rattle.tag.specs.States.{KeyedTag}
 use Rattle.offer.specs.declared.Fault.the-variants.{NotSupported}
 use Rattle.entry.specs.Sessions.{cleared}
 use Rattle.offer.specs.Records.{blockAsked}
@@ -38,10 +38,10 @@ pub record Still (c : Call) (a : Answer) : Type 0 where
   pub user : a .user ≡ c .user
 
 -- Every byte but those of the addressed block is as it was, in both areas, and none is added or lost.
-pub record Elsewhere (c : Call) (tag : Tag) (a : Answer) : Type 0 where
-  pub identity : (i : ℕ) → Outside Identity (blockAsked (tag .setup) (iam3Of (c .message) .custom)) i
+pub record Elsewhere (c : Call) (tag : KeyedTag) (a : Answer) : Type 0 where
+  pub identity : (i : ℕ) → Outside Identity (blockAsked (tag .setup .profiles) (iam3Of (c .message) .custom)) i
       → getD (a .identity) i 0 ≡ getD (c .identity) i 0
-  pub user : (i : ℕ) → Outside User (blockAsked (tag .setup) (iam3Of (c .message) .custom)) i
+  pub user : (i : ℕ) → Outside User (blockAsked (tag .setup .profiles) (iam3Of (c .message) .custom)) i
       → getD (a .user) i 0 ≡ getD (c .user) i 0
   pub identityLength : length (a .identity) ≡ length (c .identity)
   pub userLength : length (a .user) ≡ length (c .user)
@@ -75,13 +75,13 @@ module _ (c : Call) where
   kind-still setup held Unsupported h = refusal-still NotSupported cleared
 
   -- a message that is no IAM3 changes no area
-  pub still : (tag : Tag) → ((first : ℕ) (rest : List ℕ) → c .message ≡ first ∷ rest → kindOf first ≡ Iam3 → ⊥)
+  pub still : (tag : KeyedTag) → ((first : ℕ) (rest : List ℕ) → c .message ≡ first ∷ rest → kindOf first ≡ Iam3 → ⊥)
       → Still c (answerOf c tag)
   still tag h =
       answer-case c (Still c) (λ f. refusal-still f cleared) tag (λ f. refusal-still f (tag .session))
       (λ first rest e o t. kind-still (tag .setup) (tag .session) (kindOf first) (h first rest e))
 
-  still-elsewhere : (tag : Tag) (a : Answer) → Still c a → Elsewhere c tag a
+  still-elsewhere : (tag : KeyedTag) (a : Answer) → Still c a → Elsewhere c tag a
   still-elsewhere tag a s = record {
     identity = λ i o. ap (λ (l : List ℕ). getD l i 0) (s .identity);
     user = λ i o. ap (λ (l : List ℕ). getD l i 0) (s .user);
@@ -89,7 +89,7 @@ module _ (c : Call) where
     userLength = ap length (s .user);
   }
 
-  iam3-elsewhere : (tag : Tag) → Elsewhere c tag (iam3Answer c (tag .setup) (tag .session))
+  iam3-elsewhere : (tag : KeyedTag) → Elsewhere c tag (iam3Answer c (tag .setup) (tag .session))
   unfolding iam3Answer letIn
   iam3-elsewhere tag =
       fine-case c (Elsewhere c tag) (λ f. still-elsewhere tag (refused c f cleared) (refusal-still f cleared)) _ _
@@ -100,7 +100,7 @@ module _ (c : Call) where
         userLength = stored-length User _ _ _;
       })
 
-  kind-elsewhere : (tag : Tag) (k : Kind) → Elsewhere c tag (byKind c (tag .setup) (tag .session) k)
+  kind-elsewhere : (tag : KeyedTag) (k : Kind) → Elsewhere c tag (byKind c (tag .setup) (tag .session) k)
   unfolding byKind
   kind-elsewhere tag Iam3 = iam3-elsewhere tag
   kind-elsewhere tag Tam1 =
@@ -126,7 +126,7 @@ module _ (c : Call) where
       (kind-still (tag .setup) (tag .session) Unsupported (λ e. (let z : _≡_ {A = ℕ} 0 1 = cc in omega arith)))
 
   -- whatever the message, every byte outside the addressed block stays
-  pub elsewhere : (tag : Tag) → Elsewhere c tag (answerOf c tag)
+  pub elsewhere : (tag : KeyedTag) → Elsewhere c tag (answerOf c tag)
   elsewhere tag =
       answer-case c (Elsewhere c tag) (λ f. still-elsewhere tag (refused c f cleared) (refusal-still f cleared)) tag
       (λ f. still-elsewhere tag (refused c f (tag .session)) (refusal-still f (tag .session)))

@@ -9,7 +9,7 @@ use Rattle.ground.specs.Choice.{pick}
 use Rattle.frames.specs.Kinds.{kindOf}
 use Rattle.offer.specs.declared.Fault.{Fault}
 use Rattle.offer.specs.declared.Fault.the-variants.{OtherError, NotSupported, OutOfTurn}
-use Rattle.tag.specs.declared.Tag.{Tag}
+use Rattle.tag.specs.States.{KeyedTag}
 use Rattle.offer.specs.declared.Verdict.{Verdict}
 use Rattle.offer.specs.declared.Verdict.the-variants.{Fine, Wrong}
 use Rattle.entry.specs.Sessions.{cleared}
@@ -34,7 +34,7 @@ module _ (c : Call) (P : Answer → Type 0) (initial : (f : Fault) → P (refuse
   picked true x y h k = h refl
   picked false x y h k = k
 
-  module _ (tag : Tag) (asItWas : (f : Fault) → P (refused c f (tag .session))) (kinds : (first : ℕ) (rest : List ℕ)
+  module _ (tag : KeyedTag) (asItWas : (f : Fault) → P (refused c f (tag .session))) (kinds : (first : ℕ) (rest : List ℕ)
       → c .message ≡ first ∷ rest → offered (tag .setup .features) (kindOf first) ≡ true
       → inTurn (tag .session .state) (kindOf first) ≡ true → P (byKind c (tag .setup) (tag .session) (kindOf first)))
     where
@@ -56,4 +56,4 @@ module _ (c : Call) (P : Answer → Type 0) (initial : (f : Fault) → P (refuse
       unfolding answerOf
       answer-case =
           of-bench (judged
-          (benchChecks (tag .setup) (length (c .draws)) (c .room) (length (c .identity)) (length (c .user))))
+          (benchChecks (tag .setup .sizes) (length (c .draws)) (c .room) (length (c .identity)) (length (c .user))))

@@ -20,21 +20,20 @@ use Rattle.tag.proofs.step.Kinds as step-kinds
 pub power-up-one : OneAnswer 0 power-up-kinds.ps power-up-kinds.r power-up.Post Tag (λ κs r s. r)
 power-up-one κs a x y s t p q = one p q
 
-pub key-held-one : OneAnswer 0 key-held-kinds.ps key-held-kinds.r key-held.Post Bool (λ κs r s. r)
+pub key-held-one : OneAnswer 1 key-held-kinds.ps key-held-kinds.r key-held.Post Bool (λ κs r s. r)
 key-held-one κs a x y s t p q = one p q
 
 -- what a step returns is what it says of it
 stepped : (a : Answer) (tag : Tag) (room : List ℕ) (r : Stepped) (after i u : List ℕ) → Steps a tag room r after i u
-    → r ≡ record { outcome = a .outcome; tag = record { setup = tag .setup; session = a .session } }
+    → r ≡ record { outcome = a .outcome; tag = record { terms = tag .terms; session = a .session } }
 stepped a tag room r after i u h = λ j. record { outcome = h .outcome j; tag = h .next j }
 
-pub step-one : OneAnswer 5 step-kinds.ps step-kinds.r step.Post (Stepped × List ℕ × List ℕ × List ℕ)
-    (λ κs r s. (r, now (s .1 .1 .1 .0), now (s .1 .1 .1 .1 .0), now (s .1 .1 .1 .1 .1 .0)))
+pub step-one : OneAnswer 6 step-kinds.ps step-kinds.r step.Post (Stepped × List ℕ × List ℕ × List ℕ)
+    (λ κs r s. (r, now (s .1 .1 .1 .1 .0), now (s .1 .1 .1 .1 .1 .0), now (s .1 .1 .1 .1 .1 .1 .0)))
 step-one κs a x y s t p q =
     λ j. (
       one (stepped _ _ _ x _ _ _ p) (stepped _ _ _ y _ _ _ q) j,
       one (p .reply) (q .reply) j,
-      one (p .identity)
-          (q .identity) j,
+      one (p .identity) (q .identity) j,
       one (p .user) (q .user) j,
     )

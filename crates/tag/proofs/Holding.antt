@@ -2,65 +2,65 @@
 -- in for one that is missing.
 use mathlib.Core.Path.{_≡_, refl}
 use mathlib.Core.Bool.{true}
+use mathlib.Core.List.{List}
 use Prim.Native.Nat.{ℕ}
 use native.Mathlib.Omega.{arith}
 use Rattle.frames.specs.declared.Kind.{Kind}
 use Rattle.frames.specs.declared.Kind.the-variants.{Tam1, Tam2, Iam1, Iam2, Iam3, Mam1, Mam2, Unsupported}
 use Rattle.frames.specs.Kinds.{kindOf}
 use Rattle.frames.specs.Messages.{iam1Of, mam1Of}
-use Rattle.sheet.specs.declared.Setup.{Setup}
+use Rattle.sheet.specs.declared.Key.{Key}
+use Rattle.sheet.specs.Setups.{Setup}
 use Rattle.offer.specs.declared.Fault.{Fault}
 use Rattle.offer.specs.declared.Fault.the-variants.{NotSupported}
 use Rattle.entry.specs.declared.Session.{Session}
 use Rattle.entry.specs.declared.State.{State}
 use Rattle.entry.specs.declared.State.the-variants.{Initial, IamInit, MamInit, IaOk}
-use Rattle.tag.specs.declared.Tag.{Tag}
 use Rattle.entry.specs.Sessions.{cleared, entered}
-use Rattle.tag.specs.States.{poweredUp}
-use Rattle.offer.specs.Records.{keyPresent}
-use Rattle.tag.specs.States.{keyFits}
+use Rattle.keytable.specs.Named.{hasKey}
+use Rattle.tag.specs.States.{KeyedTag, poweredUp, keyFits}
 use Rattle.tag.specs.Answers.{Answer, Call, refused, replied, letIn, tam1Answer, tam2Answer, iam1Answer}
 use Rattle.tag.specs.Answers.{iam2Answer, iam3Answer, mam1Answer, mam2Answer, byKind, answerOf}
 use Rattle.tag.proofs.Cases.{fine-case, fine-known, answer-case}
 use Rattle.offer.proofs.Passed.{opening-key}
 
-pub record Holds (setup : Setup) (s : Session) : Type 0 where
-  pub iamInit : s .state ≡ IamInit → keyPresent setup (s .keyid) ≡ true
-  pub mamInit : s .state ≡ MamInit → keyPresent setup (s .keyid) ≡ true
+pub record Holds (keys : List Key) (s : Session) : Type 0 where
+  pub iamInit : s .state ≡ IamInit → hasKey (s .keyid) keys ≡ true
+  pub mamInit : s .state ≡ MamInit → hasKey (s .keyid) keys ≡ true
 
 -- the same as a test
-pub holds-fits : (setup : Setup) (s : Session) → Holds setup s → keyFits setup (s .state) (s .keyid) ≡ true
+pub holds-fits : (keys : List Key) (s : Session) → Holds keys s → keyFits keys (s .state) (s .keyid) ≡ true
 unfolding keyFits
-holds-fits setup s h = by-state (s .state) refl
+holds-fits keys s h = by-state (s .state) refl
   where
-    by-state : (t : State) → s .state ≡ t → keyFits setup t (s .keyid) ≡ true
+    by-state : (t : State) → s .state ≡ t → keyFits keys t (s .keyid) ≡ true
     by-state Initial e = refl
     by-state IamInit e = h .iamInit e
     by-state MamInit e = h .mamInit e
     by-state IaOk e = refl
 
 module _ (setup : Setup) where
-  cleared-holds : Holds setup cleared
+  cleared-holds : Holds (setup .keys) cleared
   unfolding cleared
   cleared-holds = record {
     iamInit = λ e. (let z : _≡_ {A = ℕ} 0 1 = cc in absurd (omega arith));
     mamInit = λ e. (let z : _≡_ {A = ℕ} 0 1 = cc in absurd (omega arith));
   }
 
-  entered-holds : Holds setup entered
+  entered-holds : Holds (setup .keys) entered
   unfolding entered
   entered-holds = record {
     iamInit = λ e. (let z : _≡_ {A = ℕ} 0 1 = cc in absurd (omega arith));
     mamInit = λ e. (let z : _≡_ {A = ℕ} 0 1 = cc in absurd (omega arith));
   }
 
-  pub powered-up-holds : Holds setup (poweredUp setup .session)
+  pub powered-up-holds : Holds (setup .keys) (poweredUp setup .session)
   unfolding poweredUp
   powered-up-holds = cleared-holds
 
   module _ (c : Call) where
     abbrev Of : Answer → Type 0
-    Of a = Holds setup (a .session)
+    Of a = Holds (setup .keys) (a .session)
 
     refused-holds : (f : Fault) → Of (refused c f cleared)
     unfolding refused
@@ -73,21 +73,23 @@ module _ (setup : Setup) where
     kind-holds held Iam1 =
         fine-known c Of refused-holds _ _
         (λ v.
-        (let k = opening-key Iam1 (iam1Of (c .message) .rfu) (iam1Of (c .message) .keyid) setup (c .message) v in
+        (let f = iam1Of (c .message) in
+        let k = opening-key Iam1 (f .rfu) (f .keyid) (setup .keys) (c .message) v in
         record { iamInit = λ e. k; mamInit = λ e. k }))
     kind-holds held Iam2 = fine-case c Of refused-holds _ _ entered-holds
     kind-holds held Iam3 = fine-case c Of refused-holds _ _ entered-holds
     kind-holds held Mam1 =
         fine-known c Of refused-holds _ _
         (λ v.
-        (let k = opening-key Mam1 (mam1Of (c .message) .rfu) (mam1Of (c .message) .keyid) setup (c .message) v in
+        (let f = mam1Of (c .message) in
+        let k = opening-key Mam1 (f .rfu) (f .keyid) (setup .keys) (c .message) v in
         record { iamInit = λ e. k; mamInit = λ e. k }))
     kind-holds held Mam2 = fine-case c Of refused-holds _ _ entered-holds
     kind-holds held Unsupported = refused-holds NotSupported
 
 -- a call keeps it so
-pub answer-holds : (c : Call) (tag : Tag) → Holds (tag .setup) (tag .session)
-    → Holds (tag .setup) (answerOf c tag .session)
+pub answer-holds : (c : Call) (tag : KeyedTag) → Holds (tag .setup .keys) (tag .session)
+    → Holds (tag .setup .keys) (answerOf c tag .session)
 unfolding refused
 answer-holds c tag h =
     answer-case c (Of (tag .setup) c) (refused-holds (tag .setup) c) tag (λ f. h)

@@ -6,7 +6,7 @@ use mathlib.Core.List.{List, [], _∷_}
 use Prim.Native.Nat.{ℕ}
 use native.Mathlib.Omega.{arith}
 use Rattle.ground.specs.Choice.{pick}
-use Rattle.sheet.specs.declared.Setup.{Setup}
+use Rattle.sheet.specs.Setups.{Setup}
 use Rattle.frames.specs.declared.Kind.{Kind}
 use Rattle.frames.specs.declared.Kind.the-variants.{Tam1, Tam2, Iam1, Iam2, Iam3, Mam1, Mam2, Unsupported}
 use Rattle.frames.specs.Kinds.{kindOf}
@@ -14,7 +14,7 @@ use Rattle.offer.specs.declared.Fault.{Fault}
 use Rattle.offer.specs.declared.Fault.the-variants.{OtherError, NotSupported, OutOfTurn}
 use Rattle.offer.specs.declared.Outcome.the-variants.{Refused}
 use Rattle.entry.specs.declared.Session.{Session}
-use Rattle.tag.specs.declared.Tag.{Tag}
+use Rattle.tag.specs.States.{KeyedTag}
 use Rattle.offer.specs.declared.Verdict.{Verdict}
 use Rattle.offer.specs.declared.Verdict.the-variants.{Fine, Wrong}
 use Rattle.entry.specs.Sessions.{cleared}
@@ -155,7 +155,7 @@ module _ (c : Call) where
         }
 
 -- Every refusal keeps everything.
-pub refusal-kept : (c : Call) (tag : Tag) (f : Fault) → answerOf c tag .outcome ≡ Refused f
+pub refusal-kept : (c : Call) (tag : KeyedTag) (f : Fault) → answerOf c tag .outcome ≡ Refused f
     → Kept c (sessionAfter f (tag .session)) (answerOf c tag)
 unfolding answerOf benchChecks
 refusal-kept c tag f e =

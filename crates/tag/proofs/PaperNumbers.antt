@@ -5,12 +5,12 @@ use lib.ListN.{length}
 use Rattle.frames.specs.declared.Kind.{Kind}
 use Rattle.frames.specs.declared.Kind.the-variants.{Tam1, Tam2, Iam1, Iam2, Iam3, Mam1, Mam2, Unsupported}
 use Rattle.frames.specs.Kinds.{kindOf}
-use Rattle.sheet.specs.declared.Setup.{Setup}
+use Rattle.sheet.specs.Setups.{Setup}
 use Rattle.offer.specs.declared.Fault.{Fault}
 use Rattle.offer.specs.declared.Fault.the-variants.{OtherError, NotSupported, MemoryOverrun, MemoryWriteError}
 use Rattle.offer.specs.declared.Fault.the-variants.{OutOfTurn, ProofWrong, BenchFault}
 use Rattle.entry.specs.declared.Session.{Session}
-use Rattle.tag.specs.declared.Tag.{Tag}
+use Rattle.tag.specs.States.{KeyedTag}
 use Rattle.entry.specs.Sessions.{cleared}
 use Rattle.offer.specs.Outcomes.{replyLength}
 use Rattle.tag.specs.States.{sessionAfter}
@@ -63,7 +63,7 @@ module _ (c : Call) where
   kind-told setup held Mam2 = fine-case c Told (λ f. refusal-told f cleared) _ _ refl
   kind-told setup held Unsupported = refusal-told NotSupported cleared
 
-  pub length-told : (tag : Tag) → replyLength (answerOf c tag .outcome) ≡ length (answerOf c tag .reply)
+  pub length-told : (tag : KeyedTag) → replyLength (answerOf c tag .outcome) ≡ length (answerOf c tag .reply)
   length-told tag =
       answer-case c Told (λ f. refusal-told f cleared) tag (λ f. refusal-told f (tag .session))
       (λ first rest e o t. kind-told (tag .setup) (tag .session) (kindOf first))

@@ -8,14 +8,14 @@ use native.Mathlib.Omega.{arith}
 use Rattle.frames.specs.declared.Kind.{Kind}
 use Rattle.frames.specs.declared.Kind.the-variants.{Tam1, Tam2, Iam1, Iam2, Iam3, Mam1, Mam2, Unsupported}
 use Rattle.frames.specs.Kinds.{kindOf}
-use Rattle.sheet.specs.declared.Setup.{Setup}
+use Rattle.sheet.specs.Setups.{Setup}
 use Rattle.entry.specs.declared.State.{State}
 use Rattle.entry.specs.declared.State.the-variants.{Initial, IamInit, MamInit, IaOk}
 use Rattle.offer.specs.declared.Fault.{Fault}
 use Rattle.offer.specs.declared.Fault.the-variants.{NotSupported}
 use Rattle.entry.specs.declared.Session.{Session}
 use Rattle.offer.specs.declared.Outcome.the-variants.{Refused}
-use Rattle.tag.specs.declared.Tag.{Tag}
+use Rattle.tag.specs.States.{KeyedTag}
 use Rattle.entry.specs.Sessions.{cleared, entered}
 use Rattle.tag.specs.States.{poweredUp, atRest, afterIam1, afterMam1, inTurn, tableA1}
 use Rattle.tag.specs.Runs.{Sent, callOf, tagAfter, run}
@@ -115,7 +115,7 @@ Accepted a = (f : Fault) → a .outcome ≡ Refused f → ⊥
 
 -- What is known of an accepted message: the tag offers it, and Table A.1 has a row for it, whose next state is the
 -- tag's.
-pub record Successor (c : Call) (tag : Tag) (a : Answer) : Type 0 where
+pub record Successor (c : Call) (tag : KeyedTag) (a : Answer) : Type 0 where
   pub first : ℕ
   pub rest : List ℕ
   pub message : c .message ≡ first ∷ rest
@@ -145,7 +145,7 @@ module _ (c : Call) where
   kind-leads setup held Mam2 = fine-case c (Leads Mam2) (λ f. refusal-not (In Mam2) f cleared) _ _ (λ h. refl)
   kind-leads setup held Unsupported = refusal-not (In Unsupported) NotSupported cleared
 
-  pub successor : (tag : Tag) → Accepted (answerOf c tag) → Successor c tag (answerOf c tag)
+  pub successor : (tag : KeyedTag) → Accepted (answerOf c tag) → Successor c tag (answerOf c tag)
   successor tag =
       answer-case c (λ a. Accepted a → Successor c tag a) (λ f. refusal-not (Successor c tag) f cleared) tag
       (λ f. refusal-not (Successor c tag) f (tag .session))
@@ -204,7 +204,7 @@ module _ (c : Call) where
   kind-rests setup held Unsupported = refused-rests NotSupported
 
   -- a call keeps it so
-  pub answer-rests : (tag : Tag) → Rested (tag .session) → Rested (answerOf c tag .session)
+  pub answer-rests : (tag : KeyedTag) → Rested (tag .session) → Rested (answerOf c tag .session)
   unfolding refused
   answer-rests tag h =
       answer-case c (λ a. Rested (a .session)) (λ f. cleared-rests) tag (λ f. h)
@@ -219,7 +219,7 @@ unfoldable pub AllRested : List Answer → Type 0
 AllRested [] = Unit
 AllRested (a ∷ answers) = Rested (a .session) × AllRested answers
 
-pub run-rests : (sent : List Sent) (tag : Tag) (identity user : List ℕ) → Rested (tag .session)
+pub run-rests : (sent : List Sent) (tag : KeyedTag) (identity user : List ℕ) → Rested (tag .session)
     → AllRested (run tag identity user sent)
 unfolding run AllRested
 run-rests [] tag identity user h = tt

@@ -6,7 +6,7 @@ use Prim.Native.Nat.{ℕ}
 use native.Mathlib.Omega.{arith}
 use lib.ListN.{length, getD}
 use Rattle.ground.specs.Choice.{pick}
-use Rattle.sheet.specs.declared.Setup.{Setup}
+use Rattle.sheet.specs.Setups.{Setup, setupOf}
 use Rattle.frames.specs.declared.Kind.{Kind}
 use Rattle.frames.specs.declared.Kind.the-variants.{Tam1, Tam2, Iam1, Iam2, Iam3, Mam1, Mam2, Unsupported}
 use Rattle.frames.specs.Kinds.{kindOf}
@@ -16,6 +16,7 @@ use Rattle.offer.specs.declared.Outcome.the-variants.{Refused}
 use Rattle.entry.specs.declared.Reacted.{Reacted}
 use Rattle.entry.specs.declared.Session.{Session}
 use Rattle.tag.specs.declared.Tag.{Tag}
+use Rattle.tag.specs.States.{keyed}
 use Rattle.offer.specs.declared.Verdict.{Verdict}
 use Rattle.offer.specs.declared.Verdict.the-variants.{Fine, Wrong}
 use Rattle.entry.specs.Sessions.{cleared}
@@ -47,7 +48,7 @@ module _ (c : Call) (setup : Setup) (held : Session) (room : List ℕ) (r : Reac
       (record { reacts = h; identity = sym (s .identity); user = sym (s .user) })
 
   module _ (k : Kind) (after : List ℕ) where
-    pub is-tam1 : k ≡ Tam1 → Reacts (tam1Answer c setup) room r after → OfKind k after
+    pub is-tam1 : k ≡ Tam1 → Reacts (tam1Answer c (setup .keys)) room r after → OfKind k after
     unfolding byKind
     is-tam1 = apart k Tam1 after (λ e. (let z : _≡_ {A = ℕ} 0 1 = cc in omega arith))
 
@@ -55,21 +56,21 @@ module _ (c : Call) (setup : Setup) (held : Session) (room : List ℕ) (r : Reac
     unfolding byKind
     is-tam2 = apart k Tam2 after (λ e. (let z : _≡_ {A = ℕ} 0 1 = cc in omega arith))
 
-    pub is-iam1 : k ≡ Iam1 → Reacts (iam1Answer c setup) room r after → OfKind k after
+    pub is-iam1 : k ≡ Iam1 → Reacts (iam1Answer c (setup .keys)) room r after → OfKind k after
     unfolding byKind
     is-iam1 = apart k Iam1 after (λ e. (let z : _≡_ {A = ℕ} 0 1 = cc in omega arith))
 
-    pub is-iam2 : k ≡ Iam2 → LetsIn (iam2Verdict setup held (c .message)) (iam2Purpose setup held (c .message)) r
+    pub is-iam2 : k ≡ Iam2 → LetsIn (iam2Verdict (setup .keys) held (c .message)) (iam2Purpose (setup .keys) held (c .message)) r
         → OfKind k room
     unfolding byKind iam2Answer
     is-iam2 e h =
         apart k Iam2 room (λ x. (let z : _≡_ {A = ℕ} 0 1 = cc in omega arith)) e (reacts-let-in c room r _ _ h)
 
-    pub is-mam1 : k ≡ Mam1 → Reacts (mam1Answer c setup) room r after → OfKind k after
+    pub is-mam1 : k ≡ Mam1 → Reacts (mam1Answer c (setup .keys)) room r after → OfKind k after
     unfolding byKind
     is-mam1 = apart k Mam1 after (λ e. (let z : _≡_ {A = ℕ} 0 1 = cc in omega arith))
 
-    pub is-mam2 : k ≡ Mam2 → LetsIn (mam2Verdict setup held (c .message)) (mam2Purpose setup held (c .message)) r
+    pub is-mam2 : k ≡ Mam2 → LetsIn (mam2Verdict (setup .keys) held (c .message)) (mam2Purpose (setup .keys) held (c .message)) r
         → OfKind k room
     unfolding byKind mam2Answer
     is-mam2 e h =
@@ -133,34 +134,37 @@ module _ (c : Call) (setup : Setup) (held : Session) (room : List ℕ) (r : Reac
       subst (λ (y : Kind). ReactsIn (inOrder c setup held y) room r after i u) e h
 
 -- The whole call.
-module _ (tag : Tag) (m draws room i u : List ℕ) (v : Verdict)
-    (w : v ≡ judged (benchChecks (tag .setup) (length draws) (length room) (length i) (length u))) where
+module _ (tag : Tag) (keys m draws room i u : List ℕ) (v : Verdict)
+    (w : v ≡ judged (benchChecks (tag .terms .sizes) (length draws) (length room) (length i) (length u))) where
   abbrev call : Call
   call = lent m draws room i u
 
+  abbrev setup : Setup
+  setup = setupOf (tag .terms) keys
+
   pub bench-wrong : (f : Fault) → v ≡ Wrong f
-      → Steps (answerOf call tag) tag room (record { outcome = Refused f; tag = tag }) room i u
+      → Steps (answerOf call (keyed tag keys)) tag room (record { outcome = Refused f; tag = tag }) room i u
   unfolding answerOf refused
   bench-wrong f x =
-      subst (λ (y : Verdict). Steps (ofBench call (tag .setup) (tag .session) y) tag room
+      subst (λ (y : Verdict). Steps (ofBench call setup (tag .session) y) tag room
       (record { outcome = Refused f; tag = tag }) room i u) (sym x ∙ w)
       (record { outcome = refl; number = refl; next = refl; reply = refl; identity = refl; user = refl })
 
   pub bench-fine : (q : Reacted) (d after i′ u′ : List ℕ) → v ≡ Fine → d ≡ draws
-      → ReactsIn (ofMessage (lent m d room i u) (tag .setup) (tag .session) m) room q after i′ u′
-      → Steps (answerOf call tag) tag room
-      (record { outcome = q .outcome; tag = record { setup = tag .setup; session = q .session } }) after i′ u′
+      → ReactsIn (ofMessage (lent m d room i u) setup (tag .session) m) room q after i′ u′
+      → Steps (answerOf call (keyed tag keys)) tag room
+      (record { outcome = q .outcome; tag = record { terms = tag .terms; session = q .session } }) after i′ u′
   unfolding answerOf
   bench-fine q d after i′ u′ x e h =
-      let k = subst (λ (l : List ℕ). ReactsIn (ofMessage (lent m l room i u) (tag .setup) (tag .session) m) room q after
+      let k = subst (λ (l : List ℕ). ReactsIn (ofMessage (lent m l room i u) setup (tag .session) m) room q after
       i′ u′) e h in
-      subst (λ (y : Verdict). Steps (ofBench call (tag .setup) (tag .session) y) tag room
-      (record { outcome = q .outcome; tag = record { setup = tag .setup; session = q .session } }) after i′ u′)
+      subst (λ (y : Verdict). Steps (ofBench call setup (tag .session) y) tag room
+      (record { outcome = q .outcome; tag = record { terms = tag .terms; session = q .session } }) after i′ u′)
       (sym x ∙ w)
       (record {
         outcome = k .reacts .outcome;
         number = ap numberGiven (k .reacts .outcome);
-        next = λ j. record { setup = tag .setup; session = k .reacts .session j };
+        next = λ j. record { terms = tag .terms; session = k .reacts .session j };
         reply = k .reacts .reply;
         identity = k .identity;
         user = k .user;

@@ -1,12 +1,12 @@
 -- The tag: what one message comes to. Its entry is `answerOf`, the last definition; read from there upwards: number 7,
--- the
--- empty message, method, step or feature, the turn, and then by kind, as `tam` and `entry` say.
+-- the empty message, method, step or feature, the turn, and then by kind, as `tam` and `entry` say.
 use Prim.Native.Nat.{ℕ}
 use mathlib.Core.List.{List, [], _∷_}
 use lib.ListN.{length}
 use Rattle.ground.specs.Choice.{pick}
 use Rattle.memory.specs.declared.Area.the-variants.{Identity, User}
-use Rattle.sheet.specs.declared.Setup.{Setup}
+use Rattle.sheet.specs.declared.Key.{Key}
+use Rattle.sheet.specs.Setups.{Setup}
 use Rattle.frames.specs.declared.Kind.{Kind}
 use Rattle.frames.specs.declared.Kind.the-variants.{Tam1, Tam2, Iam1, Iam2, Iam3, Mam1, Mam2, Unsupported}
 use Rattle.frames.specs.Kinds.{kindOf}
@@ -24,8 +24,7 @@ use Rattle.entry.specs.declared.Session.{Session}
 use Rattle.entry.specs.Sessions.{cleared, entered}
 use Rattle.entry.specs.Given.{iam1Verdict, iam1Held, iam2Verdict, iam2Purpose, iam3Verdict, iam3Purpose, iam3Stored}
 use Rattle.entry.specs.Given.{mam1Verdict, mam1Sent, mam1Held, mam2Verdict, mam2Purpose}
-use Rattle.tag.specs.declared.Tag.{Tag}
-use Rattle.tag.specs.States.{inTurn}
+use Rattle.tag.specs.States.{KeyedTag, inTurn}
 
 -- What a call comes to: the outcome, what the tag holds next, the reply's bytes, and both areas.
 pub record Answer : Type 0 where
@@ -72,36 +71,38 @@ module _ (c : Call) where
   ifFine Fine a = a
   ifFine (Wrong f) a = refused f cleared
 
-  module _ (setup : Setup) where
+  module _ (keys : List Key) where
     -- TAM ends in Initial, whatever was held.
     unfoldable pub tam1Answer : Answer
-    tam1Answer = ifFine (tam1Verdict setup (c .message)) (replied (tam1Sent setup (c .message) (c .draws)) cleared)
+    tam1Answer = ifFine (tam1Verdict keys (c .message)) (replied (tam1Sent keys (c .message) (c .draws)) cleared)
 
+    -- The challenge is the draws themselves.
+    unfoldable pub iam1Answer : Answer
+    iam1Answer = ifFine (iam1Verdict keys (c .message)) (replied (c .draws) (iam1Held (c .message) (c .draws)))
+
+    unfoldable pub mam1Answer : Answer
+    mam1Answer =
+        ifFine (mam1Verdict keys (c .message))
+        (replied (mam1Sent keys (c .message) (c .draws)) (mam1Held (c .message) (c .draws)))
+
+    module _ (held : Session) where
+      unfoldable pub iam2Answer : Answer
+      iam2Answer =
+          ifFine (iam2Verdict keys held (c .message))
+          (letIn (iam2Purpose keys held (c .message)) (c .identity) (c .user))
+
+      unfoldable pub mam2Answer : Answer
+      mam2Answer =
+          ifFine (mam2Verdict keys held (c .message))
+          (letIn (mam2Purpose keys held (c .message)) (c .identity) (c .user))
+
+  module _ (setup : Setup) where
     unfoldable pub tam2Answer : Answer
     tam2Answer =
         ifFine (tam2Verdict setup (c .message))
         (replied (tam2Sent setup (c .message) (c .draws) (c .identity) (c .user)) cleared)
 
-    -- The challenge is the draws themselves.
-    unfoldable pub iam1Answer : Answer
-    iam1Answer = ifFine (iam1Verdict setup (c .message)) (replied (c .draws) (iam1Held (c .message) (c .draws)))
-
-    unfoldable pub mam1Answer : Answer
-    mam1Answer =
-        ifFine (mam1Verdict setup (c .message))
-        (replied (mam1Sent setup (c .message) (c .draws)) (mam1Held (c .message) (c .draws)))
-
     module _ (held : Session) where
-      unfoldable pub iam2Answer : Answer
-      iam2Answer =
-          ifFine (iam2Verdict setup held (c .message))
-          (letIn (iam2Purpose setup held (c .message)) (c .identity) (c .user))
-
-      unfoldable pub mam2Answer : Answer
-      mam2Answer =
-          ifFine (mam2Verdict setup held (c .message))
-          (letIn (mam2Purpose setup held (c .message)) (c .identity) (c .user))
-
       -- After everything was judged the words of the block are written, and no others.
       unfoldable pub iam3Answer : Answer
       iam3Answer =
@@ -110,13 +111,13 @@ module _ (c : Call) where
           (iam3Stored setup held (c .message) User (c .user)))
 
       unfoldable pub byKind : Kind → Answer
-      byKind Tam1 = tam1Answer
+      byKind Tam1 = tam1Answer (setup .keys)
       byKind Tam2 = tam2Answer
-      byKind Iam1 = iam1Answer
-      byKind Iam2 = iam2Answer
+      byKind Iam1 = iam1Answer (setup .keys)
+      byKind Iam2 = iam2Answer (setup .keys) held
       byKind Iam3 = iam3Answer
-      byKind Mam1 = mam1Answer
-      byKind Mam2 = mam2Answer
+      byKind Mam1 = mam1Answer (setup .keys)
+      byKind Mam2 = mam2Answer (setup .keys) held
       byKind Unsupported = refused NotSupported cleared
 
       -- A message that is there and offered, in its turn.
@@ -136,7 +137,7 @@ module _ (c : Call) where
       ofBench (Wrong f) = refused f held
 
   -- The tag's answer.
-  unfoldable pub answerOf : Tag → Answer
+  unfoldable pub answerOf : KeyedTag → Answer
   answerOf tag =
       ofBench (tag .setup) (tag .session)
-      (judged (benchChecks (tag .setup) (length (c .draws)) (c .room) (length (c .identity)) (length (c .user))))
+      (judged (benchChecks (tag .setup .sizes) (length (c .draws)) (c .room) (length (c .identity)) (length (c .user))))

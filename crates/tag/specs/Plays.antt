@@ -1,14 +1,15 @@
--- A run of the code: each call is given the tag and the areas that the last one left, and leaves what its contract
--- says.
+-- A run of the code: each call is lent the key table, given the tag and the areas that the last one left, and leaves what
+-- its contract says.
 use mathlib.Core.List.{List, [], _∷_}
 use Prim.Native.Nat.{ℕ}
 use lib.ListN.{length}
 use Rattle.modes.specs.Room.{over}
 use Rattle.tag.specs.declared.Stepped.{Stepped}
 use Rattle.tag.specs.declared.Tag.{Tag}
+use Rattle.tag.specs.States.{keyed}
 use Rattle.tag.specs.Answers.{Answer, answerOf}
-use Rattle.tag.specs.Reactions.{lent, Steps}
-use Rattle.tag.specs.Runs.{Sent, tagAfter}
+use Rattle.tag.specs.Reactions.{lent, nextTag, Steps}
+use Rattle.tag.specs.Runs.{Sent}
 
 -- What the bench brings to a call, the room with its bytes.
 pub record Brought : Type 0 where
@@ -24,18 +25,18 @@ pub record Left : Type 0 where
   pub user : List ℕ
 
 -- One call of the code, by its contract.
-abbrev pub Called : Tag → List ℕ → List ℕ → Brought → Left → Type 0
-Called tag identity user b x =
-    Steps (answerOf (lent (b .message) (b .draws) (b .room) identity user) tag) tag (b .room) (x .stepped) (x .room)
-    (x .identity) (x .user)
+abbrev pub Called : List ℕ → Tag → List ℕ → List ℕ → Brought → Left → Type 0
+Called keys tag identity user b x =
+    Steps (answerOf (lent (b .message) (b .draws) (b .room) identity user) (keyed tag keys)) tag (b .room) (x .stepped)
+    (x .room) (x .identity) (x .user)
 
 -- A run of such calls.
-unfoldable pub Plays : Tag → List ℕ → List ℕ → List Brought → List Left → Type 0
-Plays tag identity user [] [] = Unit
-Plays tag identity user [] (x ∷ xs) = ⊥
-Plays tag identity user (b ∷ bs) [] = ⊥
-Plays tag identity user (b ∷ bs) (x ∷ xs) =
-    Called tag identity user b x × Plays (x .stepped .tag) (x .identity) (x .user) bs xs
+unfoldable pub Plays : List ℕ → Tag → List ℕ → List ℕ → List Brought → List Left → Type 0
+Plays keys tag identity user [] [] = Unit
+Plays keys tag identity user [] (x ∷ xs) = ⊥
+Plays keys tag identity user (b ∷ bs) [] = ⊥
+Plays keys tag identity user (b ∷ bs) (x ∷ xs) =
+    Called keys tag identity user b x × Plays keys (x .stepped .tag) (x .identity) (x .user) bs xs
 
 -- What the definition's run says is left: of the room only the length counts for an answer.
 abbrev pub sentOf : Brought → Sent
@@ -47,7 +48,7 @@ sentAll (b ∷ bs) = sentOf b ∷ sentAll bs
 
 abbrev pub leftOf : Tag → Brought → Answer → Left
 leftOf tag b a = record {
-  stepped = record { outcome = a .outcome; tag = tagAfter tag a };
+  stepped = record { outcome = a .outcome; tag = nextTag tag a };
   room = over (a .reply) (b .room);
   identity = a .identity;
   user = a .user;
@@ -56,4 +57,4 @@ leftOf tag b a = record {
 unfoldable pub leftAll : Tag → List Brought → List Answer → List Left
 leftAll tag [] answers = []
 leftAll tag (b ∷ bs) [] = []
-leftAll tag (b ∷ bs) (a ∷ answers) = leftOf tag b a ∷ leftAll (tagAfter tag a) bs answers
+leftAll tag (b ∷ bs) (a ∷ answers) = leftOf tag b a ∷ leftAll (nextTag tag a) bs answers

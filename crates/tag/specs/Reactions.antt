@@ -1,5 +1,4 @@
--- What a call leaves behind: the answer's outcome and session in what is returned, its reply over the first bytes of
--- the
+-- What a call leaves behind: the answer's outcome and session in what is returned, its reply over the first bytes of the
 -- room, its areas in the areas.
 use mathlib.Core.Path.{_≡_}
 use mathlib.Core.List.{List}
@@ -11,7 +10,6 @@ use Rattle.entry.specs.declared.Reacted.{Reacted}
 use Rattle.tag.specs.declared.Stepped.{Stepped}
 use Rattle.offer.specs.Outcomes.{numberGiven}
 use Rattle.tag.specs.Answers.{Answer, Call}
-use Rattle.tag.specs.Runs.{tagAfter}
 
 -- A call by what is lent to it: of the room only the length counts.
 abbrev pub lent : List ℕ → List ℕ → List ℕ → List ℕ → List ℕ → Call
@@ -34,11 +32,15 @@ pub record ReactsIn (a : Answer) (room : List ℕ) (r : Reacted) (after i u : Li
   pub identity : i ≡ a .identity
   pub user : u ≡ a .user
 
--- What a step leaves, by name and by number: the tag's setup stays.
+-- The tag of the code after an answer: its terms stay.
+abbrev pub nextTag : Tag → Answer → Tag
+nextTag tag a = record { terms = tag .terms; session = a .session }
+
+-- What a step leaves, by name and by number.
 pub record Steps (a : Answer) (tag : Tag) (room : List ℕ) (r : Stepped) (after i u : List ℕ) : Type 0 where
   pub outcome : r .outcome ≡ a .outcome
   pub number : numberGiven (r .outcome) ≡ numberGiven (a .outcome)
-  pub next : r .tag ≡ tagAfter tag a
+  pub next : r .tag ≡ nextTag tag a
   pub reply : after ≡ over (a .reply) room
   pub identity : i ≡ a .identity
   pub user : u ≡ a .user

@@ -2,23 +2,36 @@
 use Prim.Native.Nat.{ℕ}
 use mathlib.Core.Bool.{Bool, true, false}
 use mathlib.Core.List.{List, [], _∷_}
-use Rattle.sheet.specs.declared.Setup.{Setup}
+use Rattle.sheet.specs.declared.Key.{Key}
+use Rattle.sheet.specs.declared.Terms.{Terms}
+use Rattle.sheet.specs.Setups.{Setup, setupOf}
 use Rattle.frames.specs.declared.Kind.{Kind}
 use Rattle.frames.specs.declared.Kind.the-variants.{Tam1, Tam2, Iam1, Iam2, Iam3, Mam1, Mam2, Unsupported}
 use Rattle.offer.specs.declared.Fault.{Fault}
 use Rattle.offer.specs.declared.Fault.the-variants.{OtherError, NotSupported, MemoryOverrun, MemoryWriteError}
 use Rattle.offer.specs.declared.Fault.the-variants.{OutOfTurn}
 use Rattle.offer.specs.declared.Fault.the-variants.{ProofWrong, BenchFault}
-use Rattle.offer.specs.Records.{keyPresent}
+use Rattle.keytable.specs.Named.{hasKey}
 use Rattle.entry.specs.declared.State.{State}
 use Rattle.entry.specs.declared.State.the-variants.{Initial, IamInit, MamInit, IaOk}
 use Rattle.entry.specs.declared.Session.{Session}
 use Rattle.entry.specs.Sessions.{cleared}
 use Rattle.tag.specs.declared.Tag.{Tag}
 
--- Power-up and reset.
-unfoldable pub poweredUp : Setup → Tag
+-- A tag with its keys: what its sheet says, and what it holds. In the code the keys stay in the bytes that hold them.
+pub record KeyedTag : Type 0 where
+  pub setup : Setup
+  pub session : Session
+
+abbrev pub keyed : Tag → List ℕ → KeyedTag
+keyed tag keys = record { setup = setupOf (tag .terms) keys; session = tag .session }
+
+-- Power-up and reset; the same of the tag without its keys.
+unfoldable pub poweredUp : Setup → KeyedTag
 poweredUp setup = record { setup = setup; session = cleared }
+
+abbrev pub awake : Terms → Tag
+awake terms = record { terms = terms; session = cleared }
 
 -- The states in which a new challenge may be asked for (9.5.2, 9.6.2), and the state that follows each challenge.
 unfoldable pub atRest : State → Bool
@@ -51,11 +64,11 @@ inTurn s Mam2 = afterMam1 s
 inTurn s Unsupported = false
 
 -- While a challenge waits for its answer, a record has the KeyID that is held.
-unfoldable pub keyFits : Setup → State → ℕ → Bool
-keyFits setup Initial keyid = true
-keyFits setup IamInit keyid = keyPresent setup keyid
-keyFits setup MamInit keyid = keyPresent setup keyid
-keyFits setup IaOk keyid = true
+unfoldable pub keyFits : List Key → State → ℕ → Bool
+keyFits keys Initial keyid = true
+keyFits keys IamInit keyid = hasKey keyid keys
+keyFits keys MamInit keyid = hasKey keyid keys
+keyFits keys IaOk keyid = true
 
 -- What the tag holds after each refusal.
 abbrev pub sessionAfter : Fault → Session → Session

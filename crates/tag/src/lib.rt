@@ -3,20 +3,21 @@ use entry::Session;
 use entry::State;
 use offer::Outcome;
 use offer::Verdict;
-use sheet::Setup;
+use sheet::Terms;
 ghost use mathlib.Core.Path.{_≡_};
 ghost use lib.ListN.{length};
-ghost use Rattle.offer.specs.Records.{keyPresent};
-ghost use Rattle.tag.specs.States.{poweredUp, keyFits};
+ghost use Rattle.sheet.specs.KeyTable.{keysIn};
+ghost use Rattle.keytable.specs.Named.{hasKey};
+ghost use Rattle.tag.specs.States.{awake, keyed, keyFits};
 ghost use Rattle.tag.specs.Answers.{answerOf};
 ghost use Rattle.tag.specs.Reactions.{lent, Steps};
 
 mod kinds; // kinds.rt: what each kind that is answered comes to, in the room
 mod turns; // turns.rt: the checks before a message's kind counts
 
-/// A tag: what its sheet says, which never changes, and what it holds.
+/// A tag, but for its key table, which is lent with each call: the terms on which it serves, and what it holds.
 pub struct Tag {
-    pub setup: Setup,
+    pub terms: Terms,
     pub session: Session,
 }
 
@@ -29,39 +30,36 @@ pub struct Stepped {
 /// A tag at power-up, and after a reset: nothing is held (clause 8).
 ///
 /// Ruled out: a tag that wakes up in IA-OK; a challenge that outlives the power.
-pub fn power_up(setup: Setup) -> Tag
-    ensures { λ r. ⌜ r ≡ poweredUp setup ⌝ }
+pub fn power_up(terms: Terms) -> Tag
+    ensures { λ r. ⌜ r ≡ awake terms ⌝ }
 {
     Tag {
-        setup,
+        terms,
         session: entry::cleared(),
     }
 }
 
 // Does a record have the KeyID?
-fn known(setup: Setup, keyid: u8) -> bool
-    ensures { λ r. ⌜ r ≡ keyPresent setup keyid ⌝ }
+fn known(keys: &[u8], keyid: u8) -> bool
+    ensures { λ r. ⌜ r ≡ hasKey keyid (keysIn (now (keys .entry))) ⌝ }
 {
-    let found = offer::records::find(setup, keyid);
+    let found = keytable::find(keys, keyid);
     found.present
 }
 
-/// Does a record have the KeyID that the tag holds, where a challenge waits for its answer? Of a tag from power-up on
-/// it
-/// does (`Holding`); a host that stores tags asks it of what it takes up again.
+/// Does a record have the KeyID that is held, where a challenge waits for its answer? Of a tag from power-up on it does
+/// (`Holding`); a host that stores tags asks it of what it takes up again.
 ///
 /// Ruled out: a KeyID that no record has, taken with the key of zeros; a tag in Initial refused for the KeyID 0 that
 /// stands there.
-pub fn key_held(tag: Tag) -> bool
-    ensures { λ r. ⌜ r ≡ keyFits (tag .setup) (tag .session .state) (tag .session .keyid) ⌝ }
+pub fn key_held(session: Session, keys: &[u8]) -> bool
+    ensures { λ r. ⌜ r ≡ keyFits (keysIn (now (keys .entry))) (session .state) (session .keyid) ⌝ }
 {
-    let setup = tag.setup;
-    let session = tag.session;
     let state = session.state;
     match state {
         State::Initial => true,
-        State::IamInit => known(setup, session.keyid),
-        State::MamInit => known(setup, session.keyid),
+        State::IamInit => known(keys, session.keyid),
+        State::MamInit => known(keys, session.keyid),
         State::IaOk => true,
     }
 }
@@ -76,7 +74,7 @@ fn ten(draws: &[u8]) -> [u8; 10]
     r
 }
 
-/// One message: the tag by value; message, draws, reply room and both areas lent. The outcome and the next tag are
+/// One message: the tag by value; its key table, message, draws, reply room and both areas lent. The outcome and the next tag are
 /// returned, the reply stands in the room's first bytes, and an accepted IAM3 has written its words.
 ///
 /// A refusal changes no byte of room or areas; numbers 1 to 6 leave the tag in Initial, number 7 leaves it as it was.
@@ -85,6 +83,7 @@ fn ten(draws: &[u8]) -> [u8; 10]
 /// answers its first message truly and later ones for show; a made-up reply length.
 pub fn step(
     tag: Tag,
+    keys: &[u8],
     message: &[u8],
     draws: &[u8],
     room: &mut [u8],
@@ -92,23 +91,24 @@ pub fn step(
     user: &mut [u8],
 ) -> Stepped
     ensures { λ r. ⌜ Steps (answerOf (lent (now (message .entry)) (now (draws .entry)) (now (room .entry))
-        (now (identity .entry)) (now (user .entry))) tag) tag (now (room .entry)) r
+        (now (identity .entry)) (now (user .entry))) (keyed tag (now (keys .entry)))) tag (now (room .entry)) r
         (now (room .exit)) (now (identity .exit)) (now (user .exit)) ⌝ }
 {
-    let setup = tag.setup;
+    let terms = tag.terms;
+    let sizes = terms.sizes;
     let held = tag.session;
-    let verdict = offer::judged::bench(setup, draws.len(), room.len(), identity.len(), user.len());
+    let verdict = offer::judged::bench(sizes, draws.len(), room.len(), identity.len(), user.len());
     if let Verdict::Wrong(fault) = verdict {
         return Stepped {
             outcome: Outcome::Refused(fault),
             tag,
         };
     }
-    let reacted = turns::take(setup, held, message, ten(draws), room, identity, user);
+    let reacted = turns::take(terms, keys, held, message, ten(draws), room, identity, user);
     let outcome = reacted.outcome;
     let session = reacted.session;
     Stepped {
         outcome,
-        tag: Tag { setup, session },
+        tag: Tag { terms, session },
     }
 }

@@ -7,11 +7,12 @@ use entry::refused;
 use frames::Kind;
 use offer::Fault;
 use offer::records;
-use sheet::Setup;
+use sheet::Terms;
 ghost use mathlib.Core.Path.{_≡_};
 ghost use Prim.Native.Nat.{_≤_};
 ghost use lib.ListN.{length};
 ghost use Rattle.frames.specs.Lengths.{replyRoom};
+ghost use Rattle.sheet.specs.Setups.{setupOf};
 ghost use Rattle.tag.specs.States.{atRest, afterIam1, afterMam1, inTurn};
 ghost use Rattle.tag.specs.Answers.{byKind, inOrder, ofMessage};
 ghost use Rattle.tag.specs.Reactions.{lent, ReactsIn};
@@ -69,7 +70,8 @@ fn in_turn(state: State, kind: Kind) -> bool
 // What a message of a kind comes to.
 fn by_kind(
     kind: Kind,
-    setup: Setup,
+    terms: Terms,
+    keys: &[u8],
     held: Session,
     m: &[u8],
     draws: [u8; 10],
@@ -79,30 +81,31 @@ fn by_kind(
 ) -> Reacted
     requires { ⌜ replyRoom ≤ length (now room) ⌝ }
     ensures { λ r. ⌜ ReactsIn (byKind
-        (lent (now (m .entry)) draws (now (room .entry)) (now (identity .entry)) (now (user .entry))) setup held kind)
+        (lent (now (m .entry)) draws (now (room .entry)) (now (identity .entry)) (now (user .entry)))
+        (setupOf terms (now (keys .entry))) held kind)
         (now (room .entry)) r (now (room .exit)) (now (identity .exit)) (now (user .exit)) ⌝ }
 {
     match kind {
         Kind::Tam1 => {
-            return kinds::tam1(setup, m, draws, room);
+            return kinds::tam1(keys, m, draws, room);
         }
         Kind::Tam2 => {
-            return kinds::tam2(setup, m, draws, room, identity, user);
+            return kinds::tam2(terms, keys, m, draws, room, identity, user);
         }
         Kind::Iam1 => {
-            return kinds::iam1(setup, m, draws, room);
+            return kinds::iam1(keys, m, draws, room);
         }
         Kind::Iam2 => {
-            return entry::iam2(setup, held, m);
+            return entry::iam2(keys, held, m);
         }
         Kind::Iam3 => {
-            return entry::iam3(setup, held, m, identity, user);
+            return entry::iam3(terms, keys, held, m, identity, user);
         }
         Kind::Mam1 => {
-            return kinds::mam1(setup, m, draws, room);
+            return kinds::mam1(keys, m, draws, room);
         }
         Kind::Mam2 => {
-            return entry::mam2(setup, held, m);
+            return entry::mam2(keys, held, m);
         }
         Kind::Unsupported => {
             return refused(Fault::NotSupported);
@@ -113,7 +116,8 @@ fn by_kind(
 // The same, where the tag offers the kind and its state takes it.
 fn in_order(
     kind: Kind,
-    setup: Setup,
+    terms: Terms,
+    keys: &[u8],
     held: Session,
     m: &[u8],
     draws: [u8; 10],
@@ -123,10 +127,11 @@ fn in_order(
 ) -> Reacted
     requires { ⌜ replyRoom ≤ length (now room) ⌝ }
     ensures { λ r. ⌜ ReactsIn (inOrder
-        (lent (now (m .entry)) draws (now (room .entry)) (now (identity .entry)) (now (user .entry))) setup held kind)
+        (lent (now (m .entry)) draws (now (room .entry)) (now (identity .entry)) (now (user .entry)))
+        (setupOf terms (now (keys .entry))) held kind)
         (now (room .entry)) r (now (room .exit)) (now (identity .exit)) (now (user .exit)) ⌝ }
 {
-    let features = setup.features;
+    let features = terms.features;
     if !records::offered(features, kind) {
         return refused(Fault::NotSupported);
     }
@@ -134,13 +139,14 @@ fn in_order(
     if !in_turn(state, kind) {
         return refused(Fault::OutOfTurn);
     }
-    by_kind(kind, setup, held, m, draws, room, identity, user)
+    by_kind(kind, terms, keys, held, m, draws, room, identity, user)
 }
 
 /// A message that the bench lent all it needs.
 /// Ruled out: an empty message taken for a TAM1; an IAM2 out of turn told Not Supported.
 pub fn take(
-    setup: Setup,
+    terms: Terms,
+    keys: &[u8],
     held: Session,
     m: &[u8],
     draws: [u8; 10],
@@ -150,13 +156,13 @@ pub fn take(
 ) -> Reacted
     requires { ⌜ replyRoom ≤ length (now room) ⌝ }
     ensures { λ r. ⌜ ReactsIn (ofMessage
-        (lent (now (m .entry)) draws (now (room .entry)) (now (identity .entry)) (now (user .entry))) setup held
-        (now (m .entry)))
+        (lent (now (m .entry)) draws (now (room .entry)) (now (identity .entry)) (now (user .entry)))
+        (setupOf terms (now (keys .entry))) held (now (m .entry)))
         (now (room .entry)) r (now (room .exit)) (now (identity .exit)) (now (user .exit)) ⌝ }
 {
     if m.len() == 0 {
         return refused(Fault::OtherError);
     }
     let kind = frames::first::kind_of(m[0]);
-    in_order(kind, setup, held, m, draws, room, identity, user)
+    in_order(kind, terms, keys, held, m, draws, room, identity, user)
 }

@@ -1,7 +1,6 @@
 -- `tag::power_up` meets its contract.
 use mathlib.Core.Path.{ap}
 use Rattle.entry.specs.declared.Session.{Session}
-use Rattle.tag.specs.States.{poweredUp}
 use borrow.Author.Needs.{needs}
 use Rattle.tag.proofs.power_up.Statement.{statement}
 use Rattle.tag.proofs.power_up.Tie as tie
@@ -10,8 +9,7 @@ cleared-requires : tie.Need-cleared-requires
 cleared-requires c κs = search needs
 
 returns : tie.Need-returns
-unfolding poweredUp
-returns c = ap (λ (s : Session). record { setup = c .before .args .setup; session = s }) (c .cleared .ensures)
+returns c = ap (λ (s : Session). record { terms = c .before .args .terms; session = s }) (c .cleared .ensures)
 
 pub power-up-spec : {M : Type 1} → statement M
 power-up-spec = tie.close (tie.spec cleared-requires returns)

@@ -17,8 +17,8 @@ returns c =
     let c1 = c .before in
     let c3 = c1 .before .before in
     let c11 = c3 .before .before .before .before .before .before .before .before in
-    let a = c11 .args in
-    bench-wrong (a .tag) (a .message .now) (a .draws .now) (a .room .now) (a .identity .now) (a .user .now) _
+    let a = c11 .before .before .args in
+    bench-wrong (a .tag) (a .keys .now) (a .message .now) (a .draws .now) (a .room .now) (a .identity .now) (a .user .now) _
     (c3 .bench .ensures) _ (c1 .verdict .given .1)
 
 enum-told : tie.Need-enum-told
@@ -28,16 +28,16 @@ ten-requires : tie.Need-ten-requires
 ten-requires c κs =
     let c2 = c .before .before in
     let c10 = c2 .before .before .before .before .before .before .before .before in
-    let a = c10 .args in
-    bench-draws (a .tag .setup) _ _ _ _ (sym (c2 .bench .ensures) ∙ c .enum-told .given .1)
+    let a = c10 .before .before .args in
+    bench-draws (a .tag .terms .sizes) _ _ _ _ (sym (c2 .bench .ensures) ∙ c .enum-told .given .1)
 
 take-requires : tie.Need-take-requires
 take-requires c κs =
     let c4 = c .before .before .before .before in
     let c6 = c4 .before .before in
     let c14 = c6 .before .before .before .before .before .before .before .before in
-    let a = c14 .args in
-    bench-room (a .tag .setup) _ _ _ _ (sym (c6 .bench .ensures) ∙ c4 .enum-told .given .1)
+    let a = c14 .before .before .args in
+    bench-room (a .tag .terms .sizes) _ _ _ _ (sym (c6 .bench .ensures) ∙ c4 .enum-told .given .1)
 
 same-length : tie.Need-same-length
 same-length c = search needs
@@ -55,8 +55,8 @@ returns-2 c =
     let c12 = c11 .before in
     let c14 = c12 .before .before in
     let c22 = c14 .before .before .before .before .before .before .before .before in
-    let a = c22 .args in
-    bench-fine (a .tag) (a .message .now) (a .draws .now) (a .room .now) (a .identity .now) (a .user .now) _
+    let a = c22 .before .before .args in
+    bench-fine (a .tag) (a .keys .now) (a .message .now) (a .draws .now) (a .room .now) (a .identity .now) (a .user .now) _
     (c14 .bench .ensures) _ _ _ _ _ (c12 .enum-told .given .1) (c11 .ten .ensures) (c7 .take .ensures)
 
 pub step-spec : {M : Type 1} → statement M

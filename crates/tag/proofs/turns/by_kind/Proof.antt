@@ -1,6 +1,7 @@
 -- `tag::turns::by_kind` meets its contract.
 use Rattle.tag.specs.Reactions.{lent}
 use Rattle.tag.proofs.Turning.{is-tam1, is-tam2, is-iam1, is-iam2, is-iam3, is-mam1, is-mam2, is-none}
+use Rattle.sheet.specs.Setups.{setupOf}
 use borrow.Author.Needs.{needs}
 use Rattle.tag.proofs.turns.by_kind.Statement.{statement}
 use Rattle.tag.proofs.turns.by_kind.Tie as tie
@@ -19,8 +20,8 @@ returns c =
     let c2 = c .before .before in
     let c4 = c2 .before .before in
     let c10 = c4 .before .before .before .before .before .before in
-    let a = c10 .args in
-    is-tam1 (lent (a .m .now) (a .draws) (a .room .now) (a .identity .now) (a .user .now)) (a .setup) (a .held)
+    let a = c10 .before .args in
+    is-tam1 (lent (a .m .now) (a .draws) (a .room .now) (a .identity .now) (a .user .now)) (setupOf (a .terms) (a .keys .now)) (a .held)
     (a .room .now) _ _ _ (c4 .enum-told .given .1) ((c2 .tam1 .ensures) (a .identity .now) (a .user .now))
 
 enum-told-2 : tie.Need-enum-told-2
@@ -43,8 +44,8 @@ returns-2 c =
     let c2 = c .before .before in
     let c6 = c2 .before .before .before .before in
     let c12 = c6 .before .before .before .before .before .before in
-    let a = c12 .args in
-    is-tam2 (lent (a .m .now) (a .draws) (a .room .now) (a .identity .now) (a .user .now)) (a .setup) (a .held)
+    let a = c12 .before .args in
+    is-tam2 (lent (a .m .now) (a .draws) (a .room .now) (a .identity .now) (a .user .now)) (setupOf (a .terms) (a .keys .now)) (a .held)
     (a .room .now) _ _ _ (c6 .enum-told2 .given .1) (c2 .tam2 .ensures)
 
 enum-told-3 : tie.Need-enum-told-3
@@ -61,8 +62,8 @@ returns-3 c =
     let c2 = c .before .before in
     let c4 = c2 .before .before in
     let c10 = c4 .before .before .before .before .before .before in
-    let a = c10 .args in
-    is-iam1 (lent (a .m .now) (a .draws) (a .room .now) (a .identity .now) (a .user .now)) (a .setup) (a .held)
+    let a = c10 .before .args in
+    is-iam1 (lent (a .m .now) (a .draws) (a .room .now) (a .identity .now) (a .user .now)) (setupOf (a .terms) (a .keys .now)) (a .held)
     (a .room .now) _ _ _ (c4 .enum-told3 .given .1) ((c2 .iam1 .ensures) (a .identity .now) (a .user .now))
 
 enum-told-4 : tie.Need-enum-told-4
@@ -75,8 +76,8 @@ returns-4 : tie.Need-returns-4
 returns-4 c =
     let c1 = c .before in
     let c7 = c1 .before .before .before .before .before .before in
-    let a = c7 .args in
-    is-iam2 (lent (a .m .now) (a .draws) (a .room .now) (a .identity .now) (a .user .now)) (a .setup) (a .held)
+    let a = c7 .before .args in
+    is-iam2 (lent (a .m .now) (a .draws) (a .room .now) (a .identity .now) (a .user .now)) (setupOf (a .terms) (a .keys .now)) (a .held)
     (a .room .now) _ _ (a .room .now) (c1 .enum-told4 .given .1) (c .iam2 .ensures)
 
 enum-told-5 : tie.Need-enum-told-5
@@ -96,8 +97,8 @@ returns-5 c =
     let c4 = c .before .before .before .before in
     let c7 = c4 .before .before .before in
     let c13 = c7 .before .before .before .before .before .before in
-    let a = c13 .args in
-    is-iam3 (lent (a .m .now) (a .draws) (a .room .now) (a .identity .now) (a .user .now)) (a .setup) (a .held)
+    let a = c13 .before .args in
+    is-iam3 (lent (a .m .now) (a .draws) (a .room .now) (a .identity .now) (a .user .now)) (setupOf (a .terms) (a .keys .now)) (a .held)
     (a .room .now) _ _ (a .room .now) _ _ (c7 .enum-told5 .given .1) (c4 .iam3 .ensures)
 
 enum-told-6 : tie.Need-enum-told-6
@@ -114,8 +115,8 @@ returns-6 c =
     let c2 = c .before .before in
     let c4 = c2 .before .before in
     let c10 = c4 .before .before .before .before .before .before in
-    let a = c10 .args in
-    is-mam1 (lent (a .m .now) (a .draws) (a .room .now) (a .identity .now) (a .user .now)) (a .setup) (a .held)
+    let a = c10 .before .args in
+    is-mam1 (lent (a .m .now) (a .draws) (a .room .now) (a .identity .now) (a .user .now)) (setupOf (a .terms) (a .keys .now)) (a .held)
     (a .room .now) _ _ _ (c4 .enum-told6 .given .1) ((c2 .mam1 .ensures) (a .identity .now) (a .user .now))
 
 enum-told-7 : tie.Need-enum-told-7
@@ -128,8 +129,8 @@ returns-7 : tie.Need-returns-7
 returns-7 c =
     let c1 = c .before in
     let c7 = c1 .before .before .before .before .before .before in
-    let a = c7 .args in
-    is-mam2 (lent (a .m .now) (a .draws) (a .room .now) (a .identity .now) (a .user .now)) (a .setup) (a .held)
+    let a = c7 .before .args in
+    is-mam2 (lent (a .m .now) (a .draws) (a .room .now) (a .identity .now) (a .user .now)) (setupOf (a .terms) (a .keys .now)) (a .held)
     (a .room .now) _ _ (a .room .now) (c1 .enum-told7 .given .1) (c .mam2 .ensures)
 
 enum-told-8 : tie.Need-enum-told-8
@@ -142,8 +143,8 @@ returns-8 : tie.Need-returns-8
 returns-8 c =
     let c1 = c .before in
     let c7 = c1 .before .before .before .before .before .before in
-    let a = c7 .args in
-    is-none (lent (a .m .now) (a .draws) (a .room .now) (a .identity .now) (a .user .now)) (a .setup) (a .held)
+    let a = c7 .before .args in
+    is-none (lent (a .m .now) (a .draws) (a .room .now) (a .identity .now) (a .user .now)) (setupOf (a .terms) (a .keys .now)) (a .held)
     (a .room .now) _ _ (c1 .enum-told8 .given .1) (c .refused .ensures)
 
 pub by-kind-spec : {M : Type 1} → statement M

@@ -3,6 +3,7 @@ use mathlib.Core.Path.{sym, _∙_}
 use borrow.Author.Tests.{not-true, not-false}
 use Rattle.tag.specs.Reactions.{lent}
 use Rattle.tag.proofs.Turning.{not-offered, out-of-turn, in-its-turn}
+use Rattle.sheet.specs.Setups.{setupOf}
 use borrow.Author.Needs.{needs}
 use Rattle.tag.proofs.turns.in_order.Statement.{statement}
 use Rattle.tag.proofs.turns.in_order.Tie as tie
@@ -18,8 +19,8 @@ returns c =
     let c1 = c .before in
     let c2 = c1 .before in
     let c8 = c2 .before .before .before .before .before .before in
-    let a = c8 .args in
-    not-offered (lent (a .m .now) (a .draws) (a .room .now) (a .identity .now) (a .user .now)) (a .setup) (a .held)
+    let a = c8 .before .args in
+    not-offered (lent (a .m .now) (a .draws) (a .room .now) (a .identity .now) (a .user .now)) (setupOf (a .terms) (a .keys .now)) (a .held)
     (a .room .now) _ (a .kind) (sym (c2 .offered .ensures) ∙ not-true _ (c1 .if1 .taken)) (c .refused .ensures)
 
 in-turn-requires : tie.Need-in-turn-requires
@@ -35,8 +36,8 @@ returns-2 c =
     let c3 = c2 .before in
     let c4 = c3 .before in
     let c10 = c4 .before .before .before .before .before .before in
-    let a = c10 .args in
-    out-of-turn (lent (a .m .now) (a .draws) (a .room .now) (a .identity .now) (a .user .now)) (a .setup) (a .held)
+    let a = c10 .before .args in
+    out-of-turn (lent (a .m .now) (a .draws) (a .room .now) (a .identity .now) (a .user .now)) (setupOf (a .terms) (a .keys .now)) (a .held)
     (a .room .now) _ (a .kind) (sym (c4 .offered .ensures) ∙ not-false _ (c3 .if1 .left))
     (sym (c2 .in-turn .ensures) ∙ not-true _ (c1 .if2 .taken)) (c .refused2 .ensures)
 
@@ -60,8 +61,8 @@ returns-3 c =
     let c12 = c11 .before in
     let c13 = c12 .before in
     let c19 = c13 .before .before .before .before .before .before in
-    let a = c19 .args in
-    in-its-turn (lent (a .m .now) (a .draws) (a .room .now) (a .identity .now) (a .user .now)) (a .setup) (a .held)
+    let a = c19 .before .args in
+    in-its-turn (lent (a .m .now) (a .draws) (a .room .now) (a .identity .now) (a .user .now)) (setupOf (a .terms) (a .keys .now)) (a .held)
     (a .room .now) _ (a .kind) (sym (c13 .offered .ensures) ∙ not-false _ (c12 .if1 .left)) _ _ _
     (sym (c11 .in-turn .ensures) ∙ not-false _ (c10 .if2 .left)) (c6 .by-kind .ensures)
 
