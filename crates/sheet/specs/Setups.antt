@@ -27,7 +27,7 @@ pub record Setup : Type 0 where
   pub locks : Locks
 
 -- the setup of these terms, with this key table
-unfoldable pub setupOf : Terms → List ℕ → Setup
+abbrev pub setupOf : Terms → List ℕ → Setup
 setupOf t table = record {
   features = t .features;
   sizes = t .sizes;
@@ -36,7 +36,7 @@ setupOf t table = record {
   locks = t .locks;
 }
 
-unfoldable pub termsOf : Setup → Terms
+abbrev pub termsOf : Setup → Terms
 termsOf s = record { features = s .features; sizes = s .sizes; profiles = s .profiles; locks = s .locks }
 
 unfoldable pub noFeatures : Features

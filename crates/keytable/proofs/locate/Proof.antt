@@ -31,7 +31,8 @@ returns c =
     let t = c .before .before in
     let l = t .before in
     let a = l .before .args in
-    here (a .keyid) (a .keys .now) _ (l .loop .left) (l .loop .at) (t .loop-test .taken) (c .if1 .taken) (l .loop .inv .1)
+    let i = l .loop in
+    here (a .keyid) (a .keys .now) _ (i .left) (i .at) (t .loop-test .taken) (c .if1 .taken) (i .inv .1)
 
 add-at : tie.Need-add-at Inv-loop μ-loop
 add-at c = omega arith
@@ -48,7 +49,8 @@ loop-again c =
     let l = t .before in
     let a = l .before .args in
     let i = l .loop in
-    (omega arith, further (a .keyid) (a .keys .now) _ (i .left) (i .at) (t .loop-test .taken) (c .if1 .left) (i .inv .1))
+    let h = further (a .keyid) (a .keys .now) _ (i .left) (i .at) (t .loop-test .taken) (c .if1 .left) (i .inv .1) in
+    (omega arith, h)
 
 returns-2 : tie.Need-returns-2 Inv-loop μ-loop
 returns-2 c =
