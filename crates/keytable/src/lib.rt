@@ -94,8 +94,8 @@ fn locate(keys: &[u8], keyid: u8) -> Place
 
 /// The first whole record that has the KeyID. Any bytes are a key table.
 ///
-/// Ruled out: a last record that is never found; the bytes behind the last whole record taken for one; a record's MAC key
-/// given for its ENC key.
+/// Ruled out: a last record that is never found; the bytes behind the last whole record taken for one; a record's MAC
+/// key given for its ENC key.
 pub fn find(keys: &[u8], keyid: u8) -> Found
     ensures { λ r. ⌜ (r .present ≡ hasKey keyid (keysIn (now (keys .entry))))
         × (r .key ≡ keyWith keyid (keysIn (now (keys .entry)))) ⌝ }

@@ -1,4 +1,4 @@
--- The records read so far of an accepted sheet keep the rules, and are what is written of what they say.
+-- One record more that is taken: what holds of the records read so far holds with it.
 use mathlib.Core.Path.{_≡_, refl, sym, ap, subst₂, _∙_}
 use mathlib.Core.Bool.{true, false}
 use mathlib.Core.Logic.{inr}
@@ -10,10 +10,9 @@ use lib.Seq.{drop-at, length-take-le}
 use lib.Dec.{leb}
 use borrow.Author.Tests.{leb-true, ne-eqb}
 use Rattle.memory.specs.declared.Lock.{Lock}
-use Rattle.ground.specs.Choice.{implies}
 use Rattle.ground.specs.Bytes.{Bytes, byteAt, wordAt}
 use Rattle.ground.proofs.Bytes.{bytes-tail, bytes-take, bytes-drop}
-use Rattle.sheet.specs.Limits.{profileLimit, lockLimit, wordLimit}
+use Rattle.sheet.specs.Limits.{profileLimit, lockLimit}
 use Rattle.sheet.specs.Kinds.{kindOf, bodyLength, inOrder}
 use Rattle.sheet.specs.Setups.{noLock, emptyTerms, noMarks, nothingKept}
 use Rattle.sheet.specs.Records.{featuresRule, featuresOf, sizesRule, sizesOf, keyRule, keyOf}
@@ -22,7 +21,6 @@ use Rattle.sheet.specs.Judgement.{tooMany, withFeatures, withSizes, with
 use Rattle.sheet.specs.KeysMet.{keySaid}
 use Rattle.sheet.specs.Writer.{featuresBody, sizesBody, keyBody, profileBody, lockBody}
 use Rattle.sheet.specs.Writer.{keysWritten, profilesWritten, locksWritten}
-use Rattle.sheet.specs.Within.{KeysRise, SlotsFine, LocksRise}
 use Rattle.sheet.specs.declared.Kind.{Kind}
 use Rattle.sheet.specs.declared.Kind.the-variants.{KeyRecord, LockRecord}
 use Rattle.sheet.specs.declared.Features.{Features}
@@ -37,48 +35,14 @@ use Rattle.sheet.proofs.Walks.{Took, took-features, took-sizes, took-ke
 use Rattle.sheet.proofs.Runs.{codeOf, kind-code}
 use Rattle.sheet.proofs.Tables.{longer}
 use Rattle.sheet.proofs.States.{marks-of, state, up-to, profile-marks, lock-marks, slot-kept, lock-kept}
+use Rattle.sheet.proofs.Sound.{Fine, Sound, none, first, more, opening, body}
 use Rattle.sheet.proofs.Forth.{features-iam, features-forth, sizes-low, sizes-forth}
 use Rattle.sheet.proofs.Forth.{key-rises, key-within, key-forth, profile-rises, profile-within, profile-forth}
 use Rattle.sheet.proofs.Forth.{lock-within, lock-forth, area-05}
 use Rattle.sheet.proofs.Back.{features-back}
-use Rattle.sheet.proofs.Lists.{nextKey, keys-more, next-key, keys-written}
-use Rattle.sheet.proofs.Lists.{nextArea, nextWord, locks-more, next-area, next-word, locks-written}
+use Rattle.sheet.proofs.Lists.{keys-more, next-key, keys-written}
+use Rattle.sheet.proofs.Lists.{locks-more, next-area, next-word, locks-written}
 use Rattle.sheet.proofs.Lists.{up-length, up-fine, up-written}
-
--- the lists read so far keep the rules, and the marks are what they leave
-pub record Fine (limit : ℕ) (f : Features) (z : Sizes) (m : Marks) (ks : List Key) (ss : List Slot) (ls : List Lock)
-    : Type 0 where
-  pub iam3 : implies (f .iam3) (f .iam) ≡ true
-  pub identity : z .identity ≤ wordLimit
-  pub user : z .user ≤ wordLimit
-  pub begun : 2 ≤ m .last
-  pub keys : KeysRise 0 ks
-  pub key-count : m .keys ≡ length ks
-  pub key-next : m .id ≡ nextKey 0 ks
-  pub key-few : length ks ≤ limit
-  pub slots : SlotsFine z ss
-  pub slot-next : m .number ≡ length ss
-  pub slot-few : length ss ≤ profileLimit
-  pub locks : LocksRise 0 0 z ls
-  pub area-next : m .area ≡ nextArea 0 ls
-  pub word-next : m .word ≡ nextWord 0 ls
-  pub lock-few : length ls ≤ lockLimit
-  pub no-slots : m .last ≤ 3 → ss ≡ []
-  pub no-locks : m .last ≤ 4 → ls ≡ []
-
-abbrev pub opening : Features → Sizes → List ℕ
-opening f z = (1 ∷ featuresBody f) ++ (2 ∷ sizesBody z)
-
-abbrev pub body : Features → Sizes → List Key → List Slot → List Lock → List ℕ
-body f z ks ss ls = opening f z ++ (keysWritten ks ++ (profilesWritten 0 ss ++ locksWritten ls))
-
--- the bytes read, what is kept of them, and the keys they say
-pub data Sound (limit : ℕ) : List ℕ → Kept → List Key → Type 0 where
-  none : Sound limit [] nothingKept []
-  first : (f : Features) → implies (f .iam3) (f .iam) ≡ true
-      → Sound limit (1 ∷ featuresBody f) (withFeatures nothingKept (featuresBody f)) []
-  more : (f : Features) (z : Sizes) (m : Marks) (ks : List Key) (ss : List Slot) (ls : List Lock)
-      → Fine limit f z m ks ss ls → Sound limit (body f z ks ss ls) (state f z m ss ls) ks
 
 -- a kind behind the opening records is at least 03, and at least the one before
 order-back : (last b : ℕ) → 2 ≤ last → inOrder last b ≡ true → (3 ≤ b) × (last ≤ b)

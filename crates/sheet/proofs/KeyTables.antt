@@ -17,7 +17,8 @@ pub keys-length : (id : ℕ) (ks : List Key) → KeysRise id ks → length (keys
 unfolding keysWritten
 keys-length id [] w = refl
 keys-length id (k ∷ ks) w =
-    rw (length-append (keyBody k) (keysWritten ks), key-length k (w .1), keys-length (k .id + 1) ks (w .2)) (omega arith)
+    rw (length-append (keyBody k) (keysWritten ks), key-length k (w .1), keys-length (k .id + 1) ks (w .2))
+    (omega arith)
 
 records-back : (id : ℕ) (ks : List Key) → KeysRise id ks → recordsIn (length ks) (keysWritten ks) ≡ ks
 unfolding keysWritten recordsIn

@@ -200,7 +200,8 @@ written-bytes limit s w =
     let in-use = take (s .locks .count) (s .locks .table) in
     let ls = locksWritten in-use in
     let e : List ℕ = 6 ∷ [] in
-    let slots = slots-bytes (s .sizes) (w .identity) (w .user) 0 (s .profiles) (omega (arith, w .slots)) (w .profiles) in
+    let fit : 0 + length (s .profiles) ≤ profileLimit = omega (arith, w .slots) in
+    let slots = slots-bytes (s .sizes) (w .identity) (w .user) 0 (s .profiles) fit (w .profiles) in
     let locks = locks-bytes (s .sizes) (w .identity) (w .user) 0 0 in-use (w .locks) in
     kind-byte 1 (f ++ (2 ∷ z ++ (ks ++ (ps ++ (ls ++ e))))) (omega arith)
     (bytes-join f (2 ∷ z ++ (ks ++ (ps ++ (ls ++ e)))) (features-bytes (s .features))

@@ -17,6 +17,7 @@ pub mod RoundTrip
 pub mod Runs
 pub mod Forth
 pub mod Lists
+pub mod Sound
 pub mod Canonical
 pub mod Sheets
 pub mod Lengths

@@ -22,7 +22,8 @@ use Rattle.sheet.specs.Writer.{areaByte, featuresBody, sizesBody, keyBod
 use Rattle.sheet.specs.Writer.{keysWritten, profilesWritten, locksWritten, written}
 use Rattle.sheet.specs.Within.{KeysRise, SlotFine, SlotsFine, LocksRise, Within}
 use Rattle.sheet.specs.declared.Kind.{Kind}
-use Rattle.sheet.specs.declared.Kind.the-variants.{FeatureRecord, SizeRecord, KeyRecord, ProfileRecord, LockRecord}
+use Rattle.sheet.specs.declared.Kind.the-variants.{FeatureRecord, SizeRecord, KeyRecord}
+use Rattle.sheet.specs.declared.Kind.the-variants.{ProfileRecord, LockRecord}
 use Rattle.sheet.specs.declared.Fault.the-variants.{Many}
 use Rattle.sheet.specs.declared.Features.{Features}
 use Rattle.sheet.specs.declared.Sizes.{Sizes}
@@ -36,7 +37,8 @@ use Rattle.sheet.proofs.Bits.{two-back}
 use Rattle.sheet.proofs.Tables.{longer, filled-empty, filled-all, used-length, used-filled}
 use Rattle.sheet.proofs.States.{marks-of, terms-of, state, slot-kept, lock-kept}
 use Rattle.sheet.proofs.KeyTables.{keys-back, table-back}
-use Rattle.sheet.proofs.Back.{features-length, features-back, features-fine, sizes-length, sizes-back, sizes-fine}
+use Rattle.sheet.proofs.Back.{features-length, features-back, features-fine}
+use Rattle.sheet.proofs.Back.{sizes-length, sizes-back, sizes-fine}
 use Rattle.sheet.proofs.Back.{key-length, key-fine, profile-length, profile-back, profile-fine}
 use Rattle.sheet.proofs.Back.{lock-length, lock-back, lock-fine}
 
@@ -94,7 +96,8 @@ module _ (limit : ℕ) (f : Features) (z : Sizes) (R : Reading) (r : List ℕ) w
         let g = go-on limit 3 KeyRecord (keyBody x) (keysWritten ks ++ r) k (withKey k (keyBody x)) refl refl
         (order-on last 3 l h (omega arith)) (lt-leb limit n (omega arith)) (key-length x (w .1)) (rw fine) at in
         rw (append-assoc (keyBody x) (keysWritten ks) r, g)
-        (keys-walk ks (n + 1) (at + 1 + 36) 3 (x .id + 1) (omega arith) (omega arith) (w .2) (omega arith) (omega arith))
+        (keys-walk ks (n + 1) (at + 1 + 36) 3 (x .id + 1) (omega arith) (omega arith) (w .2) (omega arith)
+        (omega arith))
 
   module _ (keys : ℕ) (all : List Slot) (fits : length all ≤ profileLimit)
       (on : (at last profiles id number : ℕ) → 2 ≤ last → last ≤ 4
@@ -274,7 +277,7 @@ unfolding walk after judgedOf openedOf kindOf tooMany
 past limit at k t l h e =
     rw (order-on (k .marks .last) 3 l h (omega arith), le-leb limit (k .marks .keys) (le-of-eq (sym e)))
 
--- One key record more than there may be is 34 where it stands, whatever follows its kind byte: before 30, and before 33.
+-- One key record more than there may be is 34 where it stands, whatever follows its kind byte: before 30 and 33.
 pub many-keys : (limit : ℕ) (f : Features) (z : Sizes) (ks : List Key) (t : List ℕ)
     → implies (f .iam3) (f .iam) ≡ true → z .identity ≤ wordLimit → z .user ≤ wordLimit
     → KeysRise 0 ks → length ks ≡ limit

@@ -1,5 +1,5 @@
--- Accepted sheets and setups within the rules belong together one to one; and the keys of an accepted sheet, as the walk
--- meets them, are its key table's.
+-- Accepted sheets and setups within the rules belong together one to one; and the keys of an accepted sheet, as the
+-- walk meets them, are its key table's.
 use mathlib.Core.Path.{_≡_, refl, sym, ap, subst, _∙_}
 use mathlib.Core.Bool.{true}
 use mathlib.Core.List.{List, [], _∷_, _++_, append-assoc, append-nil}
@@ -29,7 +29,8 @@ use Rattle.sheet.proofs.KeyTables.{keys-back, table-back}
 use Rattle.sheet.proofs.Lists.{slots-join, slots-absent, written-absent, written-join}
 use Rattle.sheet.proofs.Walks.{Step}
 use Rattle.sheet.proofs.Runs.{Run, run}
-use Rattle.sheet.proofs.Canonical.{Sound, none, first, more, opening, sound-step}
+use Rattle.sheet.proofs.Sound.{Sound, none, first, more, opening}
+use Rattle.sheet.proofs.Canonical.{sound-step}
 
 -- a table that was filled from the front
 module _ {A : Type 0} (z : A) (limit : ℕ) (xs : List A) (few : length xs ≤ limit) where
@@ -97,7 +98,8 @@ module _ (limit : ℕ) where
       locks = rw (filled-used noLock lockLimit ls (w .lock-few)) (w .locks);
     },
     rw (filled-used noLock lockLimit ls (w .lock-few), slots-written ss)
-        (glue-end (1 ∷ featuresBody f) (2 ∷ sizesBody z) (keysWritten ks) (profilesWritten 0 ss) (locksWritten ls) (6 ∷ [])),
+        (glue-end (1 ∷ featuresBody f) (2 ∷ sizesBody z) (keysWritten ks) (profilesWritten 0 ss) (locksWritten ls)
+        (6 ∷ [])),
   )
 
   -- the keys stand in the key table

@@ -1,5 +1,5 @@
--- The scope paper, "The tag sheet": one record judged against those before it. `limit` is how many key records there may
--- be.
+-- The scope paper, "The tag sheet": one record judged against those before it. `limit` is how many key records there
+-- may be.
 use mathlib.Core.Path.{_≡_}
 use Prim.Native.Nat.{ℕ, _+_}
 use mathlib.Core.Bool.{Bool, true, false, not}
@@ -167,8 +167,8 @@ withLock k b = record {
   };
 }
 
--- A whole record of kind q with the body b. 33: a value against its rule; else it is taken. (A byte of no kind was refused
--- before.)
+-- A whole record of kind q with the body b. 33: a value against its rule; else it is taken. (A byte of no kind was
+-- refused before.)
 abbrev pub takenIf : Bool → Kind → Kept → Kept → Judged
 takenIf fits q k next = pick fits (taken q next) (refused Value k)
 

@@ -31,16 +31,16 @@ whole t n = record { verdict = Whole; terms = t; keys = n }
 abbrev pub ends : Kept → Reading
 ends k = whole (k .terms) (k .marks .keys)
 
--- What follows from the finding on the record at a place, with the bytes t after its kind byte: the reading goes on behind
--- it, or the sheet ends there (35 at the first byte that follows), or it is refused at that place.
+-- What follows from the finding on the record at a place, with the bytes t after its kind byte: the reading goes on
+-- behind it, or the sheet ends there (35 at the first byte that follows), or it is refused at that place.
 unfoldable pub after : Finding → Kept → ℕ → List ℕ → Reading → Reading
 after (Taken n) k at t r = r
 after Ended k at [] r = ends k
 after Ended k at (x ∷ t) r = refusedAt Tail (at + 1)
 after (Faulty f) k at t r = refusedAt f at
 
--- The bytes from a place on. They are passed one by one: `body` of them belong to the record that was judged last, and the
--- next is a kind byte. So the walk falls with the bytes themselves, and needs no other bound.
+-- The bytes from a place on. They are passed one by one: `body` of them belong to the record that was judged last, and
+-- the next is a kind byte. So the walk falls with the bytes themselves, and needs no other bound.
 unfoldable pub walk : ℕ → List ℕ → ℕ → ℕ → Kept → Reading
 walk limit [] body at k = refusedAt Cut at
 walk limit (b ∷ t) (suc body) at k = walk limit t body (at + 1) k

@@ -1,18 +1,17 @@
 // The tag sheet of the scope paper: what a soft tag is set up from. What each function means stands in specs/.
+mod blank;
 mod bodies;
 mod kinds;
 pub mod places; // places.rt: a sheet from a place on
 mod records;
 
-use memory::Area;
 use memory::Lock;
 use memory::Profile;
-use memory::Word;
 ghost use mathlib.Core.Path.{_≡_};
 ghost use Rattle.sheet.specs.Limits.{keyLimit};
 ghost use Rattle.sheet.specs.Kinds.{numberOf};
 ghost use Rattle.sheet.specs.KeyTable.{keyTable};
-ghost use Rattle.sheet.specs.Setups.{emptyTerms, nothingKept};
+ghost use Rattle.sheet.specs.Setups.{nothingKept};
 ghost use Rattle.sheet.specs.Judgement.{judgedOf, findingNumber, judgedNumber};
 ghost use Rattle.sheet.specs.Sheet.{refusedAt, readOf, verdictNumber, verdictPlace, readNumber, readPlace};
 
@@ -112,8 +111,8 @@ pub struct Locks {
     pub table: [Lock; LOCKS],
 }
 
-// The terms on which a tag serves: what a sheet says beside its keys, which stay in the sheet (`key_table`). An entry that
-// no record filled is zero, so that equal meanings are equal values.
+// The terms on which a tag serves: what a sheet says beside its keys, which stay in the sheet (`key_table`). An entry
+// that no record filled is zero, so that equal meanings are equal values.
 pub struct Terms {
     pub features: Features,
     pub sizes: Sizes,
@@ -121,9 +120,9 @@ pub struct Terms {
     pub locks: Locks,
 }
 
-// What the next record is held against: the kind of the record before (0 where there is none), how many keys and how many
-// profiles there are, the least KeyID and the least profile number that may come, and the area and the end of the lock
-// before (0 where there is none).
+// What the next record is held against: the kind of the record before (0 where there is none), how many keys and how
+// many profiles there are, the least KeyID and the least profile number that may come, and the area and the end of the
+// lock before (0 where there is none).
 pub struct Marks {
     pub last: u8,
     pub keys: usize,
@@ -188,55 +187,13 @@ pub fn number(f: Fault) -> u8
     }
 }
 
-fn empty() -> Terms
-    ensures { λ r. ⌜ r ≡ emptyTerms ⌝ }
-{
-    let p = Profile {
-        area: Area::Identity,
-        base: Word(0),
-        words: 0,
-    };
-    let s = Slot {
-        present: false,
-        profile: p,
-    };
-    let l = Lock {
-        area: Area::Identity,
-        first: Word(0),
-        words: 0,
-    };
-    Terms {
-        features: Features {
-            blocksize1: false,
-            rev0: false,
-            rev1: false,
-            iam: false,
-            iam3: false,
-            mam: false,
-            mode0: false,
-            mode1: false,
-            mode2: false,
-            mode3: false,
-        },
-        sizes: Sizes {
-            identity: 0,
-            user: 0,
-        },
-        profiles: [s; PROFILES],
-        locks: Locks {
-            count: 0,
-            table: [l; LOCKS],
-        },
-    }
-}
-
 /// What is kept before the first record.
 ///
 /// Ruled out: a start that takes 02 first; one that counts a key.
 pub fn start() -> Kept
     ensures { λ r. ⌜ r ≡ nothingKept ⌝ }
 {
-    let terms = empty();
+    let terms = blank::empty();
     Kept {
         marks: Marks {
             last: 0,
@@ -283,7 +240,7 @@ pub fn judge(rest: &[u8], kept: Kept) -> Judged
 fn refuse(f: Fault, at: usize) -> Reading
     ensures { λ r. ⌜ r ≡ refusedAt f at ⌝ }
 {
-    let terms = empty();
+    let terms = blank::empty();
     Reading {
         verdict: Verdict::Refused(f, at),
         terms,
@@ -302,8 +259,8 @@ pub fn read(s: &[u8]) -> Reading
     places::read_from(s, 0, start())
 }
 
-/// The part of a sheet where so many key records stand, as far as the sheet goes. For the number that `read` gives, it is
-/// the sheet's key table.
+/// The part of a sheet where so many key records stand, as far as the sheet goes. For the number that `read` gives, it
+/// is the sheet's key table.
 ///
 /// Ruled out: a table that starts with the size record; one that leaves the last record out.
 pub fn key_table(sheet: &[u8], keys: usize) -> &[u8]

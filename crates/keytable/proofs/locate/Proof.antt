@@ -28,10 +28,10 @@ shared-slice-read-if1 c = omega arith
 
 returns : tie.Need-returns Inv-loop μ-loop
 returns c =
-    let t = c .before .before in
-    let l = t .before in
+    let l = c .before .before .before in
     let a = l .before .args in
-    here (a .keyid) (a .keys .now) _ (l .loop .left) (l .loop .at) (t .loop-test .taken) (c .if1 .taken) (l .loop .inv .1)
+    let i = l .loop in
+    here (a .keyid) (a .keys .now) _ (i .left) (i .at) (omega arith) (c .if1 .taken) (i .inv .1)
 
 add-at : tie.Need-add-at Inv-loop μ-loop
 add-at c = omega arith
@@ -44,17 +44,17 @@ loop-less c = omega arith
 
 loop-again : tie.Need-loop-again Inv-loop μ-loop
 loop-again c =
-    let t = c .before .before in
-    let l = t .before in
+    let l = c .before .before .before in
     let a = l .before .args in
     let i = l .loop in
-    (omega arith, further (a .keyid) (a .keys .now) _ (i .left) (i .at) (t .loop-test .taken) (c .if1 .left) (i .inv .1))
+    let h = further (a .keyid) (a .keys .now) _ (i .left) (i .at) (omega arith) (c .if1 .left) (i .inv .1) in
+    (omega arith, h)
 
 returns-2 : tie.Need-returns-2 Inv-loop μ-loop
 returns-2 c =
     let l = c .before in
     let a = l .before .args in
-    none-left (a .keyid) (a .keys .now) _ (l .loop .left) (l .loop .at) _ (c .loop-test .left) (l .loop .inv .1)
+    none-left (a .keyid) (a .keys .now) _ (l .loop .left) (l .loop .at) _ (omega arith) (l .loop .inv .1)
 
 pub locate-spec : {M : Type 1} → statement M
 locate-spec =

@@ -20,11 +20,21 @@ returns-2 c = simp (lt-ltb _ _ (c .before .if1 .left), le-ltb _ _ (c .if2 .taken
 
 returns-3 : tie.Need-returns-3
 unfolding featuresRule
-returns-3 c = simp (lt-ltb _ _ (c .before .before .if1 .left), lt-ltb _ _ (c .before .if2 .left), eq-eqb _ _ (c .if3 .taken))
+returns-3 c =
+    simp (
+      lt-ltb _ _ (c .before .before .if1 .left),
+      lt-ltb _ _ (c .before .if2 .left),
+      eq-eqb _ _ (c .if3 .taken),
+    )
 
 returns-4 : tie.Need-returns-4
 unfolding featuresRule
-returns-4 c = simp (lt-ltb _ _ (c .before .before .if1 .left), lt-ltb _ _ (c .before .if2 .left), ne-eqb _ _ (c .if3 .left))
+returns-4 c =
+    simp (
+      lt-ltb _ _ (c .before .before .if1 .left),
+      lt-ltb _ _ (c .before .if2 .left),
+      ne-eqb _ _ (c .if3 .left),
+    )
 
 pub features-fit-spec : {M : Type 1} → statement M
 features-fit-spec =

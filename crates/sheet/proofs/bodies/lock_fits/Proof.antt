@@ -16,24 +16,40 @@ is-inside-requires : tie.Need-is-inside-requires
 is-inside-requires c κs = search needs
 
 returns : tie.Need-returns
-returns c = let a = c .before .before .before .before .before .before .args in
-    lock-outside (a .area) (a .word) (a .z) (a .b .now) _ _ _ (c .before .before .before .word-at .ensures) (c .before .before .word-at2 .ensures) (c .before .is-inside .ensures) (c .if1 .taken)
+returns c =
+    let i = c .before in
+    let w = i .before .before in
+    let a = w .before .before .before .args in
+    lock-outside (a .area) (a .word) (a .z) (a .b .now) _ _ _ (w .word-at .ensures) (i .before .word-at2 .ensures)
+    (i .is-inside .ensures) (c .if1 .taken)
 
 returns-2 : tie.Need-returns-2
-returns-2 c = let a = c .before .before .before .before .before .before .before .args in
-    lock-falls (a .area) (a .word) (a .z) (a .b .now) _ _ _ (c .before .before .before .before .word-at .ensures) (c .before .before .before .word-at2 .ensures) (c .before .before .is-inside .ensures) (c .before .if1 .left) (c .if2 .taken)
+returns-2 c =
+    let i = c .before .before in
+    let w = i .before .before in
+    let a = w .before .before .before .args in
+    lock-falls (a .area) (a .word) (a .z) (a .b .now) _ _ _ (w .word-at .ensures) (i .before .word-at2 .ensures)
+    (i .is-inside .ensures) (c .before .if1 .left) (c .if2 .taken)
 
 long-requires : tie.Need-long-requires
 long-requires c κs = search needs
 
 returns-3 : tie.Need-returns-3
-returns-3 c = let a = c .before .before .before .before .before .before .before .before .before .args in
-    lock-same (a .area) (a .word) (a .z) (a .b .now) _ _ _ (c .before .before .before .before .before .before .word-at .ensures) (c .before .before .before .before .before .word-at2 .ensures) (c .before .before .before .before .is-inside .ensures) (c .before .before .before .if1 .left)
-    _ (c .long .ensures .0) (c .before .before .if2 .left) (c .before .if3 .taken)
+returns-3 c =
+    let i = c .before .before .before .before in
+    let w = i .before .before in
+    let a = w .before .before .before .args in
+    lock-same (a .area) (a .word) (a .z) (a .b .now) _ _ _ (w .word-at .ensures) (i .before .word-at2 .ensures)
+    (i .is-inside .ensures) (c .before .before .before .if1 .left) _ (c .long .ensures .0)
+    (c .before .before .if2 .left) (c .before .if3 .taken)
 
 returns-4 : tie.Need-returns-4
-returns-4 c = let a = c .before .before .before .before .before .before .before .before .args in
-    lock-rises (a .area) (a .word) (a .z) (a .b .now) _ _ _ (c .before .before .before .before .before .word-at .ensures) (c .before .before .before .before .word-at2 .ensures) (c .before .before .before .is-inside .ensures) (c .before .before .if1 .left) (c .before .if2 .left) (c .if3 .left)
+returns-4 c =
+    let i = c .before .before .before in
+    let w = i .before .before in
+    let a = w .before .before .before .args in
+    lock-rises (a .area) (a .word) (a .z) (a .b .now) _ _ _ (w .word-at .ensures) (i .before .word-at2 .ensures)
+    (i .is-inside .ensures) (c .before .before .if1 .left) (c .before .if2 .left) (c .if3 .left)
 
 pub lock-fits-spec : {M : Type 1} → statement M
 lock-fits-spec =

@@ -35,7 +35,11 @@ is-inside-requires c κs = search needs
 
 returns-3 : tie.Need-returns-3
 unfolding profileRule profileLimit
-returns-3 c = simp (le-leb _ _ (c .before .before .before .before .before .if1 .left), lt-ltb _ _ (c .before .before .before .before .if2 .left)) (cc)
+returns-3 c =
+    simp (
+      le-leb _ _ (c .before .before .before .before .before .if1 .left),
+      lt-ltb _ _ (c .before .before .before .before .if2 .left),
+    ) (cc)
 
 pub profile-fits-spec : {M : Type 1} → statement M
 profile-fits-spec =

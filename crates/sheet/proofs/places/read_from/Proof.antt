@@ -112,7 +112,8 @@ returns-4 : tie.Need-returns-4 Inv-loop μ-loop
 returns-4 c =
     let a = c .before .before .before .before .args in
     let l = c .before .before .loop in
-    read-as _ _ (c .refuse3 .ensures ∙ sym (read-cut keyLimit (a .s .now) (l .at) (l .kept) (c .before .loop-test .left)) ∙ l .inv)
+    let h = read-cut keyLimit (a .s .now) (l .at) (l .kept) (c .before .loop-test .left) in
+    read-as _ _ (c .refuse3 .ensures ∙ sym h ∙ l .inv)
 
 pub read-from-spec : {M : Type 1} → statement M
 read-from-spec =

@@ -11,7 +11,12 @@ features-of-requires c κs = search needs
 
 returns : tie.Need-returns
 unfolding recordOf withFeatures
-returns c = rw (← c .before .before .before .before .features-fit .ensures, c .before .before .before .if1 .taken, ← c .before .before .features-of .ensures)
+returns c =
+    rw (
+      ← c .before .before .before .before .features-fit .ensures,
+      c .before .before .before .if1 .taken,
+      ← c .before .before .features-of .ensures,
+    )
 
 returns-2 : tie.Need-returns-2
 unfolding recordOf withFeatures

@@ -43,7 +43,16 @@ add-ls c = omega arith
 
 returns : tie.Need-returns
 unfolding recordOf withLock
-returns c = rw (← c .before .before .before .before .before .before .before .before .before .before .lock-fits .ensures, c .before .before .before .before .before .before .before .before .before .if1 .taken, ← c .before .before .before .before .before .before .before .before .lock-of .ensures, c .before .before .long2 .ensures .0, c .before .before .before .before .long .ensures .0, c .before .before .before .word-at2 .ensures, c .before .before .before .before .before .word-at .ensures)
+returns c =
+    rw (
+      ← c .before .before .before .before .before .before .before .before .before .before .lock-fits .ensures,
+      c .before .before .before .before .before .before .before .before .before .if1 .taken,
+      ← c .before .before .before .before .before .before .before .before .lock-of .ensures,
+      c .before .before .long2 .ensures .0,
+      c .before .before .before .before .long .ensures .0,
+      c .before .before .before .word-at2 .ensures,
+      c .before .before .before .before .before .word-at .ensures,
+    )
 
 returns-2 : tie.Need-returns-2
 unfolding recordOf withLock

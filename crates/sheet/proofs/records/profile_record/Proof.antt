@@ -22,8 +22,12 @@ add-m c = omega arith
 
 add-m-2 : tie.Need-add-m-2
 unfolding profileLimit
-add-m-2 c = let a = c .before .before .before .before .before .before .before .before .args in
-    let h = profile-place _ _ (a .b .now) (sym (c .before .before .before .before .before .profile-fits .ensures) ∙ c .before .before .before .before .if1 .taken) in omega arith
+add-m-2 c =
+    let i = c .before .before .before .before in
+    let f = i .before in
+    let a = f .before .before .before .args in
+    let h = profile-place _ _ (a .b .now) (sym (f .profile-fits .ensures) ∙ i .if1 .taken) in
+    omega arith
 
 cast-at : tie.Need-cast-at
 unfolding profileLimit
@@ -31,17 +35,30 @@ cast-at c = omega (arith, c .before .before .before .shared-slice-known2 .given 
 
 mul-p : tie.Need-mul-p
 unfolding profileLimit
-mul-p c = let a = c .before .before .before .before .before .before .before .before .before .args in
-    let h = profile-place _ _ (a .b .now) (sym (c .before .before .before .before .before .before .profile-fits .ensures) ∙ c .before .before .before .before .before .if1 .taken) in omega arith
+mul-p c =
+    let i = c .before .before .before .before .before in
+    let f = i .before in
+    let a = f .before .before .before .args in
+    let h = profile-place _ _ (a .b .now) (sym (f .profile-fits .ensures) ∙ i .if1 .taken) in
+    omega arith
 
 element-set-from-p : tie.Need-element-set-from-p
 unfolding profileLimit
-element-set-from-p c = let a = c .before .before .before .before .before .before .before .before .before .args in
-    let h = profile-place _ _ (a .b .now) (sym (c .before .before .before .before .before .before .profile-fits .ensures) ∙ c .before .before .before .before .before .if1 .taken) in omega arith
+element-set-from-p c =
+    let i = c .before .before .before .before .before in
+    let f = i .before in
+    let a = f .before .before .before .args in
+    let h = profile-place _ _ (a .b .now) (sym (f .profile-fits .ensures) ∙ i .if1 .taken) in
+    omega arith
 
 returns : tie.Need-returns
 unfolding recordOf withProfile
-returns c = rw (← c .before .before .before .before .before .before .profile-fits .ensures, c .before .before .before .before .before .if1 .taken, ← c .before .before .before .before .slot-of .ensures)
+returns c =
+    rw (
+      ← c .before .before .before .before .before .before .profile-fits .ensures,
+      c .before .before .before .before .before .if1 .taken,
+      ← c .before .before .before .before .slot-of .ensures,
+    )
 
 returns-2 : tie.Need-returns-2
 unfolding recordOf withProfile

@@ -11,7 +11,12 @@ sizes-of-requires c κs = search needs
 
 returns : tie.Need-returns
 unfolding recordOf withSizes
-returns c = rw (← c .before .before .before .before .sizes-fit .ensures, c .before .before .before .if1 .taken, ← c .before .before .sizes-of .ensures)
+returns c =
+    rw (
+      ← c .before .before .before .before .sizes-fit .ensures,
+      c .before .before .before .if1 .taken,
+      ← c .before .before .sizes-of .ensures,
+    )
 
 returns-2 : tie.Need-returns-2
 unfolding recordOf withSizes

@@ -1,8 +1,8 @@
 use mathlib.Core.Path.{refl}
 use Rattle.sheet.specs.Limits.{profileLimit, lockLimit}
 use Rattle.sheet.specs.Setups.{noFeatures, noSlot, noLock, emptyTerms}
-use Rattle.sheet.proofs.empty.Statement.{statement}
-use Rattle.sheet.proofs.empty.Tie as tie
+use Rattle.sheet.proofs.blank.empty.Statement.{statement}
+use Rattle.sheet.proofs.blank.empty.Tie as tie
 
 returns : tie.Need-returns
 unfolding emptyTerms noFeatures noSlot noLock profileLimit lockLimit
