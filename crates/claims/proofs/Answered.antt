@@ -20,17 +20,18 @@ use Rattle.sheet.specs.declared.Judged.{Judged}
 use Rattle.sheet.specs.declared.Opened.{Opened}
 use Rattle.sheet.specs.declared.Opened.the-variants.{Open, Shut}
 use Rattle.sheet.specs.declared.Reading.{Reading}
-use Rattle.sheet.specs.declared.Setup.{Setup}
 use Rattle.sheet.specs.declared.Verdict.the-variants.{Refused as NoSheet}
 use Rattle.sheet.specs.Kinds as sheet
 use Rattle.sheet.specs.Kinds.{kindOf, bodyLength}
-use Rattle.sheet.specs.Setups.{emptySetup}
+use Rattle.sheet.specs.Setups.{emptyTerms}
 use Rattle.sheet.specs.Records.{featuresRule, sizesRule, keyRule, profileRule, lockRule}
 use Rattle.sheet.specs.Judgement.{judgedOf, openedOf, recordOf, taken, refused, onlyIf, withFeatures, withSizes, withKey, withProfile, withLock}
+use Rattle.sheet.specs.Limits.{keyLimit}
 use Rattle.sheet.specs.Sheet.{readOf, walk, after}
 use Rattle.offer.specs.declared.Fault.{Fault as TagFault}
 use Rattle.offer.specs.declared.Fault.the-variants.{OtherError, NotSupported, MemoryOverrun, MemoryWriteError, OutOfTurn, ProofWrong, BenchFault}
 use Rattle.tag.specs.declared.Tag.{Tag}
+use Rattle.tag.specs.States.{keyed}
 use Rattle.offer.specs.Outcomes as outcomes
 use Rattle.tag.specs.Reactions.{lent}
 use Rattle.tag.proofs.Kept.{refusal-kept}
@@ -48,15 +49,15 @@ tag-number ProofWrong = (omega arith, omega arith)
 tag-number BenchFault = (omega arith, omega arith)
 
 pub tag-answers : TagAnswers
-tag-answers tag identity user b x f h e =
+tag-answers table tag identity user b x f h e =
     let c = lent (b .message) (b .draws) (b .room) identity user in
-    let k = refusal-kept c tag f (sym (h .outcome) ∙ e) in
+    let k = refusal-kept c (keyed tag table) f (sym (h .outcome) ∙ e) in
     record {
       number = tag-number f;
       silent = h .reply ∙ ap (λ (l : List ℕ). over l (b .room)) (k .silent);
       identity-kept = h .identity ∙ k .identity;
       user-kept = h .user ∙ k .user;
-      setup = ap (λ (t : Tag). t .setup) (h .next);
+      terms = ap (λ (t : Tag). t .terms) (h .next);
       session = ap (λ (t : Tag). t .session) (h .next) ∙ k .session;
     }
 
@@ -83,8 +84,8 @@ unfolding recordOf
 kind-leaves FeatureRecord b k = record-leaves (featuresRule b) FeatureRecord k (withFeatures k b)
 kind-leaves SizeRecord b k = record-leaves (sizesRule b) SizeRecord k (withSizes k b)
 kind-leaves KeyRecord b k = record-leaves (keyRule (k .marks .id) b) KeyRecord k (withKey k b)
-kind-leaves ProfileRecord b k = record-leaves (profileRule (k .marks .number) (k .setup .sizes) b) ProfileRecord k (withProfile k b)
-kind-leaves LockRecord b k = record-leaves (lockRule (k .marks .area) (k .marks .word) (k .setup .sizes) b) LockRecord k (withLock k b)
+kind-leaves ProfileRecord b k = record-leaves (profileRule (k .marks .number) (k .terms .sizes) b) ProfileRecord k (withProfile k b)
+kind-leaves LockRecord b k = record-leaves (lockRule (k .marks .area) (k .marks .word) (k .terms .sizes) b) LockRecord k (withLock k b)
 kind-leaves EndRecord b k = λ f e. refl
 kind-leaves NoRecord b k = λ f e. refl
 
@@ -92,34 +93,34 @@ opened-leaves : (o : Opened) (k : Kept) (j : Judged) → Leaves k j → Leaves k
 opened-leaves Open k j h = h
 opened-leaves (Shut g) k j h = λ f e. refl
 
-judged-leaves : (s : List ℕ) (k : Kept) → Leaves k (judgedOf s k)
+judged-leaves : (s : List ℕ) (k : Kept) → Leaves k (judgedOf keyLimit s k)
 unfolding judgedOf
 judged-leaves [] k = λ f e. refl
-judged-leaves (b ∷ t) k = opened-leaves (openedOf b (length t) k) k _ (kind-leaves (kindOf b) _ k)
+judged-leaves (b ∷ t) k = opened-leaves (openedOf keyLimit b (length t) k) k _ (kind-leaves (kindOf b) _ k)
 
 pub record-answers : RecordAnswers
 record-answers s k f e = (sheet-number f, judged-leaves s k f e)
 
 -- a sheet that is refused gives no tag
 abbrev Empty : Reading → Type 0
-Empty r = (f : SheetFault) (at : ℕ) → r .verdict ≡ NoSheet f at → r .setup ≡ emptySetup
+Empty r = (f : SheetFault) (at : ℕ) → r .verdict ≡ NoSheet f at → (r .terms ≡ emptyTerms) × (r .keys ≡ 0)
 
-after-empty : (g : Finding) (s : Setup) (at : ℕ) (t : List ℕ) (r : Reading) → Empty r → Empty (after g s at t r)
+after-empty : (g : Finding) (s : Kept) (at : ℕ) (t : List ℕ) (r : Reading) → Empty r → Empty (after g s at t r)
 unfolding after
 after-empty (Taken n) s at t r h = h
 after-empty Ended s at [] r h = λ f i e. let z : _≡_ {A = ℕ} 0 1 = cc in absurd (omega arith)
-after-empty Ended s at (x ∷ t) r h = λ f i e. refl
-after-empty (Faulty g) s at t r h = λ f i e. refl
+after-empty Ended s at (x ∷ t) r h = λ f i e. (refl, refl)
+after-empty (Faulty g) s at t r h = λ f i e. (refl, refl)
 
-walk-empty : (s : List ℕ) (body at : ℕ) (k : Kept) → Empty (walk s body at k)
+pub walk-empty : (s : List ℕ) (body at : ℕ) (k : Kept) → Empty (walk keyLimit s body at k)
 unfolding walk
-walk-empty [] body at k = λ f i e. refl
+walk-empty [] body at k = λ f i e. (refl, refl)
 walk-empty (b ∷ t) (suc body) at k = walk-empty t body (at + 1) k
-walk-empty (b ∷ t) zero at k = after-empty _ _ at t _ (walk-empty t (bodyLength (kindOf b)) (at + 1) (judgedOf (b ∷ t) k .kept))
+walk-empty (b ∷ t) zero at k = after-empty _ _ at t _ (walk-empty t (bodyLength (kindOf b)) (at + 1) (judgedOf keyLimit (b ∷ t) k .kept))
 
 pub sheet-answers : SheetAnswers
 unfolding readOf
-sheet-answers s f at e = (sheet-number f, walk-empty s _ _ _ f at e)
+sheet-answers s f at e = let h = walk-empty s _ _ _ f at e in (sheet-number f, h .0, h .1)
 
 -- ---- chaining and MAC, and the parts of messages
 

@@ -1,49 +1,89 @@
--- One tag for examples: the tag of a sheet with IAM1, IAM2, IAM3 and MAM, ProtMode 0, a user area of four words, a key record of KeyID 00 and one profile, which it may use.
-use mathlib.Core.Path.{_≡_, refl}
+-- One tag for examples: the tag of a sheet with IAM1, IAM2, IAM3 and MAM, ProtMode 0, a user area of four words, a key
+-- record of KeyID 00 and one profile, which it may use.
+use mathlib.Core.Path.{_≡_, refl, ap, _∙_}
 use mathlib.Core.Bool.{true, false}
 use mathlib.Core.List.{List, [], _∷_, _++_}
 use Prim.Native.Nat.{ℕ}
 use lib.ListN.{set, replicate}
 use Rattle.memory.specs.declared.Area.the-variants.{User}
 use Rattle.sheet.specs.declared.Key.{Key}
-use Rattle.sheet.specs.declared.Setup.{Setup}
+use Rattle.sheet.specs.declared.Terms.{Terms}
+use Rattle.sheet.specs.declared.Reading.{Reading}
+use Rattle.sheet.specs.Setups.{Setup, setupOf}
+use Rattle.sheet.specs.KeyTable.{recordsIn, keysIn, keyTable}
 use Rattle.sheet.specs.Limits.{keyLimit, profileLimit, lockLimit, wordLimit}
 use Rattle.sheet.specs.Kinds.{kindOf, inOrder}
-use Rattle.sheet.specs.Setups.{noKey, noSlot, noLock, emptySetup, noMarks, nothingKept}
-use Rattle.sheet.specs.Records.{areaOf, wordsIn, inside, allZero, featuresRule, featuresOf, sizesRule, sizesOf, keyRule, keyOf, profileRule, slotOf}
-use Rattle.sheet.specs.Judgement.{tooMany, openedOf, withFeatures, withSizes, withKey, withProfile, recordOf, judgedOf}
-use Rattle.sheet.specs.Sheet.{after, walk, readOf, whole}
+use Rattle.sheet.specs.Setups.{noSlot, noLock, emptyTerms, noMarks, nothingKept}
+use Rattle.sheet.specs.Records.{areaOf, wordsIn, inside, allZero, featuresRule, featuresOf, sizesRule, sizesOf}
+use Rattle.sheet.specs.Records.{keyRule, keyOf, profileRule, slotOf}
+use Rattle.sheet.specs.Judgement.{tooMany, openedOf, withFeatures, withSizes, withKey, withProfile, recordOf}
+use Rattle.sheet.specs.Judgement.{judgedOf}
+use Rattle.sheet.specs.Sheet.{after, walk, readOf, whole, saidOf}
 use Rattle.tag.specs.declared.Tag.{Tag}
-use Rattle.tag.specs.States.{poweredUp}
+use Rattle.tag.specs.States.{awake}
 use Rattle.tag.specs.Plays.{Brought}
 
 abbrev pub key : Key
 key = record { id = 0; mac = false; mpi = 1; enc = replicate 16 0; mackey = replicate 16 0 }
 
-unfoldable pub setup : Setup
-setup = record {
-  features = record { blocksize1 = false; rev0 = false; rev1 = false; iam = true; iam3 = true; mam = true; mode0 = true; mode1 = false; mode2 = false; mode3 = false };
+unfoldable pub terms : Terms
+terms = record {
+  features = record {
+    blocksize1 = false;
+    rev0 = false;
+    rev1 = false;
+    iam = true;
+    iam3 = true;
+    mam = true;
+    mode0 = true;
+    mode1 = false;
+    mode2 = false;
+    mode3 = false;
+  };
   sizes = record { identity = 0; user = 4 };
-  keys = record { count = 1; table = set (replicate keyLimit noKey) 0 key };
-  profiles = set (replicate profileLimit noSlot) 0 (record { present = true; profile = record { area = User; base = record { 0 = 0 }; words = 4 } });
+  profiles = set (replicate profileLimit noSlot) 0
+      (record { present = true; profile = record { area = User; base = record { 0 = 0 }; words = 4 } });
   locks = record { count = 0; table = replicate lockLimit noLock };
 }
+
+-- its key table
+abbrev pub table : List ℕ
+table = 0x03 ∷ 0x00 ∷ 0x00 ∷ 0x00 ∷ 0x01 ∷ replicate 16 0 ++ replicate 16 0
+
+unfoldable pub setup : Setup
+setup = record {
+  features = terms .features;
+  sizes = terms .sizes;
+  keys = key ∷ [];
+  profiles = terms .profiles;
+  locks = terms .locks;
+}
+
+pub its-setup : setupOf terms table ≡ setup
+unfolding setup keysIn recordsIn keyOf
+its-setup = refl
 
 -- its sheet
 abbrev pub sheet : List ℕ
 sheet =
     0x01 ∷ 0x38 ∷ 0x01
     ∷ 0x02 ∷ 0x00 ∷ 0x00 ∷ 0x00 ∷ 0x04
-    ∷ 0x03 ∷ 0x00 ∷ 0x00 ∷ 0x00 ∷ 0x01 ∷ replicate 16 0 ++ replicate 16 0
+    ∷ table
     ++ (0x04 ∷ 0x00 ∷ 0x01 ∷ 0x00 ∷ 0x00 ∷ 0x00 ∷ 0x04
     ∷ 0x06 ∷ [])
 
-pub setup-read : readOf sheet ≡ whole setup
-unfolding setup readOf walk after judgedOf openedOf tooMany kindOf inOrder recordOf withFeatures withSizes withKey withProfile featuresRule featuresOf sizesRule sizesOf keyRule keyOf profileRule slotOf inside wordsIn areaOf allZero wordLimit keyLimit profileLimit lockLimit nothingKept noMarks emptySetup
-setup-read = refl
+pub sheet-read : readOf keyLimit sheet ≡ whole terms 1
+unfolding terms readOf walk after judgedOf openedOf tooMany kindOf inOrder recordOf withFeatures withSizes withKey
+    withProfile featuresRule featuresOf sizesRule sizesOf keyRule profileRule slotOf inside wordsIn areaOf allZero
+    wordLimit keyLimit profileLimit lockLimit nothingKept noMarks emptyTerms
+sheet-read = refl
+
+pub said : saidOf keyLimit sheet ≡ setup
+unfolding saidOf keyTable
+said = ap (λ (r : Reading). setupOf (r .terms) (keyTable sheet (r .keys))) sheet-read ∙ its-setup
 
 unfoldable pub bench : Tag
-bench = poweredUp setup
+bench = awake terms
 
 -- its areas
 abbrev pub user : List ℕ

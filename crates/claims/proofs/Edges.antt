@@ -9,6 +9,7 @@ use Rattle.field.specs.Block.{xor}
 use Rattle.aes_inverse.specs.InvSbox.{invSbox, invAffine, invAffineBit}
 use Rattle.modes.specs.Cmac.{lastByte, shiftedLeft, doubled}
 use Rattle.memory.specs.Address.{addressOf, stepOf, lastWord, profileEnd, overruns}
+use Rattle.sheet.specs.Limits.{keyLimit}
 use Rattle.sheet.specs.Sheet.{verdictNumber, verdictPlace, readNumber, readPlace}
 use Rattle.sheet.specs.declared.Reading.{Reading}
 use Rattle.sheet.proofs.Examples.{example-11, example-12, example-13}
@@ -66,15 +67,15 @@ told r = verdictNumber (r .verdict) ∷ verdictPlace (r .verdict) ∷ []
 
 sheet-11 : sheetOf (0x01 ∷ 0x00 ∷ 0x00 ∷ 0x02 ∷ 0x00 ∷ 0x00 ∷ 0x00 ∷ 0x00 ∷ 0x06 ∷ []) ≡ 0 ∷ 0 ∷ []
 unfolding readNumber readPlace
-sheet-11 = ap told example-11
+sheet-11 = ap told (example-11 keyLimit)
 
 sheet-12 : sheetOf [] ≡ 30 ∷ 0 ∷ []
 unfolding readNumber readPlace
-sheet-12 = ap told example-12
+sheet-12 = ap told (example-12 keyLimit)
 
 sheet-13 : (rest : List ℕ) → sheetOf (0x02 ∷ rest) ≡ 32 ∷ 0 ∷ []
 unfolding readNumber readPlace
-sheet-13 rest = ap told (example-13 rest)
+sheet-13 rest = ap told (example-13 keyLimit rest)
 
 pub edges : Edges
 edges rest =

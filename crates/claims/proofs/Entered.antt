@@ -19,11 +19,12 @@ use Rattle.frames.specs.Fields.{customFits}
 use Rattle.frames.specs.Lengths.{hasMac}
 use Rattle.entry.specs.declared.State.{State}
 use Rattle.entry.specs.declared.State.the-variants.{IamInit, MamInit}
-use Rattle.tag.specs.declared.Tag.{Tag}
+use Rattle.tag.specs.States.{KeyedTag}
 use Rattle.tag.specs.States.{afterIam1, afterMam1, inTurn}
 use Rattle.ground.specs.Checks.{judgedTo}
 use Rattle.offer.specs.Judged.{benchChecks}
-use Rattle.offer.specs.Records.{offered, sizeOffered, modeOffered, modeSupported, keyNamed, keyOf, keysOf, slotNamed, blockAsked}
+use Rattle.keytable.specs.Named.{keyWith}
+use Rattle.offer.specs.Records.{offered, sizeOffered, modeOffered, modeSupported, slotNamed, blockAsked}
 use Rattle.tag.specs.Answers.{Call, answerOf, letIn}
 use Rattle.tag.specs.Reactions.{lent}
 use Rattle.reader.specs.declared.Keys.{Keys}
@@ -32,7 +33,7 @@ use Rattle.reader_build.specs.Builds.{purposeFits, dataFits, iam2Made, mam2Made
 use Rattle.claims.specs.Entry.{Array, Knows, Waits, Writable}
 use Rattle.claims.proofs.Entry.{iam2-enters, mam2-enters}
 use Rattle.claims.proofs.EntryIam3.{iam3-enters}
-use Rattle.claims.proofs.Bench.{setup, user, drawn}
+use Rattle.claims.proofs.Bench.{terms, setup, user, drawn}
 
 -- zeros are bytes
 zeros : (n i : ℕ) → getD {A = ℕ} (replicate n 0) i 0 < 256
@@ -41,7 +42,7 @@ zeros (suc n) zero = omega arith
 zeros (suc n) (suc i) = zeros n i
 
 -- the tag after an IAM1 or a MAM1 whose draws are zeros, and a call
-abbrev pub waiting : State → Tag
+abbrev pub waiting : State → KeyedTag
 waiting state = record { setup = setup; session = record { state = state; keyid = 0; tchallenge = drawn 0; ichallenge = replicate 4 0 } }
 
 abbrev pub call : List ℕ → Call
@@ -51,8 +52,8 @@ call message = lent message (drawn 0) (replicate 172 0) [] user
 abbrev keys : Keys
 keys = record { enc = replicate 16 0; mac = false; mackey = replicate 16 0 }
 
-knows : (state : State) → Knows keys (keyNamed (waiting state .setup) (waiting state .session .keyid))
-unfolding setup keyOf keysOf keyLimit
+knows : (state : State) → Knows keys (keyWith (waiting state .session .keyid) (waiting state .setup .keys))
+unfolding setup terms keyWith keyLimit
 knows state = record { enc = refl; mackey = refl; array = record { long = refl; bytes = zeros 16 } }
 
 ten : Array 10 (drawn 0)
@@ -71,7 +72,7 @@ abbrev iam2 : Call
 iam2 = call (iam2Made keys 0 (replicate 4 0) (drawn 0))
 
 iam2-waits : Waits iam2 (waiting IamInit) Iam2
-unfolding judgedTo benchChecks offered inTurn afterIam1 setup
+unfolding judgedTo benchChecks offered inTurn afterIam1 setup terms
 iam2-waits = record { bench = refl; there = refl; turn = refl }
 
 pub iam2-entered : answerOf iam2 (waiting IamInit) ≡ letIn iam2 0 [] user
@@ -81,7 +82,7 @@ abbrev mam2 : Call
 mam2 = call (mam2Made keys 0 (replicate 10 0) (drawn 0))
 
 mam2-waits : Waits mam2 (waiting MamInit) Mam2
-unfolding judgedTo benchChecks offered inTurn afterMam1 setup
+unfolding judgedTo benchChecks offered inTurn afterMam1 setup terms
 mam2-waits = record { bench = refl; there = refl; turn = refl }
 
 pub mam2-entered : answerOf mam2 (waiting MamInit) ≡ letIn mam2 0 [] user
@@ -103,18 +104,18 @@ unfoldable pub iam3 : List ℕ
 iam3 = iam3Made keys custom 0 0 (replicate 4 0) (drawn 0) words
 
 iam3-waits : Waits (call iam3) (waiting IamInit) Iam3
-unfolding judgedTo benchChecks offered inTurn afterIam1 setup
+unfolding judgedTo benchChecks offered inTurn afterIam1 setup terms
 iam3-waits = record { bench = refl; there = refl; turn = refl }
 
 fits : iam3Fits keys custom 0 0 8 ≡ true
 unfolding iam3Fits modeFits hasMac purposeFits dataFits dataLength blockBytes customFits
 fits = refl
 
-writable : Writable setup (keyNamed setup 0) custom 0
-unfolding setup modeSupported modeOffered hasMac keyOf keysOf slotNamed permitted sizeOffered overruns lastWord profileEnd blockAsked wordsAsked addressOf stepOf someLocked meetsAny keyLimit profileLimit lockLimit
+writable : Writable setup (keyWith 0 (setup .keys)) custom 0
+unfolding setup terms modeSupported modeOffered hasMac keyWith slotNamed permitted sizeOffered overruns lastWord profileEnd blockAsked wordsAsked addressOf stepOf someLocked meetsAny keyLimit profileLimit lockLimit
 writable = record { mode = refl; present = refl; right = refl; size = refl; inside = refl; unlocked = refl }
 
 pub iam3-entered : answerOf (call iam3) (waiting IamInit)
-    ≡ letIn (call iam3) 0 (storedIn Identity (blockAsked setup custom) words []) (storedIn User (blockAsked setup custom) words user)
+    ≡ letIn (call iam3) 0 (storedIn Identity (blockAsked (setup .profiles) custom) words []) (storedIn User (blockAsked (setup .profiles) custom) words user)
 unfolding iam3
 iam3-entered = iam3-enters (call iam3) (waiting IamInit) keys custom 0 0 (replicate 4 0) words iam3-waits (knows IamInit) ten four words-bytes fits writable refl

@@ -23,11 +23,11 @@ use Rattle.offer.specs.declared.Verdict.{Verdict}
 use Rattle.offer.specs.declared.Verdict.the-variants.{Fine}
 use Rattle.entry.specs.Judged.{iam2Checks, mam2Checks}
 use Rattle.entry.specs.Opened.{purposeIn, iamProof, mamProof}
-use Rattle.offer.specs.Records.{keyNamed}
+use Rattle.keytable.specs.Named.{keyWith}
 use Rattle.tag.specs.Answers.{Call, Answer, letIn, ifFine, iam2Answer, mam2Answer, byKind}
 use Rattle.offer.proofs.Lines.{passes, ends}
 use Rattle.reader_build.specs.Builds.{purposeFits, iam2Made, mam2Made}
-use Rattle.sheet.specs.declared.Setup.{Setup}
+use Rattle.sheet.specs.Setups.{Setup}
 use Rattle.entry.specs.declared.Session.{Session}
 use Rattle.reader.specs.declared.Keys.{Keys}
 use Rattle.claims.proofs.InTurn.{in-turn}
@@ -40,15 +40,15 @@ unfolding ifFine
 entered c v p purpose e q = ap₂ {C = Answer} (λ x y. ifFine c x (letIn c y (c .identity) (c .user))) e q
 
 iam2-let-in : (c : Call) (setup : Setup) (held : Session) (keys : Keys) (purpose : ℕ) (irnd : List ℕ)
-    → Knows keys (keyNamed setup (held .keyid))
+    → Knows keys (keyWith (held .keyid) (setup .keys))
     → Array 10 (held .tchallenge)
     → Array 4 irnd
     → purposeFits purpose ≡ true
     → c .message ≡ iam2Made keys purpose irnd (held .tchallenge)
-    → iam2Answer c setup held ≡ letIn c purpose (c .identity) (c .user)
+    → iam2Answer c (setup .keys) held ≡ letIn c purpose (c .identity) (c .user)
 unfolding iam2Made iam2Answer iam2Checks lengthFits
 iam2-let-in c setup held keys purpose irnd knows t m fit e =
-    let key = keyNamed setup (held .keyid) in
+    let key = keyWith (held .keyid) (setup .keys) in
     let small : C-IAM2 < 4096 = omega arith in
     let n = sixteen keys key C-IAM2 purpose irnd (held .tchallenge) knows small m t in
     let f : Iam2 = record { rfu = 0; iresponse = sent keys key C-IAM2 purpose irnd (held .tchallenge) knows small m t } in
@@ -65,16 +65,16 @@ last-four : (s : List ℕ) → Array 10 s → Array 4 (drop 6 s)
 last-four s a = record { long = omega (arith, length-drop 6 s, a .long); bytes = λ i. rw (getD-drop 6 s i 0) (a .bytes (6 + i)) }
 
 mam2-let-in : (c : Call) (setup : Setup) (held : Session) (keys : Keys) (purpose : ℕ) (ichallenge : List ℕ)
-    → Knows keys (keyNamed setup (held .keyid))
+    → Knows keys (keyWith (held .keyid) (setup .keys))
     → Array 10 (held .tchallenge)
     → Array 10 ichallenge
     → held .ichallenge ≡ drop 6 ichallenge
     → purposeFits purpose ≡ true
     → c .message ≡ mam2Made keys purpose ichallenge (held .tchallenge)
-    → mam2Answer c setup held ≡ letIn c purpose (c .identity) (c .user)
+    → mam2Answer c (setup .keys) held ≡ letIn c purpose (c .identity) (c .user)
 unfolding mam2Made mam2Answer mam2Checks lengthFits mamProof
 mam2-let-in c setup held keys purpose ichallenge knows t i own fit e =
-    let key = keyNamed setup (held .keyid) in
+    let key = keyWith (held .keyid) (setup .keys) in
     let small : C-MAM2 < 4096 = omega arith in
     let m = last-four ichallenge i in
     let n = sixteen keys key C-MAM2 purpose (drop 6 ichallenge) (held .tchallenge) knows small m t in
@@ -93,7 +93,7 @@ pub iam2-enters : Iam2Enters
 unfolding byKind iam2Made
 iam2-enters c tag keys purpose irnd w knows t m fit e =
     let small : C-IAM2 < 4096 = omega arith in
-    let key = keyNamed (tag .setup) (tag .session .keyid) in
+    let key = keyWith (tag .session .keyid) (tag .setup .keys) in
     let n = sixteen keys key C-IAM2 purpose irnd (tag .session .tchallenge) knows small m t in
     let shape = iam2-shape (record { rfu = 0; iresponse = sent keys key C-IAM2 purpose irnd (tag .session .tchallenge) knows small m t }) n (omega arith) in
     in-turn c tag Iam2Kind w (let l : length (c .message) ≡ 17 = ap length e ∙ shape .0 in omega (arith, l)) (ap (λ (l : List ℕ). kindOf (byte l 0)) e ∙ shape .1)
@@ -103,7 +103,7 @@ pub mam2-enters : Mam2Enters
 unfolding byKind mam2Made
 mam2-enters c tag keys purpose ichallenge w knows t i own fit e =
     let small : C-MAM2 < 4096 = omega arith in
-    let key = keyNamed (tag .setup) (tag .session .keyid) in
+    let key = keyWith (tag .session .keyid) (tag .setup .keys) in
     let m = last-four ichallenge i in
     let n = sixteen keys key C-MAM2 purpose (drop 6 ichallenge) (tag .session .tchallenge) knows small m t in
     let shape = mam2-shape (record { rfu = 0; iresponse = sent keys key C-MAM2 purpose (drop 6 ichallenge) (tag .session .tchallenge) knows small m t }) n (omega arith) in

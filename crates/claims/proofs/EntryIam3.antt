@@ -27,14 +27,15 @@ use Rattle.payload.proofs.Data.{carried-long}
 use Rattle.payload.proofs.Recovered.{header-carried, words-carried, filler-carried}
 use Rattle.entry.specs.Opened.{purposeIn, iamProof, sentBlock, openedData, wordsIn, iam3Proof}
 use Rattle.entry.specs.Judged.{iam3Checks}
-use Rattle.offer.specs.Records.{keyNamed, blockAsked}
+use Rattle.keytable.specs.Named.{keyWith}
+use Rattle.offer.specs.Records.{blockAsked}
 use Rattle.tag.specs.Answers.{Call, letIn, ifFine, iam3Answer, byKind}
 use Rattle.offer.proofs.Lines.{passes, ends}
 use Rattle.tam.proofs.ReplyBytes.{carried-bytes}
 use Rattle.reader.specs.declared.Keys.{Keys}
 use Rattle.reader_build.specs.Builds.{purposeFits, iam3Made, iam3Fits}
 use Rattle.reader_build.proofs.Making.{partFits, parts-fit, part-count, part-select, part-purposed}
-use Rattle.sheet.specs.declared.Setup.{Setup}
+use Rattle.sheet.specs.Setups.{Setup}
 use Rattle.entry.specs.declared.Session.{Session}
 use Rattle.claims.proofs.InTurn.{in-turn}
 use Rattle.claims.specs.Entry.{Bytes, Array, Knows, Writable, Iam3Enters}
@@ -66,18 +67,18 @@ module _ (keys : Keys) (custom : Custom) (protmode purpose n : ℕ) (fit : iam3F
   purposed = part-purposed keys custom protmode purpose n part
 
 iam3-let-in : (c : Call) (setup : Setup) (held : Session) (keys : Keys) (custom : Custom) (protmode purpose : ℕ) (irnd words : List ℕ)
-    → Knows keys (keyNamed setup (held .keyid))
+    → Knows keys (keyWith (held .keyid) (setup .keys))
     → Array 10 (held .tchallenge)
     → Array 4 irnd
     → Bytes words
     → iam3Fits keys custom protmode purpose (length words) ≡ true
-    → Writable setup (keyNamed setup (held .keyid)) custom protmode
+    → Writable setup (keyWith (held .keyid) (setup .keys)) custom protmode
     → c .message ≡ iam3Made keys custom protmode purpose irnd (held .tchallenge) words
     → iam3Answer c setup held
-    ≡ letIn c purpose (storedIn Identity (blockAsked setup custom) words (c .identity)) (storedIn User (blockAsked setup custom) words (c .user))
+    ≡ letIn c purpose (storedIn Identity (blockAsked (setup .profiles) custom) words (c .identity)) (storedIn User (blockAsked (setup .profiles) custom) words (c .user))
 unfolding iam3Made iam3Answer iam3Checks iam3Proof lengthFits ifFine
 iam3-let-in c setup held keys custom protmode purpose irnd words knows t m w fit may e =
-    let key = keyNamed setup (held .keyid) in
+    let key = keyWith (held .keyid) (setup .keys) in
     let k = iam3Constant protmode in
     let a = sent keys key k purpose irnd (held .tchallenge) knows (small protmode) m t in
     let n = sixteen keys key k purpose irnd (held .tchallenge) knows (small protmode) m t in
@@ -106,12 +107,12 @@ iam3-let-in c setup held keys custom protmode purpose irnd words knows t m w fit
     let ps : purposeIn (aesEnc (key .enc) (sentBlock (c .message))) ≡ purpose =
     ap purposeIn block ∙ purpose-in k purpose irnd (held .tchallenge) (m .long) (t .long) (purposed keys custom protmode purpose (length words) fit) in
     rw taken
-    (λ i. ifFine c (sym fine i) (letIn c (ps i) (storedIn Identity (blockAsked setup custom) (ws i) (c .identity)) (storedIn User (blockAsked setup custom) (ws i) (c .user))))
+    (λ i. ifFine c (sym fine i) (letIn c (ps i) (storedIn Identity (blockAsked (setup .profiles) custom) (ws i) (c .identity)) (storedIn User (blockAsked (setup .profiles) custom) (ws i) (c .user))))
 
 pub iam3-enters : Iam3Enters
 unfolding byKind iam3Made
 iam3-enters c tag keys custom protmode purpose irnd words w knows t m b fit may e =
-    let key = keyNamed (tag .setup) (tag .session .keyid) in
+    let key = keyWith (tag .session .keyid) (tag .setup .keys) in
     let k = iam3Constant protmode in
     let a = sent keys key k purpose irnd (tag .session .tchallenge) knows (small protmode) m t in
     let n = sixteen keys key k purpose irnd (tag .session .tchallenge) knows (small protmode) m t in

@@ -10,12 +10,12 @@ use Rattle.frames.specs.declared.Kind.{Kind}
 use Rattle.frames.specs.Fields.{byte}
 use Rattle.frames.specs.Kinds.{kindOf}
 use Rattle.offer.specs.declared.Fault.the-variants.{NotSupported, OutOfTurn}
-use Rattle.tag.specs.declared.Tag.{Tag}
+use Rattle.tag.specs.States.{KeyedTag}
 use Rattle.entry.specs.Sessions.{cleared}
 use Rattle.tag.specs.Answers.{Answer, Call, refused, byKind, inOrder, ofMessage, ofBench, answerOf}
 use Rattle.claims.specs.Entry.{Waits}
 
-module _ (c : Call) (tag : Tag) (kind : Kind) (w : Waits c tag kind) where
+module _ (c : Call) (tag : KeyedTag) (kind : Kind) (w : Waits c tag kind) where
   ordered : inOrder c (tag .setup) (tag .session) kind ≡ byKind c (tag .setup) (tag .session) kind
   unfolding inOrder
   ordered =

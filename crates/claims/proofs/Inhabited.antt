@@ -11,19 +11,19 @@ use Rattle.modes.specs.Room as room
 use Rattle.sheet.specs.declared.Fault.the-variants.{Cut}
 use Rattle.sheet.specs.declared.Reading.{Reading}
 use Rattle.sheet.specs.Kinds as sheet
-use Rattle.sheet.specs.Setups.{nothingKept, emptySetup}
+use Rattle.sheet.specs.Setups.{nothingKept, emptyTerms}
 use Rattle.sheet.specs.Judgement.{judgedOf}
+use Rattle.sheet.specs.Limits.{keyLimit}
 use Rattle.sheet.specs.Sheet.{readOf}
 use Rattle.sheet.proofs.Examples.{example-12}
 use Rattle.offer.specs.declared.Fault.the-variants.{OtherError}
 use Rattle.offer.specs.declared.Outcome.the-variants.{Replied, Refused}
 use Rattle.tag.specs.declared.Tag.{Tag}
 use Rattle.entry.specs.Sessions.{cleared}
-use Rattle.tag.specs.States.{poweredUp}
 use Rattle.ground.specs.Checks.{judgedTo}
 use Rattle.offer.specs.Judged.{benchChecks}
 use Rattle.tag.specs.Answers.{answerOf, ofMessage, refused}
-use Rattle.tag.specs.Plays.{Brought, Left, Called}
+use Rattle.tag.specs.Plays.{Doing, Step, Left, Called}
 use Rattle.reader.specs.declared.Fault.the-variants.{OwnMessage}
 use Rattle.reader.specs.declared.Keys.{Keys}
 use Rattle.reader_build.specs.declared.Made.the-variants.{Refused as NotMade}
@@ -34,17 +34,17 @@ use Rattle.claims.specs.Answered.{FromTo, TagRefused, JudgeRefused}
 use Rattle.claims.specs.ShutOut.{Program, Each, RefusesEverything, OneFixedReply, LaterForShow, MadeUpLength, NeverStores}
 use Rattle.claims.proofs.Answered.{tag-answers, sheet-answers, record-answers, chain-answers, layer-answers}
 use Rattle.claims.proofs.AnsweredReader.{judge-answers, builder-answers}
-use Rattle.claims.proofs.Bench.{setup, bench, user, brings}
+use Rattle.claims.proofs.Bench.{terms, table, bench, user, brings}
 use Rattle.claims.proofs.ShutOut.{unanswered}
 
 -- ---- demand 1
 
-called : Called bench [] user (brings [] 0) unanswered
-unfolding answerOf judgedTo benchChecks ofMessage refused bench setup poweredUp cleared
+called : Called table bench [] user (brings [] 0) unanswered
+unfolding answerOf judgedTo benchChecks ofMessage refused bench terms cleared
 called = record { outcome = refl; number = refl; next = refl; reply = refl; identity = refl; user = refl }
 
 pub tag-refused : TagRefused bench [] user (brings [] 0) unanswered OtherError
-tag-refused = tag-answers bench [] user (brings [] 0) unanswered OtherError called refl
+tag-refused = tag-answers table bench [] user (brings [] 0) unanswered OtherError called refl
 
 pub judge-refused : (keys : Keys) → JudgeRefused [] (findings.saidOf (findings.refused OwnMessage)) [] OwnMessage
 unfolding judgementOf
@@ -53,10 +53,10 @@ judge-refused keys = judge-answers keys [] [] [] _ [] OwnMessage (record { says 
 pub builder-refused : (reader.numberOf OwnMessage ≡ 24) × (_≡_ {A = List ℕ} [] [])
 builder-refused = builder-answers true [] [] (NotMade OwnMessage) [] OwnMessage (record { says = refl; number = refl; holds = refl }) refl
 
-pub sheet-refused : FromTo 30 35 (sheet.numberOf Cut) × (readOf [] .setup ≡ emptySetup)
-sheet-refused = sheet-answers [] Cut 0 (ap (λ (r : Reading). r .verdict) example-12)
+pub sheet-refused : FromTo 30 35 (sheet.numberOf Cut) × (readOf keyLimit [] .terms ≡ emptyTerms) × (readOf keyLimit [] .keys ≡ 0)
+sheet-refused = sheet-answers [] Cut 0 (ap (λ (r : Reading). r .verdict) (example-12 keyLimit))
 
-pub record-refused : FromTo 30 35 (sheet.numberOf Cut) × (judgedOf [] nothingKept .kept ≡ nothingKept)
+pub record-refused : FromTo 30 35 (sheet.numberOf Cut) × (judgedOf keyLimit [] nothingKept .kept ≡ nothingKept)
 unfolding judgedOf
 record-refused = record-answers [] nothingKept Cut refl
 
@@ -72,16 +72,18 @@ abbrev refusing : Tag → List ℕ → List ℕ → Left
 refusing tag identity user = record { stepped = record { outcome = Refused OtherError; tag = tag }; room = []; identity = identity; user = user }
 
 pub refuser : Program
-refuser tag identity user [] = []
-refuser tag identity user (b ∷ bs) = refusing tag identity user ∷ refuser tag identity user bs
+refuser table tag identity user [] = []
+refuser table tag identity user (d ∷ ds) = refusing tag identity user ∷ refuser table tag identity user ds
 
-module _ (tag : Tag) (identity user : List ℕ) where
-  each-left : (P : Left → Type 0) → P (refusing tag identity user) → (bs : List Brought) → Each P (refuser tag identity user bs)
+module _ (table : List ℕ) (tag : Tag) (identity user : List ℕ) where
+  each-left : (P : Left → Type 0) → P (refusing tag identity user) → (ds : List Doing)
+      → Each P (refuser table tag identity user ds)
   unfolding refuser Each
   each-left P h [] = tt
-  each-left P h (b ∷ bs) = (h, each-left P h bs)
+  each-left P h (d ∷ ds) = (h, each-left P h ds)
 
-  as-long : (bs cs : List Brought) → length bs ≡ length cs → refuser tag identity user bs ≡ refuser tag identity user cs
+  as-long : (ds es : List Doing) → length ds ≡ length es
+      → refuser table tag identity user ds ≡ refuser table tag identity user es
   unfolding refuser
   as-long [] [] e = refl
   as-long [] (c ∷ cs) e = absurd (omega arith)
@@ -92,17 +94,18 @@ no-reply : (n : ℕ) → Refused OtherError ≡ Replied n → ⊥
 no-reply n e = let z : _≡_ {A = ℕ} 0 1 = cc in omega arith
 
 pub refuses-everything : RefusesEverything refuser
-refuses-everything tag identity user = each-left tag identity user _ no-reply
+refuses-everything table tag identity user = each-left table tag identity user _ no-reply
 
 pub one-fixed-reply : (reply : List ℕ) → OneFixedReply reply refuser
-one-fixed-reply reply tag identity user = each-left tag identity user _ (λ n e. absurd (no-reply n e))
+one-fixed-reply reply table tag identity user = each-left table tag identity user _ (λ n e. absurd (no-reply n e))
 
 pub never-stores : NeverStores refuser
-never-stores tag identity user = each-left tag identity user _ (refl, refl)
+never-stores table tag identity user = each-left table tag identity user _ (refl, refl)
 
 pub made-up-length : MadeUpLength refuser
-made-up-length tag identity user b first rest e k = each-left tag identity user _ (no-reply 10) (b ∷ [])
+made-up-length table tag identity user b first rest e k =
+    each-left table tag identity user _ (no-reply 10) (Step b ∷ [])
 
 pub later-for-show : LaterForShow refuser
 unfolding refuser
-later-for-show tag identity user b bs cs e = as-long tag identity user bs cs e
+later-for-show table tag identity user d ds es e = as-long table tag identity user ds es e

@@ -7,42 +7,51 @@ use lib.ListN.{getD}
 use Rattle.memory.specs.Address.{sameArea, areaNumber, addressOf, stepOf}
 use Rattle.memory.specs.Areas.{storedIn, written, within}
 use Rattle.sheet.specs.Limits.{keyLimit, profileLimit}
+use Rattle.sheet.specs.KeyTable.{keysIn, recordsIn}
+use Rattle.sheet.specs.Records.{keyOf}
 use Rattle.frames.specs.Asked.{blockAsked as wordsAsked}
 use Rattle.frames.specs.Kinds.{kindOf, iamKind}
 use Rattle.frames.specs.Lengths.{lengthFits}
 use Rattle.frames.specs.Messages.{iam1Of}
 use Rattle.entry.specs.declared.State.the-variants.{IamInit}
 use Rattle.entry.specs.Sessions.{cleared}
-use Rattle.tag.specs.States.{poweredUp, atRest, inTurn}
+use Rattle.tag.specs.States.{atRest, inTurn}
+use Rattle.tag.specs.declared.Tag.{Tag}
 use Rattle.ground.specs.Checks.{judgedTo}
-use Rattle.offer.specs.Records.{offered, hasKey, keysOf, slotNamed, blockAsked}
+use Rattle.keytable.specs.Named.{hasKey}
+use Rattle.offer.specs.Records.{offered, slotNamed, blockAsked}
 use Rattle.offer.specs.Judged.{benchChecks, openingChecks}
 use Rattle.tag.specs.Answers.{Answer, answerOf, ofMessage, inOrder, byKind, iam1Answer, ifFine, replied, refused, letIn}
-use Rattle.tag.specs.Runs.{run}
-use Rattle.tag.specs.Plays.{Brought, Left, sentAll, leftOf, leftAll}
+use Rattle.tag.specs.Runs.{answerTo, run}
+use Rattle.tag.specs.Plays.{Doing, Step, Left, eventsOf, leftOf, leftAll}
 use Rattle.claims.specs.ShutOut.{Program, Standard, Each, NeverStores, ShutOut}
-use Rattle.claims.proofs.Bench.{setup, bench, user, brings, iam1}
+use Rattle.claims.proofs.Bench.{terms, table, setup, bench, user, brings, iam1}
 use Rattle.claims.proofs.Entered.{waiting, call, words, iam3, iam3-entered}
 use Rattle.claims.proofs.ShutOut.{is-defined, answered}
 
 -- the words are stored
 stored : answerOf (call iam3) (waiting IamInit) .user ≡ words
-unfolding letIn setup profileLimit slotNamed blockAsked wordsAsked addressOf stepOf storedIn written within sameArea areaNumber
+unfolding letIn setup terms profileLimit slotNamed blockAsked wordsAsked addressOf stepOf storedIn written within sameArea areaNumber
 stored = ap (λ (a : Answer). a .user) iam3-entered
 
 -- the run: an IAM1, and the IAM3
 module _ (p : Program) (h : Standard p) where
-  abbrev bs : List Brought
-  bs = brings iam1 0 ∷ brings iam3 0 ∷ []
+  abbrev ds : List Doing
+  ds = Step (brings iam1 0) ∷ Step (brings iam3 0) ∷ []
 
-  left : p bench [] user bs ≡ answered 0 ∷ leftOf (waiting IamInit) (brings iam3 0) (answerOf (call iam3) (waiting IamInit)) ∷ []
-  unfolding leftAll run sentAll setup bench poweredUp cleared atRest inTurn judgedTo offered hasKey keysOf benchChecks openingChecks answerOf ofMessage inOrder byKind iam1Answer ifFine replied refused kindOf iamKind lengthFits iam1Of keyLimit profileLimit
-  left = is-defined p h bench [] user bs
+  -- the tag of the code that waits for it
+  abbrev held : Tag
+  held = record { terms = terms; session = waiting IamInit .session }
+
+  left : p table bench [] user ds
+      ≡ answered 0 ∷ leftOf held (Step (brings iam3 0)) (answerOf (call iam3) (waiting IamInit)) ∷ []
+  unfolding leftAll run answerTo eventsOf setup terms keysIn recordsIn keyOf bench cleared atRest inTurn judgedTo offered hasKey benchChecks openingChecks answerOf ofMessage inOrder byKind iam1Answer ifFine replied refused kindOf iamKind lengthFits iam1Of keyLimit profileLimit
+  left = is-defined p h table bench [] user ds
 
 pub never-stores : ShutOut NeverStores
 unfolding Each
 never-stores p says h =
-    let e = subst (λ (xs : List Left). Each (λ x. (x .identity ≡ []) × (x .user ≡ user)) xs) (left p h) (says bench [] user (bs p h)) in
+    let e = subst (λ (xs : List Left). Each (λ x. (x .identity ≡ []) × (x .user ≡ user)) xs) (left p h) (says table bench [] user (ds p h)) in
     let same : words ≡ user = sym stored ∙ e .1 .0 .1 in
     let z : _≡_ {A = ℕ} 1 0 = ap (λ (l : List ℕ). getD l 0 0) same in
     omega arith

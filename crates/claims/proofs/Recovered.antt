@@ -1,5 +1,5 @@
 -- The premises of recovery and of Fixed hold: on the bench of examples an IAM1 is taken, and the reader recovers the challenge. No cipher is computed.
-use mathlib.Core.Path.{_≡_, refl}
+use mathlib.Core.Path.{_≡_, sym, ap, refl, subst}
 use mathlib.Core.Bool.{Bool, true, false}
 use mathlib.Core.List.{List, [], _∷_}
 use Prim.Native.Nat.{ℕ, zero, suc, _<_}
@@ -13,16 +13,22 @@ use lib.ListN.{length, take, replicate}
 use Rattle.field.proofs.Block.{Bytes}
 use Rattle.modes.specs.Room.{over}
 use Rattle.sheet.specs.Limits.{keyLimit, profileLimit}
-use Rattle.sheet.specs.Within.{Within, Bytes as SheetBytes}
+use Rattle.ground.specs.Bytes.{Bytes as SheetBytes}
+use Rattle.ground.proofs.Bytes.{bytes-none, bytes-cons}
+use Rattle.sheet.specs.declared.Reading.{Reading}
+use Rattle.sheet.specs.KeyTable.{keysIn, recordsIn}
+use Rattle.sheet.specs.Records.{keyOf}
+use Rattle.sheet.specs.Within.{Within}
 use Rattle.sheet.proofs.Sheets.{accepted}
 use Rattle.frames.specs.Fields.{byte}
 use Rattle.frames.specs.Kinds.{kindOf, iamKind}
 use Rattle.frames.specs.Lengths.{lengthFits}
 use Rattle.frames.specs.Messages.{iam1Of}
-use Rattle.tag.specs.States.{poweredUp, atRest, inTurn}
+use Rattle.tag.specs.States.{KeyedTag, keyed, atRest, inTurn}
 use Rattle.entry.specs.Sessions.{cleared}
 use Rattle.ground.specs.Checks.{judgedTo}
-use Rattle.offer.specs.Records.{offered, hasKey, keyOf, keysOf}
+use Rattle.keytable.specs.Named.{hasKey, keyWith}
+use Rattle.offer.specs.Records.{offered}
 use Rattle.offer.specs.Judged.{benchChecks, openingChecks}
 use Rattle.tag.specs.Answers.{Call, refused, replied, ifFine, iam1Answer, byKind, inOrder, ofMessage, answerOf}
 use Rattle.tag.specs.Reactions.{lent}
@@ -35,7 +41,8 @@ use Rattle.reader_judge.specs.Judged as judge
 use Rattle.reader.specs.Own.{fieldsFit, ownFits}
 use Rattle.claims.specs.Fixed.{trndIn, remade}
 use Rattle.claims.specs.Recovery.{keyidUsed, keyUsed, Shares, Fit, due}
-use Rattle.claims.proofs.Bench.{key, setup, sheet, setup-read, bench, user, drawn, brings, iam1}
+use Rattle.claims.proofs.Bench.{key, terms, table, setup, its-setup, sheet, sheet-read, said, bench, user, drawn}
+use Rattle.claims.proofs.Bench.{brings, iam1}
 use Rattle.claims.proofs.Fixed.{fixed}
 use Rattle.claims.proofs.RecoveryCode.{recovery-code}
 use Rattle.claims.proofs.ShutOut.{answered}
@@ -46,11 +53,15 @@ below [] = true
 below (x ∷ s) = both (ltb x 256) (below s)
 
 are-bytes : (s : List ℕ) → below s ≡ true → SheetBytes s
-are-bytes [] e = tt
-are-bytes (x ∷ s) e = (ltb-true x 256 (both-left (ltb x 256) (below s) e), are-bytes s (both-right (ltb x 256) (below s) e))
+are-bytes [] e = bytes-none
+are-bytes (x ∷ s) e =
+    bytes-cons x s (ltb-true x 256 (both-left (ltb x 256) (below s) e))
+    (are-bytes s (both-right (ltb x 256) (below s) e))
 
-within : Within setup
-within = accepted sheet setup (are-bytes sheet refl) setup-read .0
+within : Within keyLimit setup
+within =
+    let taken = ap (λ (r : Reading). r .verdict) sheet-read in
+    subst (Within keyLimit) said (accepted keyLimit sheet (are-bytes sheet refl) taken .0)
 
 -- bytes
 zeros : (n : ℕ) → Bytes (replicate n 0)
@@ -70,24 +81,28 @@ keys = record { enc = replicate 16 0; mac = false; mackey = replicate 16 0 }
 abbrev call : Call
 call = lent iam1 (drawn 0) (replicate 172 0) [] user
 
-fit : Fit call bench keys
-unfolding bench poweredUp
-fit = record { setup = within; message = asked; draws = zeros 10; identity = λ i. lit< tt; user = zeros 8; enc = zeros 16 }
+-- the tag, with its keys
+abbrev tag : KeyedTag
+tag = keyed bench table
 
-shares : Shares keys (keyUsed bench iam1)
-unfolding bench poweredUp setup keyidUsed kindOf iamKind iam1Of keyOf keysOf keyLimit
+fit : Fit call tag keys
+unfolding bench
+fit = record { setup = subst (Within keyLimit) (sym its-setup) within; message = asked; draws = zeros 10; identity = λ i. lit< tt; user = zeros 8; enc = zeros 16 }
+
+shares : Shares keys (keyUsed tag iam1)
+unfolding bench keysIn recordsIn keyOf keyidUsed kindOf iamKind iam1Of keyWith keyLimit
 shares = record { enc = refl; mac = refl; mackey = refl }
 
-called : Called bench [] user (brings iam1 0) (answered 0)
-unfolding setup bench poweredUp cleared atRest inTurn judgedTo offered hasKey keysOf benchChecks openingChecks answerOf ofMessage inOrder byKind iam1Answer ifFine replied refused kindOf iamKind lengthFits iam1Of keyLimit profileLimit
+called : Called table bench [] user (brings iam1 0) (answered 0)
+unfolding terms keysIn recordsIn keyOf bench cleared atRest inTurn judgedTo offered hasKey benchChecks openingChecks answerOf ofMessage inOrder byKind iam1Answer ifFine replied refused kindOf iamKind lengthFits iam1Of keyLimit profileLimit
 called = record { outcome = refl; number = refl; next = refl; reply = refl; identity = refl; user = refl }
 
 -- what the step left, as far as it says, goes to the judge, who finds what is due
 pub challenge-recovered : (room : List ℕ) → 144 ≡ length room
     → (let found = judgementOf keys iam1 (take 10 (over (drawn 0) (replicate 172 0))) (length room) in
-    Judges (due call bench (answerOf call bench) (kindOf (byte iam1 0))) room (saidOf found) (over (found .bytes) room))
+    Judges (due call tag (answerOf call tag) (kindOf (byte iam1 0))) room (saidOf found) (over (found .bytes) room))
 challenge-recovered room e =
-    recovery-code bench [] user (brings iam1 0) (answered 0) keys room _ _ called fit shares (omega arith) tt (record { says = refl; number = refl; holds = refl })
+    recovery-code table bench [] user (brings iam1 0) (answered 0) keys room _ _ called fit shares (omega arith) tt (record { says = refl; number = refl; holds = refl })
 
 -- an accepted reply is made again
 taken : judgementOf keys iam1 (drawn 0) 144 .verdict ≡ Accepted

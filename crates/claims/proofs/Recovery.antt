@@ -11,7 +11,7 @@ use Rattle.ground.specs.Choice.{pick, both, implies}
 use Rattle.ground.proofs.Checked.{passes, ends}
 use Rattle.memory.specs.Areas.{windowOf}
 use Rattle.sheet.specs.declared.Key.{Key}
-use Rattle.sheet.specs.declared.Setup.{Setup}
+use Rattle.sheet.specs.Setups.{Setup}
 use Rattle.frames.specs.declared.Kind.{Kind}
 use Rattle.frames.specs.declared.Kind.the-variants.{Tam1, Tam2, Iam1, Iam2, Iam3, Mam1, Mam2, Unsupported}
 use Rattle.frames.specs.Fields.{byte}
@@ -19,14 +19,15 @@ use Rattle.frames.specs.Kinds.{kindOf}
 use Rattle.frames.specs.Lengths.{hasMac, lengthFits}
 use Rattle.frames.specs.Messages.{tam1Of, tam2Of, iam1Of, iam3Of, mam1Of}
 use Rattle.frames.proofs.Range.{both-right}
-use Rattle.tag.specs.declared.Tag.{Tag}
+use Rattle.tag.specs.States.{KeyedTag}
 use Rattle.offer.specs.declared.Fault.the-variants.{NotSupported, OutOfTurn}
 use Rattle.offer.specs.declared.Verdict.{Verdict}
 use Rattle.offer.specs.declared.Verdict.the-variants.{Fine, Wrong}
 use Rattle.entry.specs.Sessions.{cleared}
 use Rattle.tag.specs.States.{inTurn}
 use Rattle.offer.specs.Checks.{judged}
-use Rattle.offer.specs.Records.{offered, modeOffered, modeSupported, keyNamed, slotNamed, blockAsked}
+use Rattle.keytable.specs.Named.{keyWith}
+use Rattle.offer.specs.Records.{offered, modeOffered, modeSupported, slotNamed, blockAsked}
 use Rattle.offer.specs.Judged.{benchChecks, openingChecks}
 use Rattle.tam.specs.Judged.{tam2Checks}
 use Rattle.entry.specs.Judged.{iam2Checks, iam3Checks, mam2Checks}
@@ -62,7 +63,7 @@ empty-found : emptyFinding [] ≡ nothingMore
 unfolding emptyFinding
 empty-found = sym (passes _ _ _ _ refl (ends _ _))
 
-module _ (c : Call) (tag : Tag) (keys : Keys) (room : ℕ) (fit : Fit c tag keys) (enough : dataRoom ≤ room) where
+module _ (c : Call) (tag : KeyedTag) (keys : Keys) (room : ℕ) (fit : Fit c tag keys) (enough : dataRoom ≤ room) where
   -- what is claimed of an answer to a message of kind k
   abbrev Claim : Kind → Answer → Type 0
   Claim k a = Taken (a .outcome) → judgementOf keys (c .message) (a .reply) room ≡ due c tag a k
@@ -79,53 +80,53 @@ module _ (c : Call) (tag : Tag) (keys : Keys) (room : ℕ) (fit : Fit c tag keys
   picked k true x y h g = h
   picked k false x y h g = g
 
-  module _ (bench : judged (benchChecks (tag .setup) (length (c .draws)) (c .room) (length (c .identity)) (length (c .user))) ≡ Fine) (some : length (c .message) ≡ 0 → ⊥) where
+  module _ (bench : judged (benchChecks (tag .setup .sizes) (length (c .draws)) (c .room) (length (c .identity)) (length (c .user))) ≡ Fine) (some : length (c .message) ≡ 0 → ⊥) where
     ten : Ten (c .draws)
-    ten = record { ten = bench-draws (tag .setup) (length (c .draws)) (c .room) (length (c .identity)) (length (c .user)) bench; bytes = fit .draws }
+    ten = record { ten = bench-draws (tag .setup .sizes) (length (c .draws)) (c .room) (length (c .identity)) (length (c .user)) bench; bytes = fit .draws }
 
-    module _ (k : Kind) (e : k ≡ kindOf (byte (c .message) 0)) (s : Shares keys (keyNamed (tag .setup) (keyidUsed tag (c .message) k))) where
+    module _ (k : Kind) (e : k ≡ kindOf (byte (c .message) 0)) (s : Shares keys (keyWith (keyidUsed tag (c .message) k) (tag .setup .keys))) where
       judges : (reply : List ℕ) (found : Finding) → lengthFits k (c .message) ≡ true → fieldsFit keys k (c .message) ≡ true → findingOf keys (c .message) reply k ≡ found
           → judgementOf keys (c .message) reply room ≡ found
       unfolding ownFits
       judges reply found l h q = own-told keys (c .message) reply room k some e (ap₂ both (le-leb dataRoom room enough) (ap₂ both l h)) ∙ q
 
       opens-with : (rfu keyid : ℕ) (reply : List ℕ) (found : Finding) → fieldsFit keys k (c .message) ≡ eqb rfu 0 → findingOf keys (c .message) reply k ≡ found
-          → judged (openingChecks k rfu keyid (tag .setup) (c .message)) ≡ Fine → judgementOf keys (c .message) reply room ≡ found
+          → judged (openingChecks k rfu keyid (tag .setup .keys) (c .message)) ≡ Fine → judgementOf keys (c .message) reply room ≡ found
       unfolding openingChecks
       opens-with rfu keyid reply found r q h = judges reply found (first-holds _ _ h) (r ∙ first-holds _ _ (others-hold _ _ h)) q
 
     -- ---- kind by kind
 
     abbrev Keyed : Kind → Type 0
-    Keyed k = Shares keys (keyNamed (tag .setup) (keyidUsed tag (c .message) k))
+    Keyed k = Shares keys (keyWith (keyidUsed tag (c .message) k) (tag .setup .keys))
 
-    tam1-claim : Tam1 ≡ kindOf (byte (c .message) 0) → Keyed Tam1 → Claim Tam1 (tam1Answer c (tag .setup))
+    tam1-claim : Tam1 ≡ kindOf (byte (c .message) 0) → Keyed Tam1 → Claim Tam1 (tam1Answer c (tag .setup .keys))
     unfolding tam1Answer replied due findingOf fieldsFit keyidUsed
     tam1-claim e s =
         let f = tam1Of (c .message) in
         fine Tam1 _ _
         (λ h t. opens-with Tam1 e s (f .rfu) (f .keyid) _ nothingMore refl
-        (tam1-found keys (keyNamed (tag .setup) (f .keyid)) (s .enc) (fit .enc) (c .draws) ten f (tam1-challenge (c .message) (fit .message))) h)
+        (tam1-found keys (keyWith (f .keyid) (tag .setup .keys)) (s .enc) (fit .enc) (c .draws) ten f (tam1-challenge (c .message) (fit .message))) h)
 
-    iam1-claim : Iam1 ≡ kindOf (byte (c .message) 0) → Keyed Iam1 → Claim Iam1 (iam1Answer c (tag .setup))
+    iam1-claim : Iam1 ≡ kindOf (byte (c .message) 0) → Keyed Iam1 → Claim Iam1 (iam1Answer c (tag .setup .keys))
     unfolding iam1Answer replied due findingOf fieldsFit keyidUsed
     iam1-claim e s =
         let f = iam1Of (c .message) in
         fine Iam1 _ _ (λ h t. opens-with Iam1 e s (f .rfu) (f .keyid) (c .draws) (issues (c .draws)) refl (iam1-found (c .draws) (ten .ten)) h)
 
-    mam1-claim : Mam1 ≡ kindOf (byte (c .message) 0) → Keyed Mam1 → Claim Mam1 (mam1Answer c (tag .setup))
+    mam1-claim : Mam1 ≡ kindOf (byte (c .message) 0) → Keyed Mam1 → Claim Mam1 (mam1Answer c (tag .setup .keys))
     unfolding mam1Answer replied due findingOf fieldsFit keyidUsed
     mam1-claim e s =
         let f = mam1Of (c .message) in
         fine Mam1 _ _
         (λ h t. opens-with Mam1 e s (f .rfu) (f .keyid) _ (issues (c .draws)) refl
-        (mam1-found keys (keyNamed (tag .setup) (f .keyid)) (s .enc) (fit .enc) (c .draws) ten f (mam1-challenge (c .message) (fit .message))) h)
+        (mam1-found keys (keyWith (f .keyid) (tag .setup .keys)) (s .enc) (fit .enc) (c .draws) ten f (mam1-challenge (c .message) (fit .message))) h)
 
-    iam2-claim : Iam2 ≡ kindOf (byte (c .message) 0) → Keyed Iam2 → Claim Iam2 (iam2Answer c (tag .setup) (tag .session))
+    iam2-claim : Iam2 ≡ kindOf (byte (c .message) 0) → Keyed Iam2 → Claim Iam2 (iam2Answer c (tag .setup .keys) (tag .session))
     unfolding iam2Answer iam2Checks letIn due findingOf fieldsFit
     iam2-claim e s = fine Iam2 _ _ (λ h t. judges Iam2 e s [] nothingMore (first-holds _ _ h) (first-holds _ _ (others-hold _ _ h)) empty-found)
 
-    mam2-claim : Mam2 ≡ kindOf (byte (c .message) 0) → Keyed Mam2 → Claim Mam2 (mam2Answer c (tag .setup) (tag .session))
+    mam2-claim : Mam2 ≡ kindOf (byte (c .message) 0) → Keyed Mam2 → Claim Mam2 (mam2Answer c (tag .setup .keys) (tag .session))
     unfolding mam2Answer mam2Checks letIn due findingOf fieldsFit
     mam2-claim e s = fine Mam2 _ _ (λ h t. judges Mam2 e s [] nothingMore (first-holds _ _ h) (first-holds _ _ (others-hold _ _ h)) empty-found)
 
@@ -135,7 +136,7 @@ module _ (c : Call) (tag : Tag) (keys : Keys) (room : ℕ) (fit : Fit c tag keys
         fine Iam3 _ _
         (λ h t. judges Iam3 e s [] nothingMore (first-holds _ _ h)
         (ap₂ both (first-holds _ _ (others-hold _ _ (others-hold _ _ h)))
-        (mode-own (tag .setup) keys (keyNamed (tag .setup) (tag .session .keyid)) (iam3Of (c .message) .protmode) s (first-holds _ _ (others-hold _ _ h)))) empty-found)
+        (mode-own (tag .setup) keys (keyWith (tag .session .keyid) (tag .setup .keys)) (iam3Of (c .message) .protmode) s (first-holds _ _ (others-hold _ _ h)))) empty-found)
 
     module _ (h : judged (tam2Checks (tag .setup) (c .message)) ≡ Fine) (s : Keyed Tam2) where
       tam2-lengths : lengthFits Tam2 (c .message) ≡ true
@@ -147,9 +148,9 @@ module _ (c : Call) (tag : Tag) (keys : Keys) (room : ℕ) (fit : Fit c tag keys
       tam2-fields =
           let f = tam2Of (c .message) in
           ap₂ both (first-holds _ _ (others-hold _ _ (others-hold _ _ (others-hold _ _ h))))
-          (mode-own (tag .setup) keys (keyNamed (tag .setup) (f .keyid)) (f .protmode) s (tam2-mode (tag .setup) (c .message) h))
+          (mode-own (tag .setup) keys (keyWith (f .keyid) (tag .setup .keys)) (f .protmode) s (tam2-mode (tag .setup) (c .message) h))
 
-      tam2-slot : slotNamed (tag .setup) (tam2Of (c .message) .custom .profile) .present ≡ true
+      tam2-slot : slotNamed (tag .setup .profiles) (tam2Of (c .message) .custom .profile) .present ≡ true
       unfolding tam2Checks
       tam2-slot = first-holds _ _ (others-hold _ _ (others-hold _ _ (others-hold _ _ (others-hold _ _ (others-hold _ _ h)))))
 
@@ -157,11 +158,11 @@ module _ (c : Call) (tag : Tag) (keys : Keys) (room : ℕ) (fit : Fit c tag keys
     unfolding tam2Answer replied due findingOf keyidUsed
     tam2-claim e s =
         let f = tam2Of (c .message) in
-        let block = blockAsked (tag .setup) (f .custom) in
+        let block = blockAsked (tag .setup .profiles) (f .custom) in
         let words = windowOf (c .identity) (c .user) block in
         fine Tam2 _ _
         (λ h t. judges Tam2 e s _ _ (tam2-lengths h s) (tam2-fields h s)
-        (tam2-found keys (keyNamed (tag .setup) (f .keyid)) s (fit .enc) (c .draws) ten f (tam2-challenge (c .message) (fit .message)) (tam2-custom-fits (c .message) (fit .message)) words
+        (tam2-found keys (keyWith (f .keyid) (tag .setup .keys)) s (fit .enc) (c .draws) ten f (tam2-challenge (c .message) (fit .message)) (tam2-custom-fits (c .message) (fit .message)) words
         (words-all (tag .setup) (c .identity) (c .user) (length (c .draws)) (c .room) bench (f .custom) (fit .setup) (tam2-slot h s) (tam2-inside (tag .setup) (c .message) h))
         (words-bytes block (c .identity) (c .user) (fit .identity) (fit .user))))
 
@@ -187,8 +188,8 @@ module _ (c : Call) (tag : Tag) (keys : Keys) (room : ℕ) (fit : Fit c tag keys
   abbrev kind : Kind
   kind = kindOf (byte (c .message) 0)
 
-  module _ (s : Shares keys (keyNamed (tag .setup) (keyidUsed tag (c .message) kind))) where
-    of-message : judged (benchChecks (tag .setup) (length (c .draws)) (c .room) (length (c .identity)) (length (c .user))) ≡ Fine → (m : List ℕ) → c .message ≡ m
+  module _ (s : Shares keys (keyWith (keyidUsed tag (c .message) kind) (tag .setup .keys))) where
+    of-message : judged (benchChecks (tag .setup .sizes) (length (c .draws)) (c .room) (length (c .identity)) (length (c .user))) ≡ Fine → (m : List ℕ) → c .message ≡ m
         → Claim kind (ofMessage c (tag .setup) (tag .session) m)
     unfolding ofMessage refused
     of-message bench [] e = λ t. absurd t
@@ -197,7 +198,7 @@ module _ (c : Call) (tag : Tag) (keys : Keys) (room : ℕ) (fit : Fit c tag keys
         let some : length (c .message) ≡ 0 → ⊥ = λ z. (let n = sym (ap length e) ∙ z in omega arith) in
         subst (λ (k : Kind). Claim kind (inOrder c (tag .setup) (tag .session) k)) first (in-order bench some kind refl s)
 
-    of-bench : (v : Verdict) → judged (benchChecks (tag .setup) (length (c .draws)) (c .room) (length (c .identity)) (length (c .user))) ≡ v
+    of-bench : (v : Verdict) → judged (benchChecks (tag .setup .sizes) (length (c .draws)) (c .room) (length (c .identity)) (length (c .user))) ≡ v
         → Claim kind (ofBench c (tag .setup) (tag .session) v)
     unfolding refused
     of-bench Fine e = of-message e (c .message) refl

@@ -6,6 +6,7 @@ use lib.ListN.{length, take, drop}
 use lib.Seq.{take-at}
 use Rattle.offer.specs.Outcomes.{replyLength}
 use Rattle.tag.specs.Answers.{answerOf}
+use Rattle.tag.specs.States.{keyed}
 use Rattle.tag.specs.Reactions.{lent}
 use Rattle.tag.proofs.PaperNumbers.{length-told}
 use Rattle.reader_judge.specs.Findings.{Finding, Judges}
@@ -14,12 +15,13 @@ use Rattle.claims.specs.Recovery.{Taken, RecoveryCode}
 use Rattle.claims.proofs.Recovery.{recovery}
 
 pub recovery-code : RecoveryCode
-recovery-code tag identity user b x keys room r after called fit share enough taken judges =
+recovery-code table tag identity user b x keys room r after called fit share enough taken judges =
     let c = lent (b .message) (b .draws) (b .room) identity user in
-    let a = answerOf c tag in
-    let long : replyLength (x .stepped .outcome) ≡ length (a .reply) = ap replyLength (called .outcome) ∙ length-told c tag in
+    let t = keyed tag table in
+    let a = answerOf c t in
+    let long : replyLength (x .stepped .outcome) ≡ length (a .reply) = ap replyLength (called .outcome) ∙ length-told c t in
     let reply : take (replyLength (x .stepped .outcome)) (x .room) ≡ a .reply =
     (λ j. take (long j) (called .reply j)) ∙ take-at (a .reply) (drop (length (a .reply)) (b .room)) (length (a .reply)) refl in
     let found = ap (λ (l : List ℕ). judgementOf keys (b .message) l (length room)) reply
-    ∙ recovery c tag keys (length room) fit share enough (subst Taken (called .outcome) taken) in
+    ∙ recovery c t keys (length room) fit share enough (subst Taken (called .outcome) taken) in
     subst (λ (f : Finding). Judges f room r after) found judges

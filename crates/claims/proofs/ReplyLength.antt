@@ -8,7 +8,7 @@ use borrow.Author.Tests.{eqb-true}
 use lib.ListN.{length}
 use Rattle.ground.specs.Choice.{pick}
 use Rattle.memory.specs.Areas.{windowOf}
-use Rattle.sheet.specs.declared.Setup.{Setup}
+use Rattle.sheet.specs.Setups.{Setup}
 use Rattle.frames.specs.declared.Kind.{Kind}
 use Rattle.frames.specs.declared.Kind.the-variants.{Tam1, Tam2, Iam1, Iam2, Iam3, Mam1, Mam2, Unsupported}
 use Rattle.frames.specs.Fields.{byte}
@@ -18,13 +18,14 @@ use Rattle.offer.specs.declared.Fault.{Fault}
 use Rattle.offer.specs.declared.Fault.the-variants.{OtherError, NotSupported, OutOfTurn}
 use Rattle.offer.specs.declared.Outcome.the-variants.{Replied}
 use Rattle.entry.specs.declared.Session.{Session}
-use Rattle.tag.specs.declared.Tag.{Tag}
+use Rattle.tag.specs.States.{KeyedTag, keyed}
 use Rattle.offer.specs.declared.Verdict.{Verdict}
 use Rattle.offer.specs.declared.Verdict.the-variants.{Fine, Wrong}
 use Rattle.entry.specs.Sessions.{cleared}
 use Rattle.tag.specs.States.{inTurn}
 use Rattle.offer.specs.Checks.{judged}
-use Rattle.offer.specs.Records.{offered, keyNamed, blockAsked}
+use Rattle.keytable.specs.Named.{keyWith}
+use Rattle.offer.specs.Records.{offered, blockAsked}
 use Rattle.offer.specs.Judged.{benchChecks}
 use Rattle.tag.specs.Answers.{Answer, Call, refused, replied, letIn, tam1Answer, tam2Answer, iam1Answer, iam2Answer, iam3Answer, mam1Answer, mam2Answer, byKind, inOrder, ofMessage, ofBench, ifFine, answerOf}
 use Rattle.tag.specs.Reactions.{lent}
@@ -62,14 +63,14 @@ module _ (c : Call) where
   module _ (setup : Setup) (held : Session) (ten : length (c .draws) ≡ 10) where
     kind-long : (kind : Kind) → Long (layoutLength kind (c .message)) (byKind c setup held kind)
     unfolding layoutLength byKind tam1Answer tam2Answer iam1Answer iam2Answer iam3Answer mam1Answer mam2Answer
-    kind-long Tam1 = fine-long _ _ _ (reply-long _ _ _ (tam1-long (keyNamed setup (tam1Of (c .message) .keyid)) (tam1Of (c .message)) (c .draws)))
+    kind-long Tam1 = fine-long _ _ _ (reply-long _ _ _ (tam1-long (keyWith (tam1Of (c .message) .keyid) (setup .keys)) (tam1Of (c .message)) (c .draws)))
     kind-long Tam2 =
         let f = tam2Of (c .message) in
-        fine-long _ _ _ (reply-long _ _ _ (tam2-long (keyNamed setup (f .keyid)) f (windowOf (c .identity) (c .user) (blockAsked setup (f .custom))) (c .draws) (words-most setup (f .custom) (c .identity) (c .user))))
+        fine-long _ _ _ (reply-long _ _ _ (tam2-long (keyWith (f .keyid) (setup .keys)) f (windowOf (c .identity) (c .user) (blockAsked (setup .profiles) (f .custom))) (c .draws) (words-most (setup .profiles) (f .custom) (c .identity) (c .user))))
     kind-long Iam1 = fine-long _ _ _ (reply-long _ _ _ ten)
     kind-long Iam2 = fine-long _ _ _ (entry-long _ _ _ _)
     kind-long Iam3 = fine-long _ _ _ (entry-long _ _ _ _)
-    kind-long Mam1 = fine-long _ _ _ (reply-long _ _ _ (mam1-long (keyNamed setup (mam1Of (c .message) .keyid)) (mam1Of (c .message)) (c .draws) ten))
+    kind-long Mam1 = fine-long _ _ _ (reply-long _ _ _ (mam1-long (keyWith (mam1Of (c .message) .keyid) (setup .keys)) (mam1Of (c .message)) (c .draws) ten))
     kind-long Mam2 = fine-long _ _ _ (entry-long _ _ _ _)
     kind-long Unsupported = refusal-long _ cleared NotSupported
 
@@ -82,9 +83,9 @@ module _ (c : Call) where
         (picked-long k (inTurn (held .state) (kindOf first)) (byKind c setup held (kindOf first)) (refused c OutOfTurn cleared) (kind-long (kindOf first)) (refusal-long k cleared OutOfTurn))
         (refusal-long k cleared NotSupported)
 
-  module _ (tag : Tag) where
+  module _ (tag : KeyedTag) where
     abbrev verdict : Verdict
-    verdict = judged (benchChecks (tag .setup) (length (c .draws)) (c .room) (length (c .identity)) (length (c .user)))
+    verdict = judged (benchChecks (tag .setup .sizes) (length (c .draws)) (c .room) (length (c .identity)) (length (c .user)))
 
     bench-long : (v : Verdict) → verdict ≡ v → Long (layoutLength (kindOf (byte (c .message) 0)) (c .message)) (ofBench c (tag .setup) (tag .session) v)
     unfolding benchChecks
@@ -96,4 +97,5 @@ module _ (c : Call) where
     answer-long = bench-long verdict refl
 
 pub length-fixed : LengthFixed
-length-fixed tag identity user b x n h e = answer-long (lent (b .message) (b .draws) (b .room) identity user) tag n (sym (h .outcome) ∙ e)
+length-fixed table tag identity user b x n h e =
+    answer-long (lent (b .message) (b .draws) (b .room) identity user) (keyed tag table) n (sym (h .outcome) ∙ e)

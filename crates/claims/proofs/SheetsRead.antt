@@ -1,23 +1,31 @@
 -- Two sheets that are alike are read alike, from the first byte to the end or to the first refusal.
-use mathlib.Core.Path.{_≡_, refl, ap, subst}
+use mathlib.Core.Path.{_≡_, refl, sym, ap, _∙_, subst}
 use mathlib.Core.Bool.{Bool}
-use mathlib.Core.List.{List, [], _∷_}
+use mathlib.Core.List.{List, [], _∷_, _++_}
 use Prim.Native.Nat.{ℕ, zero, suc, _+_}
-use lib.ListN.{length}
-use Rattle.sheet.specs.declared.Fault.{Fault}
+use lib.ListN.{length, take}
+use Rattle.ground.specs.Bytes.{Bytes}
 use Rattle.sheet.specs.declared.Finding.{Finding}
 use Rattle.sheet.specs.declared.Finding.the-variants.{Taken, Ended, Faulty}
+use Rattle.sheet.specs.declared.Judged.{Judged}
 use Rattle.sheet.specs.declared.Kept.{Kept}
-use Rattle.sheet.specs.declared.Setup.{Setup}
+use Rattle.sheet.specs.declared.Key.{Key}
 use Rattle.sheet.specs.declared.Reading.{Reading}
+use Rattle.sheet.specs.declared.Verdict.{Verdict}
+use Rattle.sheet.specs.declared.Verdict.the-variants.{Whole, Refused}
 use Rattle.sheet.specs.Kinds.{kindOf, bodyLength}
-use Rattle.sheet.specs.Setups.{emptySetup, nothingKept}
+use Rattle.sheet.specs.Limits.{keyLimit}
+use Rattle.sheet.specs.Setups.{nothingKept}
 use Rattle.sheet.specs.Judgement.{judgedOf}
-use Rattle.sheet.specs.Sheet.{refusedAt, after, walk, readOf}
+use Rattle.sheet.specs.KeyTable.{recordsIn, keysIn, keyTable}
+use Rattle.sheet.specs.KeysMet.{keySaid, metIn, metFrom, keysMet}
+use Rattle.sheet.specs.Sheet.{after, walk, readOf, saidOf}
+use Rattle.sheet.proofs.Sheets.{keys-stand}
 use Rattle.claims.specs.Names.{namedIn}
-use Rattle.claims.specs.Silence.{SetupsAlike}
-use Rattle.claims.specs.Sheets.{AlikeFrom, ReadAlike, SheetsReadAlike, SilentSheets}
-use Rattle.claims.proofs.SheetsAlike.{KeptAlike, same-kept, setups, judged-alike}
+use Rattle.claims.specs.Silence.{RecordsAlike}
+use Rattle.claims.specs.Sheets.{AlikeFrom, SheetsAlike, SheetsReadAlike, SilentSheets}
+use Rattle.claims.proofs.Answered.{walk-empty}
+use Rattle.claims.proofs.SheetsAlike.{none-alike, joined-alike, said-alike, judged-alike}
 use Rattle.claims.proofs.Silence.{silent}
 
 module _ (named : ℕ → Bool) where
@@ -29,40 +37,104 @@ module _ (named : ℕ → Bool) where
   alike-length (b ∷ u) (c ∷ v) (suc body) h = ap suc (alike-length u v body h)
   alike-length (b ∷ u) (c ∷ v) zero h = ap suc (alike-length u v (bodyLength (kindOf b)) (h .2))
 
-  refused-read : (f : Fault) (at : ℕ) → ReadAlike named (refusedAt f at) (refusedAt f at)
-  refused-read f at = record { verdict = refl; setup = setups named (record { marks = nothingKept .marks; setup = emptySetup }) _ (same-kept named _) }
-
-  after-alike : (u v : List ℕ) (body at : ℕ) (s t : Setup) (r q : Reading) → AlikeFrom named u v body → SetupsAlike named s t → ReadAlike named r q
-      → (f : Finding) → ReadAlike named (after f s at u r) (after f t at v q)
+  -- whether bytes follow the end record
+  after-alike : (u v : List ℕ) (body at : ℕ) (k : Kept) (r : Reading) → AlikeFrom named u v body → (f : Finding)
+      → after f k at u r ≡ after f k at v r
   unfolding after AlikeFrom
-  after-alike u v body at s t r q h a m (Taken n) = m
-  after-alike [] [] body at s t r q h a m Ended = record { verdict = refl; setup = a }
-  after-alike [] (c ∷ v) body at s t r q h a m Ended = absurd h
-  after-alike (b ∷ u) [] body at s t r q h a m Ended = absurd h
-  after-alike (b ∷ u) (c ∷ v) body at s t r q h a m Ended = refused-read _ (at + 1)
-  after-alike u v body at s t r q h a m (Faulty f) = refused-read f at
+  after-alike u v body at k r h (Taken n) = refl
+  after-alike [] [] body at k r h Ended = refl
+  after-alike [] (c ∷ v) body at k r h Ended = absurd h
+  after-alike (b ∷ u) [] body at k r h Ended = absurd h
+  after-alike (b ∷ u) (c ∷ v) body at k r h Ended = refl
+  after-alike u v body at k r h (Faulty f) = refl
 
-  walk-alike : (u v : List ℕ) (body at : ℕ) (k l : Kept) → KeptAlike named k l → AlikeFrom named u v body → ReadAlike named (walk u body at k) (walk v body at l)
+  walk-alike : (u v : List ℕ) (body at : ℕ) (k : Kept) → AlikeFrom named u v body
+      → walk keyLimit u body at k ≡ walk keyLimit v body at k
   unfolding walk AlikeFrom
-  walk-alike [] [] body at k l a h = refused-read _ at
-  walk-alike [] (c ∷ v) body at k l a h = absurd h
-  walk-alike (b ∷ u) [] body at k l a h = absurd h
-  walk-alike (b ∷ u) (c ∷ v) (suc body) at k l a h = walk-alike u v body (at + 1) k l a h
-  walk-alike (b ∷ u) (c ∷ v) zero at k l a (e, h, more) =
+  walk-alike [] [] body at k h = refl
+  walk-alike [] (c ∷ v) body at k h = absurd h
+  walk-alike (b ∷ u) [] body at k h = absurd h
+  walk-alike (b ∷ u) (c ∷ v) (suc body) at k h = walk-alike u v body (at + 1) k h
+  walk-alike (b ∷ u) (c ∷ v) zero at k (e, h, more) =
       let n = bodyLength (kindOf b) in
-      let judged = judged-alike named k l a b u v (alike-length u v n more) h in
-      let i = judgedOf (b ∷ u) k in
-      let j = judgedOf (b ∷ v) l in
-      let rest = walk-alike u v n (at + 1) (i .kept) (j .kept) (judged .kept) more in
-      subst (λ (z : ℕ). ReadAlike named (walk (b ∷ u) zero at k) (walk (z ∷ v) zero at l)) e
-      (subst (λ (z : Finding). ReadAlike named (walk (b ∷ u) zero at k) (after z (j .kept .setup) at v (walk v n (at + 1) (j .kept)))) (judged .finding)
-      (after-alike u v n at (i .kept .setup) (j .kept .setup) _ _ more (setups named (i .kept) (j .kept) (judged .kept)) rest (i .finding)))
+      let judged = judged-alike named keyLimit b u v k (alike-length u v n more) h in
+      let i = judgedOf keyLimit (b ∷ u) k in
+      let rest = walk-alike u v n (at + 1) (i .kept) more in
+      let onwards : Judged → Reading = λ j. after (j .finding) (j .kept) at v (walk keyLimit v n (at + 1) (j .kept)) in
+      ap (after (i .finding) (i .kept) at u) rest
+      ∙ after-alike u v n at (i .kept) (walk keyLimit v n (at + 1) (i .kept)) more (i .finding)
+      ∙ ap onwards judged ∙ ap (λ (z : ℕ). walk keyLimit (z ∷ v) zero at k) e
+
+  -- the keys that the walk meets
+  met-alike : (u v : List ℕ) (body : ℕ) (k : Kept) → AlikeFrom named u v body
+      → RecordsAlike named (metFrom keyLimit u body k) (metFrom keyLimit v body k)
+  unfolding metFrom AlikeFrom
+  met-alike [] [] body k h = none-alike named
+  met-alike [] (c ∷ v) body k h = absurd h
+  met-alike (b ∷ u) [] body k h = absurd h
+  met-alike (b ∷ u) (c ∷ v) (suc body) k h = met-alike u v body k h
+  met-alike (b ∷ u) (c ∷ v) zero k (e, h, more) =
+      let n = bodyLength (kindOf b) in
+      let judged = judged-alike named keyLimit b u v k (alike-length u v n more) h in
+      let i = judgedOf keyLimit (b ∷ u) k in
+      let rest = met-alike u v n (i .kept) more in
+      let Met : List Key → Type 0 = RecordsAlike named (metFrom keyLimit (b ∷ u) zero k) in
+      let Onwards : Judged → Type 0 =
+      λ j. Met (metIn (j .finding) (keySaid (kindOf b) (take n v)) (metFrom keyLimit v n (j .kept))) in
+      subst (λ (z : ℕ). Met (metFrom keyLimit (z ∷ v) zero k)) e
+      (subst Onwards judged (met-in (i .finding) _ _ _ _ (said-alike named (kindOf b) (take n u) (take n v) h) rest))
+    where
+      met-in : (f : Finding) (s t ks ls : List Key) → RecordsAlike named s t → RecordsAlike named ks ls
+          → RecordsAlike named (metIn f s ks) (metIn f t ls)
+      met-in (Taken n) s t ks ls p q = joined-alike named s t ks ls p q
+      met-in Ended s t ks ls p q = none-alike named
+      met-in (Faulty f) s t ks ls p q = none-alike named
+
+  module _ (u v : List ℕ) (y : Bytes u) (z : Bytes v) (h : SheetsAlike named u v) where
+    same : readOf keyLimit u ≡ readOf keyLimit v
+    unfolding readOf
+    same = walk-alike u v 0 0 nothingKept h
+
+    met : RecordsAlike named (keysMet keyLimit u) (keysMet keyLimit v)
+    unfolding keysMet
+    met = met-alike u v 0 nothingKept h
+
+    abbrev table : List ℕ → List Key
+    table s = keysIn (keyTable s (readOf keyLimit s .keys))
+
+    -- a refused sheet has no keys
+    no-keys : (s : List ℕ) (m : ℕ) → m ≡ 0 → keysIn (keyTable s m) ≡ []
+    unfolding keyTable keysIn recordsIn
+    no-keys s m e = ap (λ (k : ℕ). keysIn (keyTable s k)) e
+
+    keys-alike : (w : Verdict) → readOf keyLimit u .verdict ≡ w → RecordsAlike named (table u) (table v)
+    unfolding readOf
+    keys-alike Whole e =
+        let f : readOf keyLimit v .verdict ≡ Whole = sym (ap (λ (r : Reading). r .verdict) same) ∙ e in
+        subst (λ (l : List Key). RecordsAlike named l (table v)) (keys-stand keyLimit u y e)
+        (subst (RecordsAlike named (keysMet keyLimit u)) (keys-stand keyLimit v z f) met)
+    keys-alike (Refused g at) e =
+        let none = walk-empty u 0 0 nothingKept g at e .1 in
+        let other = sym (ap (λ (r : Reading). r .keys) same) ∙ none in
+        subst (λ (l : List Key). RecordsAlike named l (table v)) (sym (no-keys u _ none))
+        (subst (RecordsAlike named []) (sym (no-keys v _ other)) (none-alike named))
 
 pub sheets-read-alike : SheetsReadAlike
-unfolding readOf
-sheets-read-alike named u v h = walk-alike named u v 0 0 nothingKept nothingKept (same-kept named nothingKept) h
+unfolding saidOf
+sheets-read-alike named u v y z h =
+    let r = same named u v y z h in
+    record {
+      verdict = ap (λ (q : Reading). q .verdict) r;
+      setup = record {
+        features = ap (λ (q : Reading). q .terms .features) r;
+        sizes = ap (λ (q : Reading). q .terms .sizes) r;
+        records = keys-alike named u v y z h (readOf keyLimit u .verdict) refl;
+        profiles = ap (λ (q : Reading). q .terms .profiles) r;
+        locks = ap (λ (q : Reading). q .terms .locks) r;
+      };
+    }
 
 pub silent-sheets : SilentSheets
-silent-sheets ss u v x y h mem =
-    let r = sheets-read-alike (namedIn ss) u v h in
-    (r .verdict, silent ss _ _ x y (r .setup) mem)
+silent-sheets es u v x y p q h mem =
+    let r = sheets-read-alike (namedIn es) u v p q h in
+    (r .verdict, silent es _ _ x y (r .setup) mem)

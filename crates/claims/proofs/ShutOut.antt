@@ -13,45 +13,59 @@ use Rattle.offer.specs.declared.Fault.the-variants.{OtherError}
 use Rattle.offer.specs.declared.Outcome.the-variants.{Replied, Refused}
 use Rattle.entry.specs.declared.State.the-variants.{IamInit}
 use Rattle.tag.specs.declared.Tag.{Tag}
+use Rattle.sheet.specs.KeyTable.{keysIn, recordsIn}
+use Rattle.sheet.specs.Records.{keyOf}
 use Rattle.entry.specs.Sessions.{cleared}
-use Rattle.tag.specs.States.{poweredUp, atRest, inTurn}
+use Rattle.tag.specs.States.{keyed, atRest, inTurn}
 use Rattle.ground.specs.Checks.{judgedTo}
-use Rattle.offer.specs.Records.{offered, hasKey, keysOf}
+use Rattle.keytable.specs.Named.{hasKey}
+use Rattle.offer.specs.Records.{offered}
 use Rattle.offer.specs.Judged.{benchChecks, openingChecks}
 use Rattle.tag.specs.Answers.{answerOf, ofMessage, inOrder, byKind, iam1Answer, ifFine, replied, refused}
-use Rattle.tag.specs.Runs.{run}
-use Rattle.tag.specs.Plays.{Brought, Left, Plays, sentAll, leftAll}
+use Rattle.tag.specs.Runs.{answerTo, run}
+use Rattle.tag.specs.Plays.{Doing, Step, Wake, Left, Plays, eventsOf, leftAll}
 use Rattle.tag.proofs.Played.{played}
 use Rattle.claims.specs.ShutOut.{Program, Standard, OneTag, SomeTag, Each, RefusesEverything, OneFixedReply, LaterForShow, MadeUpLength, ShutOut}
-use Rattle.claims.proofs.Bench.{setup, bench, user, drawn, brings, iam1}
+use Rattle.claims.proofs.Bench.{terms, table, bench, user, drawn, brings, iam1}
 
 -- ---- there is one standard's tag
 
 abbrev pub defined : Program
-defined tag identity user bs = leftAll tag bs (run tag identity user (sentAll bs))
+defined table tag identity user ds = leftAll tag ds (run (keyed tag table) identity user (eventsOf ds))
 
 pub one-tag : OneTag
-one-tag p q hp hq tag identity user bs = played bs _ tag identity user (hp tag identity user bs) ∙ sym (played bs _ tag identity user (hq tag identity user bs))
+one-tag p q hp hq table tag identity user ds =
+    played ds _ table tag identity user (hp table tag identity user ds)
+    ∙ sym (played ds _ table tag identity user (hq table tag identity user ds))
 
-plays : (bs : List Brought) (tag : Tag) (identity user : List ℕ) → Plays tag identity user bs (defined tag identity user bs)
-unfolding Plays leftAll run sentAll
-plays [] tag identity user = tt
-plays (b ∷ bs) tag identity user = (record { outcome = refl; number = refl; next = refl; reply = refl; identity = refl; user = refl }, plays bs _ _ _)
+plays : (ds : List Doing) (table : List ℕ) (tag : Tag) (identity user : List ℕ)
+    → Plays table tag identity user ds (defined table tag identity user ds)
+unfolding Plays leftAll run answerTo eventsOf
+plays [] table tag identity user = tt
+plays (Step b ∷ ds) table tag identity user =
+    (record { outcome = refl; number = refl; next = refl; reply = refl; identity = refl; user = refl }, plays ds _ _ _ _)
+plays (Wake ∷ ds) table tag identity user = (refl, plays ds _ _ _ _)
 
 pub some-tag : SomeTag
-some-tag = record { program = defined; standard = λ tag identity user bs. plays bs tag identity user }
+some-tag = record { program = defined; standard = λ table tag identity user ds. plays ds table tag identity user }
 
 -- what holds of a program that is the standard's, holds of the definition's run
-module _ (p : Program) (h : Standard p) (tag : Tag) (identity user : List ℕ) (bs : List Brought) where
-  pub is-defined : p tag identity user bs ≡ defined tag identity user bs
-  is-defined = played bs _ tag identity user (h tag identity user bs)
+module _ (p : Program) (h : Standard p) (table : List ℕ) (tag : Tag) (identity user : List ℕ) (ds : List Doing) where
+  pub is-defined : p table tag identity user ds ≡ defined table tag identity user ds
+  is-defined = played ds _ table tag identity user (h table tag identity user ds)
 
 -- ---- the runs
 
 -- what an IAM1 with these draws leaves: they are its reply, and its challenge
 abbrev pub answered : ℕ → Left
 answered n = record {
-  stepped = record { outcome = Replied 10; tag = record { setup = setup; session = record { state = IamInit; keyid = 0; tchallenge = drawn n; ichallenge = replicate 4 0 } } };
+  stepped = record {
+    outcome = Replied 10;
+    tag = record {
+      terms = terms;
+      session = record { state = IamInit; keyid = 0; tchallenge = drawn n; ichallenge = replicate 4 0 };
+    };
+  };
   room = over (drawn n) (replicate 172 0);
   identity = [];
   user = user;
@@ -61,24 +75,24 @@ answered n = record {
 abbrev pub unanswered : Left
 unanswered = record { stepped = record { outcome = Refused OtherError; tag = bench }; room = replicate 172 0; identity = []; user = user }
 
-one-call : (n : ℕ) → defined bench [] user (brings iam1 n ∷ []) ≡ answered n ∷ []
-unfolding leftAll run sentAll setup bench poweredUp cleared atRest inTurn judgedTo offered hasKey keysOf benchChecks openingChecks answerOf ofMessage inOrder byKind iam1Answer ifFine replied refused kindOf iamKind lengthFits iam1Of keyLimit profileLimit
+one-call : (n : ℕ) → defined table bench [] user (Step (brings iam1 n) ∷ []) ≡ answered n ∷ []
+unfolding leftAll run answerTo eventsOf terms keysIn recordsIn keyOf bench cleared atRest inTurn judgedTo offered hasKey benchChecks openingChecks answerOf ofMessage inOrder byKind iam1Answer ifFine replied refused kindOf iamKind lengthFits iam1Of keyLimit profileLimit
 one-call n = refl
 
-two-calls : (n : ℕ) → defined bench [] user (brings [] 0 ∷ brings iam1 n ∷ []) ≡ unanswered ∷ answered n ∷ []
-unfolding leftAll run sentAll setup bench poweredUp cleared atRest inTurn judgedTo offered hasKey keysOf benchChecks openingChecks answerOf ofMessage inOrder byKind iam1Answer ifFine replied refused kindOf iamKind lengthFits iam1Of keyLimit profileLimit
+two-calls : (n : ℕ) → defined table bench [] user (Step (brings [] 0) ∷ Step (brings iam1 n) ∷ []) ≡ unanswered ∷ answered n ∷ []
+unfolding leftAll run answerTo eventsOf terms keysIn recordsIn keyOf bench cleared atRest inTurn judgedTo offered hasKey benchChecks openingChecks answerOf ofMessage inOrder byKind iam1Answer ifFine replied refused kindOf iamKind lengthFits iam1Of keyLimit profileLimit
 two-calls n = refl
 
 -- ---- the programs
 
 -- of one call
 module _ (p : Program) (h : Standard p) (n : ℕ) (P : Left → Type 0) where
-  of-one : Each P (p bench [] user (brings iam1 n ∷ [])) → P (answered n)
+  of-one : Each P (p table bench [] user (Step (brings iam1 n) ∷ [])) → P (answered n)
   unfolding Each
-  of-one e = subst (λ (xs : List Left). Each P xs) (is-defined p h bench [] user (brings iam1 n ∷ []) ∙ one-call n) e .0
+  of-one e = subst (λ (xs : List Left). Each P xs) (is-defined p h table bench [] user (Step (brings iam1 n) ∷ []) ∙ one-call n) e .0
 
 pub refuses-everything : ShutOut RefusesEverything
-refuses-everything p says h = of-one p h 0 (λ x. (n : ℕ) → x .stepped .outcome ≡ Replied n → ⊥) (says bench [] user (brings iam1 0 ∷ [])) 10 refl
+refuses-everything p says h = of-one p h 0 (λ x. (n : ℕ) → x .stepped .outcome ≡ Replied n → ⊥) (says table bench [] user (Step (brings iam1 0) ∷ [])) 10 refl
 
 -- the first draw tells two replies apart
 apart : drawn 0 ≡ drawn 1 → ⊥
@@ -88,17 +102,17 @@ pub one-fixed-reply : (reply : List ℕ) → ShutOut (OneFixedReply reply)
 one-fixed-reply reply p says h = apart (sym (sent 0) ∙ sent 1)
   where
     sent : (n : ℕ) → reply ≡ drawn n
-    sent n = sym (of-one p h n (λ x. (k : ℕ) → x .stepped .outcome ≡ Replied k → take k (x .room) ≡ reply) (says bench [] user (brings iam1 n ∷ [])) 10 refl)
+    sent n = sym (of-one p h n (λ x. (k : ℕ) → x .stepped .outcome ≡ Replied k → take k (x .room) ≡ reply) (says table bench [] user (Step (brings iam1 n) ∷ [])) 10 refl)
 
 pub made-up-length : ShutOut MadeUpLength
 unfolding kindOf iamKind
-made-up-length p says h = of-one p h 0 (λ x. x .stepped .outcome ≡ Replied 10 → ⊥) (says bench [] user (brings iam1 0) 0x40 (0x00 ∷ []) refl refl) refl
+made-up-length p says h = of-one p h 0 (λ x. x .stepped .outcome ≡ Replied 10 → ⊥) (says table bench [] user (brings iam1 0) 0x40 (0x00 ∷ []) refl refl) refl
 
 pub later-for-show : ShutOut LaterForShow
-later-for-show p says h = apart (ap first (sym (later 0) ∙ says bench [] user (brings [] 0) (brings iam1 0 ∷ []) (brings iam1 1 ∷ []) refl ∙ later 1))
+later-for-show p says h = apart (ap first (sym (later 0) ∙ says table bench [] user (Step (brings [] 0)) (Step (brings iam1 0) ∷ []) (Step (brings iam1 1) ∷ []) refl ∙ later 1))
   where
-    later : (n : ℕ) → drop 1 (p bench [] user (brings [] 0 ∷ brings iam1 n ∷ [])) ≡ answered n ∷ []
-    later n = ap (drop 1) (is-defined p h bench [] user (brings [] 0 ∷ brings iam1 n ∷ []) ∙ two-calls n)
+    later : (n : ℕ) → drop 1 (p table bench [] user (Step (brings [] 0) ∷ Step (brings iam1 n) ∷ [])) ≡ answered n ∷ []
+    later n = ap (drop 1) (is-defined p h table bench [] user (Step (brings [] 0) ∷ Step (brings iam1 n) ∷ []) ∙ two-calls n)
 
     first : List Left → List ℕ
     first [] = []

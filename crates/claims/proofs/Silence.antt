@@ -8,14 +8,15 @@ use lib.Dec.{eqb}
 use borrow.Author.Tests.{eqb-true, eqb-false}
 use Rattle.ground.specs.Choice.{either}
 use Rattle.modes.specs.Room.{over}
-use Rattle.sheet.specs.declared.Setup.{Setup}
+use Rattle.sheet.specs.Setups.{Setup}
 use Rattle.entry.specs.declared.Session.{Session}
-use Rattle.tag.specs.declared.Tag.{Tag}
 use Rattle.entry.specs.Sessions.{cleared}
-use Rattle.tag.specs.States.{poweredUp}
+use Rattle.tag.specs.States.{KeyedTag, keyed, awake, poweredUp}
 use Rattle.tag.specs.Answers.{Answer, answerOf}
-use Rattle.tag.specs.Runs.{Sent, callOf, tagAfter, run}
-use Rattle.tag.specs.Plays.{Brought, Left, sentAll, leftAll}
+use Rattle.tag.specs.Runs.{Event, Message, PowerUp, callOf, answerTo, run}
+use Rattle.tag.specs.declared.Tag.{Tag}
+use Rattle.tag.specs.Reactions.{nextTag}
+use Rattle.tag.specs.Plays.{Doing, Left, eventsOf, roomOf, leftAll}
 use Rattle.tag.proofs.Played.{played}
 use Rattle.claims.specs.Names.{namedBy, namedIn}
 use Rattle.claims.specs.Silence.{SetupsAlike, Memory, MemoriesAlike, SameChange, SameAnswers, SameLefts, wordOf, Silent, SilentCode, ChangeAlike}
@@ -31,16 +32,21 @@ either-right true d h = refl
 either-right false d h = h
 
 module _ (named : ℕ → Bool) (s t : Setup) (alike : SetupsAlike named s t) (x y : Memory) (mem : MemoriesAlike named s x y) where
-  abbrev holding : Setup → Session → Tag
+  abbrev holding : Setup → Session → KeyedTag
   holding setup held = record { setup = setup; session = held }
 
   -- from any moment on
-  silent-from : (ss : List Sent) → ((keyid : ℕ) → namedIn ss keyid ≡ true → named keyid ≡ true) → (held : Session) → HeldNamed named held
+  silent-from : (es : List Event) → ((keyid : ℕ) → namedIn es keyid ≡ true → named keyid ≡ true) → (held : Session)
+      → HeldNamed named held
       → (i u j v : List ℕ) → SameChange (x .identity) (y .identity) i j → SameChange (x .user) (y .user) u v
-      → SameAnswers x y (run (holding s held) i u ss) (run (holding t held) j v ss)
-  unfolding SameAnswers run namedIn
+      → SameAnswers x y (run (holding s held) i u es) (run (holding t held) j v es)
+  unfolding SameAnswers run answerTo namedIn
   silent-from [] all held h i u j v f g = tt
-  silent-from (sent ∷ ss) all held h i u j v f g =
+  silent-from (PowerUp ∷ es) all held h i u j v f g = (
+    record { outcome = refl; reply = refl; session = refl; identity = f; user = g },
+    silent-from es all cleared (cleared-named named) i u j v f g,
+  )
+  silent-from (Message sent ∷ es) all held h i u j v f g =
       let now = still-alike named s x y mem i j u v f g in
       let step = step-alike named s t alike (record { identity = i; user = u }) (record { identity = j; user = v }) now sent (λ k n. all k (either-left _ _ n)) held h in
       let a = answerOf (callOf sent i u) (holding s held) in
@@ -48,37 +54,40 @@ module _ (named : ℕ → Bool) (s t : Setup) (alike : SetupsAlike named s t) (x
       let f′ = one-after-another (x .identity) (y .identity) i j (a .identity) (b .identity) f (step .same .identity) in
       let g′ = one-after-another (x .user) (y .user) u v (a .user) (b .user) g (step .same .user) in (
         record { outcome = step .same .outcome; reply = step .same .reply; session = step .same .session; identity = f′; user = g′ },
-        subst (λ (z : Session). SameAnswers x y (run (holding s (a .session)) (a .identity) (a .user) ss) (run (holding t z) (b .identity) (b .user) ss)) (step .same .session)
-            (silent-from ss (λ k n. all k (either-right (namedBy (sent .message) k) _ n)) (a .session) (step .holds) (a .identity) (a .user) (b .identity) (b .user) f′ g′),
+        subst (λ (z : Session). SameAnswers x y (run (holding s (a .session)) (a .identity) (a .user) es)
+            (run (holding t z) (b .identity) (b .user) es)) (step .same .session)
+            (silent-from es (λ k n. all k (either-right (namedBy (sent .message) k) _ n)) (a .session) (step .holds) (a .identity) (a .user) (b .identity) (b .user) f′ g′),
       )
 
 -- Demand 3.
 pub silent : Silent
 unfolding poweredUp
-silent ss s t x y alike mem =
-    silent-from (namedIn ss) s t alike x y mem ss (λ k n. n) cleared (cleared-named (namedIn ss)) (x .identity) (x .user) (y .identity) (y .user)
+silent es s t x y alike mem =
+    silent-from (namedIn es) s t alike x y mem es (λ k n. n) cleared (cleared-named (namedIn es)) (x .identity) (x .user) (y .identity) (y .user)
     (unchanged (x .identity) (y .identity)) (unchanged (x .user) (y .user))
 
 -- ---- the code
 
-lefts : (x y : Memory) (bs : List Brought) (p q : Tag) (as′ bs′ : List Answer) → SameAnswers x y as′ bs′ → SameLefts x y (leftAll p bs as′) (leftAll q bs bs′)
+lefts : (x y : Memory) (ds : List Doing) (p q : Tag) (as′ bs′ : List Answer) → SameAnswers x y as′ bs′
+    → SameLefts x y (leftAll p ds as′) (leftAll q ds bs′)
 unfolding SameAnswers SameLefts leftAll
 lefts x y [] p q as′ bs′ h = tt
-lefts x y (b ∷ bs) p q [] [] h = tt
-lefts x y (b ∷ bs) p q [] (c ∷ cs) h = absurd h
-lefts x y (b ∷ bs) p q (a ∷ more) [] h = absurd h
-lefts x y (b ∷ bs) p q (a ∷ more) (c ∷ cs) (e, h) = (
-  record { outcome = e .outcome; session = e .session; room = ap (λ (r : List ℕ). over r (b .room)) (e .reply); identity = e .identity; user = e .user },
-  lefts x y bs (tagAfter p a) (tagAfter q c) more cs h,
+lefts x y (d ∷ ds) p q [] [] h = tt
+lefts x y (d ∷ ds) p q [] (c ∷ cs) h = absurd h
+lefts x y (d ∷ ds) p q (a ∷ more) [] h = absurd h
+lefts x y (d ∷ ds) p q (a ∷ more) (c ∷ cs) (e, h) = (
+  record { outcome = e .outcome; session = e .session; room = ap (λ (r : List ℕ). over r (roomOf d)) (e .reply); identity = e .identity; user = e .user },
+  lefts x y ds (nextTag p a) (nextTag q c) more cs h,
 )
 
 pub silent-code : SilentCode
-silent-code bs s t x y ls rs alike mem p q =
-    let e = played bs ls (poweredUp s) (x .identity) (x .user) p in
-    let f = played bs rs (poweredUp t) (y .identity) (y .user) q in
-    let h = lefts x y bs (poweredUp s) (poweredUp t) _ _ (silent (sentAll bs) s t x y alike mem) in
-    subst (λ (z : List Left). SameLefts x y ls z) (sym f)
-    (subst (λ (z : List Left). SameLefts x y z (leftAll (poweredUp t) bs (run (poweredUp t) (y .identity) (y .user) (sentAll bs)))) (sym e) h)
+unfolding poweredUp
+silent-code ds p q k l x y ls rs alike mem u v =
+    let e = played ds ls k (awake p) (x .identity) (x .user) u in
+    let f = played ds rs l (awake q) (y .identity) (y .user) v in
+    let h = lefts x y ds (awake p) (awake q) _ _ (silent (eventsOf ds) _ _ x y alike mem) in
+    let right = leftAll (awake q) ds (run (keyed (awake q) l) (y .identity) (y .user) (eventsOf ds)) in
+    subst (λ (z : List Left). SameLefts x y ls z) (sym f) (subst (λ (z : List Left). SameLefts x y z right) (sym e) h)
 
 -- ---- from one moment to another
 

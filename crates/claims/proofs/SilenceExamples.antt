@@ -15,8 +15,8 @@ use Rattle.memory.specs.Rights.{permitted}
 use Rattle.sheet.specs.declared.Features.{Features}
 use Rattle.sheet.specs.declared.Key.{Key}
 use Rattle.sheet.specs.declared.Slot.{Slot}
-use Rattle.sheet.specs.declared.Setup.{Setup}
-use Rattle.sheet.specs.Setups.{noKey, noSlot, noLock}
+use Rattle.sheet.specs.Setups.{Setup}
+use Rattle.sheet.specs.Setups.{noSlot, noLock}
 use Rattle.frames.specs.Kinds.{kindOf, iamKind}
 use Rattle.frames.specs.Lengths.{lengthFits}
 use Rattle.frames.specs.Messages.{iam1Of}
@@ -25,10 +25,11 @@ use Rattle.entry.specs.declared.State.the-variants.{IamInit}
 use Rattle.ground.specs.Checks.{judgedTo}
 use Rattle.entry.specs.Sessions.{cleared}
 use Rattle.tag.specs.States.{atRest, inTurn, poweredUp}
-use Rattle.offer.specs.Records.{offered, hasKey, keyOf, keysOf, keyPresent, keyNamed, slotNamed}
+use Rattle.keytable.specs.Named.{hasKey, keyWith}
+use Rattle.offer.specs.Records.{offered, slotNamed}
 use Rattle.offer.specs.Judged.{benchChecks, openingChecks}
 use Rattle.tag.specs.Answers.{replied, ifFine, iam1Answer, byKind, inOrder, ofMessage, answerOf}
-use Rattle.tag.specs.Runs.{Sent, run}
+use Rattle.tag.specs.Runs.{Event, Message, answerTo, run}
 use Rattle.claims.specs.Names.{carriesKeyid, namedBy, namedIn}
 use Rattle.claims.specs.Silence.{RecordsAlike, SetupsAlike, Memory, MemoriesAlike, SameAnswers, wordOf, answers}
 use Rattle.claims.proofs.Silence.{silent}
@@ -53,7 +54,7 @@ unfoldable pub carrying : Key → Key → Setup
 carrying k l = record {
   features = features;
   sizes = record { identity = 0; user = 2 };
-  keys = record { count = 2; table = k ∷ l ∷ replicate 14 noKey };
+  keys = k ∷ l ∷ [];
   profiles = oneWord 0 ∷ oneWord 1 ∷ replicate 14 noSlot;
   locks = record { count = 0; table = replicate 16 noLock };
 }
@@ -72,7 +73,7 @@ empty-slot (suc n) (suc i) = empty-slot n i
 module _ (named : ℕ → Bool) (unnamed : named 2 ≡ false) (enc : List ℕ) where
   -- whatever the second client's keys are
   pub keys-hidden : (e e′ m m′ : List ℕ) → SetupsAlike named (carrying (ours enc) (theirs e m)) (carrying (ours enc) (theirs e′ m′))
-  unfolding carrying RecordsAlike keysOf
+  unfolding carrying RecordsAlike
   keys-hidden e e′ m m′ = record {
     features = refl;
     sizes = refl;
@@ -89,8 +90,8 @@ module _ (named : ℕ → Bool) (unnamed : named 2 ≡ false) (enc : List ℕ) w
     setup = carrying (ours enc) l
 
     -- a named record is the first
-    first-only : (keyid : ℕ) → named keyid ≡ true → keyPresent setup keyid ≡ true → keyid ≡ 1
-    unfolding carrying keysOf hasKey
+    first-only : (keyid : ℕ) → named keyid ≡ true → hasKey keyid (setup .keys) ≡ true → keyid ≡ 1
+    unfolding carrying hasKey
     first-only keyid n h = tested (eqb 1 keyid) refl (eqb (l .id) keyid) refl h
       where
         tested : (b : Bool) → eqb 1 keyid ≡ b → (d : Bool) → eqb (l .id) keyid ≡ d → either b (either d false) ≡ true → keyid ≡ 1
@@ -101,8 +102,8 @@ module _ (named : ℕ → Bool) (unnamed : named 2 ≡ false) (enc : List ℕ) w
         tested false p false q g = absurd (false≢true g)
 
     -- so only word 0 of the user area is open
-    word-zero : (w p : ℕ) → permitted (keyNamed setup 1 .mpi) p ≡ true → slotNamed setup p .present ≡ true → w < profileEnd (slotNamed setup p .profile) → w ≡ 0
-    unfolding carrying keysOf keyOf slotNamed permitted profileEnd noSlot
+    word-zero : (w p : ℕ) → permitted (keyWith 1 (setup .keys) .mpi) p ≡ true → slotNamed (setup .profiles) p .present ≡ true → w < profileEnd (slotNamed (setup .profiles) p .profile) → w ≡ 0
+    unfolding carrying keyWith slotNamed permitted profileEnd noSlot
     word-zero w zero r h b = omega arith
     word-zero w (suc zero) r h b = absurd (false≢true r)
     word-zero w (suc (suc p)) r h b = absurd (false≢true (ap (λ (s : Slot). s .present) (sym (empty-slot 14 p)) ∙ h))
@@ -115,7 +116,7 @@ module _ (named : ℕ → Bool) (unnamed : named 2 ≡ false) (enc : List ℕ) w
       identity = λ w o. refl;
       user = λ w o.
           (let one = first-only (o .keyid) (o .name) (o .key) in
-          let z = word-zero w (o .profile) (subst (λ (k : ℕ). permitted (keyNamed setup k .mpi) (o .profile) ≡ true) one (o .right)) (o .present) (o .before) in
+          let z = word-zero w (o .profile) (subst (λ (k : ℕ). permitted (keyWith k (setup .keys) .mpi) (o .profile) ≡ true) one (o .right)) (o .present) (o .before) in
           subst (λ (k : ℕ). wordOf (keeping a b .user) k ≡ wordOf (keeping a′ b′ .user) k) (sym z) refl);
     }
 
@@ -124,8 +125,8 @@ module _ (named : ℕ → Bool) (unnamed : named 2 ≡ false) (enc : List ℕ) w
 abbrev ten : List ℕ
 ten = 1 ∷ 2 ∷ 3 ∷ 4 ∷ 5 ∷ 6 ∷ 7 ∷ 8 ∷ 9 ∷ 10 ∷ []
 
-abbrev asked : List Sent
-asked = record { message = 0x40 ∷ 1 ∷ []; draws = ten; room = 172 } ∷ []
+abbrev asked : List Event
+asked = Message (record { message = 0x40 ∷ 1 ∷ []; draws = ten; room = 172 }) ∷ []
 
 pub not-named : namedIn asked 2 ≡ false
 unfolding namedIn namedBy carriesKeyid kindOf iamKind
@@ -139,7 +140,7 @@ pub answered : (enc : List ℕ) (l : Key) (a b : ℕ) → answers (carrying (our
       identity = [];
       user = 1 ∷ 2 ∷ a ∷ b ∷ [];
     } ∷ []
-unfolding run poweredUp answerOf benchChecks judgedTo ofMessage inOrder kindOf iamKind offered inTurn atRest cleared byKind iam1Answer iam1Of openingChecks lengthFits hasKey keysOf carrying ifFine replied
+unfolding run answerTo poweredUp answerOf benchChecks judgedTo ofMessage inOrder kindOf iamKind offered inTurn atRest cleared byKind iam1Answer iam1Of openingChecks lengthFits hasKey carrying ifFine replied
 answered enc l a b = refl
 
 -- Two tags that differ in every key byte of the second client's record, and in its word, and answer alike.

@@ -14,8 +14,8 @@ use Rattle.memory.specs.Address.{overruns}
 use Rattle.memory.specs.Rights.{permitted, someLocked}
 use Rattle.sheet.specs.declared.Key.{Key}
 use Rattle.sheet.specs.declared.Slot.{Slot}
-use Rattle.sheet.specs.declared.Setup.{Setup}
-use Rattle.sheet.specs.Setups.{noKey, noSlot}
+use Rattle.sheet.specs.Setups.{Setup, noSlot}
+use Rattle.keytable.specs.Named.{noKey}
 use Rattle.frames.specs.declared.Kind.{Kind}
 use Rattle.frames.specs.declared.Kind.the-variants.{Tam2, Iam2, Iam3, Mam2}
 use Rattle.frames.specs.declared.Custom.{Custom}
@@ -29,7 +29,8 @@ use Rattle.entry.specs.declared.Session.{Session}
 use Rattle.offer.specs.declared.Verdict.the-variants.{Fine}
 use Rattle.ground.specs.Checks.{_else_}
 use Rattle.offer.specs.Checks.{judged}
-use Rattle.offer.specs.Records.{sizeOffered, revOffered, modeOffered, modeSupported, hasKey, keyOf, keysOf, keyNamed, slotNamed, blockAsked}
+use Rattle.keytable.specs.Named.{hasKey, keyWith}
+use Rattle.offer.specs.Records.{sizeOffered, revOffered, modeOffered, modeSupported, slotNamed, blockAsked}
 use Rattle.entry.specs.Opened.{iamProof, mamProof, iam3Proof}
 use Rattle.offer.specs.Judged.{drawBytes, benchChecks, openingChecks}
 use Rattle.tam.specs.Judged.{tam2Checks}
@@ -39,22 +40,22 @@ use Rattle.claims.specs.Silence.{SetupsAlike}
 use Rattle.claims.proofs.SilenceRecords.{Found, found}
 
 module _ (named : ℕ → Bool) (s t : Setup) (alike : SetupsAlike named s t) where
-  pub finds : (keyid : ℕ) → Found named keyid (keysOf s) (keysOf t)
-  finds keyid = found named keyid (keysOf s) (keysOf t) (alike .records)
+  pub finds : (keyid : ℕ) → Found named keyid (s .keys) (t .keys)
+  finds keyid = found named keyid (s .keys) (t .keys) (alike .records)
 
-  slot-alike : (p : ℕ) → slotNamed s p ≡ slotNamed t p
+  slot-alike : (p : ℕ) → slotNamed (s .profiles) p ≡ slotNamed (t .profiles) p
   unfolding slotNamed
   slot-alike p = ap (λ (ps : List Slot). getD ps p noSlot) (alike .profiles)
 
-  pub block-alike : (c : Custom) → blockAsked s c ≡ blockAsked t c
+  pub block-alike : (c : Custom) → blockAsked (s .profiles) c ≡ blockAsked (t .profiles) c
   unfolding blockAsked
   block-alike c j = wordsAsked (slot-alike (c .profile) j .profile) c
 
-  mode-alike : (keyid p : ℕ) → modeSupported (s .features) (keyNamed s keyid) p ≡ modeSupported (t .features) (keyNamed t keyid) p
+  mode-alike : (keyid p : ℕ) → modeSupported (s .features) (keyWith keyid (s .keys)) p ≡ modeSupported (t .features) (keyWith keyid (t .keys)) p
   unfolding modeSupported
   mode-alike keyid p j = both (modeOffered (alike .features j) p) (implies (hasMac p) (finds keyid .mac j))
 
-  pub bench-alike : (draws room i u j v : ℕ) → i ≡ j → u ≡ v → judged (benchChecks s draws room i u) ≡ judged (benchChecks t draws room j v)
+  pub bench-alike : (draws room i u j v : ℕ) → i ≡ j → u ≡ v → judged (benchChecks (s .sizes) draws room i u) ≡ judged (benchChecks (t .sizes) draws room j v)
   unfolding benchChecks
   bench-alike draws room i u j v e f k = judged
       ((eqb draws drawBytes else BenchFault)
@@ -64,7 +65,7 @@ module _ (named : ℕ → Bool) (s t : Setup) (alike : SetupsAlike named s t) wh
       ∷ [])
 
   module _ (m : List ℕ) where
-    pub opening-alike : (kind : Kind) (rfu keyid : ℕ) → judged (openingChecks kind rfu keyid s m) ≡ judged (openingChecks kind rfu keyid t m)
+    pub opening-alike : (kind : Kind) (rfu keyid : ℕ) → judged (openingChecks kind rfu keyid (s .keys) m) ≡ judged (openingChecks kind rfu keyid (t .keys) m)
     unfolding openingChecks
     opening-alike kind rfu keyid j =
         judged ((lengthFits kind m else OtherError) ∷ (eqb rfu 0 else NotSupported) ∷ (finds keyid .present j else NotSupported) ∷ [])
@@ -85,8 +86,8 @@ module _ (named : ℕ → Bool) (s t : Setup) (alike : SetupsAlike named s t) wh
         ∷ (mode-alike (f .keyid) (f .protmode) j else NotSupported)
         ∷ [])
 
-    module _ (held : Session) (same : keyNamed s (held .keyid) ≡ keyNamed t (held .keyid)) where
-      pub iam2-alike : judged (iam2Checks s held m) ≡ judged (iam2Checks t held m)
+    module _ (held : Session) (same : keyWith (held .keyid) (s .keys) ≡ keyWith (held .keyid) (t .keys)) where
+      pub iam2-alike : judged (iam2Checks (s .keys) held m) ≡ judged (iam2Checks (t .keys) held m)
       unfolding iam2Checks
       iam2-alike j = judged
           ((lengthFits Iam2 m else OtherError)
@@ -94,7 +95,7 @@ module _ (named : ℕ → Bool) (s t : Setup) (alike : SetupsAlike named s t) wh
           ∷ (iamProof C-IAM2 held (aesEnc (same j .enc) (iam2Of m .iresponse)) else ProofWrong)
           ∷ [])
 
-      pub mam2-alike : judged (mam2Checks s held m) ≡ judged (mam2Checks t held m)
+      pub mam2-alike : judged (mam2Checks (s .keys) held m) ≡ judged (mam2Checks (t .keys) held m)
       unfolding mam2Checks
       mam2-alike j = judged
           ((lengthFits Mam2 m else OtherError)
@@ -127,39 +128,39 @@ none-permitted p h =
     let e = eqb-true (0 / 2 ^ p % 2) 1 h in
     omega arith
 
-pub permitted-present : (keyid p : ℕ) (ks : List Key) → permitted (keyOf keyid ks .mpi) p ≡ true → hasKey keyid ks ≡ true
-unfolding hasKey keyOf noKey
+pub permitted-present : (keyid p : ℕ) (ks : List Key) → permitted (keyWith keyid ks .mpi) p ≡ true → hasKey keyid ks ≡ true
+unfolding hasKey keyWith noKey
 permitted-present keyid p [] h = absurd (none-permitted p h)
 permitted-present keyid p (k ∷ ks) h = tested (eqb (k .id) keyid) h (λ g. permitted-present keyid p ks g)
   where
-    tested : (b : Bool) → permitted (pick b k (keyOf keyid ks) .mpi) p ≡ true → (permitted (keyOf keyid ks .mpi) p ≡ true → hasKey keyid ks ≡ true)
+    tested : (b : Bool) → permitted (pick b k (keyWith keyid ks) .mpi) p ≡ true → (permitted (keyWith keyid ks .mpi) p ≡ true → hasKey keyid ks ≡ true)
         → either b (hasKey keyid ks) ≡ true
     tested true g more = refl
     tested false g more = more g
 
 module _ (setup : Setup) (m : List ℕ) (h : judged (tam2Checks setup m) ≡ Fine) where
-  pub tam2-slot : slotNamed setup (tam2Of m .custom .profile) .present ≡ true
+  pub tam2-slot : slotNamed (setup .profiles) (tam2Of m .custom .profile) .present ≡ true
   unfolding tam2Checks
   tam2-slot =
       let k = others-hold _ _ (others-hold _ _ (others-hold _ _ (others-hold _ _ h))) in
       first-holds _ _ (others-hold _ _ k)
 
-  pub tam2-right : permitted (keyNamed setup (tam2Of m .keyid) .mpi) (tam2Of m .custom .profile) ≡ true
+  pub tam2-right : permitted (keyWith (tam2Of m .keyid) (setup .keys) .mpi) (tam2Of m .custom .profile) ≡ true
   unfolding tam2Checks
   tam2-right =
       let k = others-hold _ _ (others-hold _ _ (others-hold _ _ (others-hold _ _ h))) in
       first-holds _ _ (others-hold _ _ (others-hold _ _ k))
 
 module _ (setup : Setup) (held : Session) (m : List ℕ) (h : judged (iam3Checks setup held m) ≡ Fine) where
-  pub iam3-slot : slotNamed setup (iam3Of m .custom .profile) .present ≡ true
+  pub iam3-slot : slotNamed (setup .profiles) (iam3Of m .custom .profile) .present ≡ true
   unfolding iam3Checks
   iam3-slot = first-holds _ _ (others-hold _ _ (others-hold _ _ (others-hold _ _ h)))
 
-  pub iam3-right : permitted (keyNamed setup (held .keyid) .mpi) (iam3Of m .custom .profile) ≡ true
+  pub iam3-right : permitted (keyWith (held .keyid) (setup .keys) .mpi) (iam3Of m .custom .profile) ≡ true
   unfolding iam3Checks
   iam3-right = first-holds _ _ (others-hold _ _ (others-hold _ _ (others-hold _ _ (others-hold _ _ h))))
 
-  pub iam3-inside : overruns (slotNamed setup (iam3Of m .custom .profile) .profile) (blockAsked setup (iam3Of m .custom)) ≡ false
+  pub iam3-inside : overruns (slotNamed (setup .profiles) (iam3Of m .custom .profile) .profile) (blockAsked (setup .profiles) (iam3Of m .custom)) ≡ false
   unfolding iam3Checks
   iam3-inside =
       let k = others-hold _ _ (others-hold _ _ (others-hold _ _ (others-hold _ _ h))) in

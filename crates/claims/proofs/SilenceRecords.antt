@@ -6,14 +6,14 @@ use Prim.Native.Nat.{ℕ}
 use lib.Dec.{eqb}
 use borrow.Author.Tests.{eqb-true}
 use Rattle.sheet.specs.declared.Key.{Key}
-use Rattle.offer.specs.Records.{hasKey, keyOf}
+use Rattle.keytable.specs.Named.{hasKey, keyWith}
 use Rattle.claims.specs.Silence.{RecordAlike, RecordsAlike}
 
 pub record Found (named : ℕ → Bool) (keyid : ℕ) (ks ls : List Key) : Type 0 where
   pub present : hasKey keyid ks ≡ hasKey keyid ls
-  pub mac : keyOf keyid ks .mac ≡ keyOf keyid ls .mac
-  pub mpi : keyOf keyid ks .mpi ≡ keyOf keyid ls .mpi
-  pub whole : named keyid ≡ true → keyOf keyid ks ≡ keyOf keyid ls
+  pub mac : keyWith keyid ks .mac ≡ keyWith keyid ls .mac
+  pub mpi : keyWith keyid ks .mpi ≡ keyWith keyid ls .mpi
+  pub whole : named keyid ≡ true → keyWith keyid ks ≡ keyWith keyid ls
 
 module _ (named : ℕ → Bool) (keyid : ℕ) where
   -- a named record is the same in both
@@ -24,7 +24,7 @@ module _ (named : ℕ → Bool) (keyid : ℕ) where
 
   first : (k l : Key) (ks ls : List Key) → RecordAlike named k l → Found named keyid ks ls → (b : Bool) → eqb (k .id) keyid ≡ b → eqb (l .id) keyid ≡ b
       → Found named keyid (k ∷ ks) (l ∷ ls)
-  unfolding hasKey keyOf
+  unfolding hasKey keyWith
   first k l ks ls r f true p q = record {
     present = rw (p, q);
     mac = rw (p, q) (r .mac);

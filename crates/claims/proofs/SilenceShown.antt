@@ -30,12 +30,13 @@ use Rattle.offer.specs.declared.Outcome.the-variants.{Replied}
 use Rattle.ground.specs.Checks.{judgedTo}
 use Rattle.entry.specs.Sessions.{cleared}
 use Rattle.tag.specs.States.{inTurn, poweredUp}
-use Rattle.offer.specs.Records.{offered, sizeOffered, revOffered, modeOffered, modeSupported, hasKey, keyOf, keysOf, slotNamed, blockAsked}
+use Rattle.keytable.specs.Named.{hasKey, keyWith}
+use Rattle.offer.specs.Records.{offered, sizeOffered, revOffered, modeOffered, modeSupported, slotNamed, blockAsked}
 use Rattle.tam.specs.Replies.{tamBlock, tam1Reply, tam2Body, tam2Reply}
 use Rattle.offer.specs.Judged.{benchChecks, openingChecks}
 use Rattle.tam.specs.Judged.{tam2Checks}
 use Rattle.tag.specs.Answers.{replied, ifFine, tam1Answer, tam2Answer, byKind, inOrder, ofMessage, answerOf}
-use Rattle.tag.specs.Runs.{Sent, run}
+use Rattle.tag.specs.Runs.{Event, Message, answerTo, run}
 use Rattle.claims.specs.Silence.{Memory, SameAnswers, answers}
 use Rattle.claims.proofs.SilenceExamples.{ours, carrying, keeping}
 use Rattle.claims.proofs.Traces.{Row, traced}
@@ -95,16 +96,16 @@ second-reply =
 
 -- ---- TAM1 in the name of record 1
 
-abbrev asked : List Sent
-asked = record {
+abbrev asked : List Event
+asked = Message (record {
   message = 0 ∷ 1 ∷ 0x96 ∷ 0x56 ∷ 0x44 ∷ 0x02 ∷ 0x37 ∷ 0x57 ∷ 0x96 ∷ 0xC6 ∷ 0x96 ∷ 0x64 ∷ [];
   draws = 0x6D ∷ 0x69 ∷ 0x63 ∷ 0x72 ∷ replicate 6 0;
   room = 172;
-} ∷ []
+}) ∷ []
 
 answered : (enc : List ℕ) (l : Key) (a b : ℕ) → answers (carrying (ours enc) l) (keeping a b) asked
     ≡ record { outcome = Replied (length (aesEnc enc block)); session = cleared; reply = aesEnc enc block; identity = []; user = 1 ∷ 2 ∷ a ∷ b ∷ [] } ∷ []
-unfolding run poweredUp answerOf benchChecks judgedTo ofMessage inOrder kindOf tamKind offered inTurn byKind tam1Answer tam1Of bytesFrom openingChecks lengthFits hasKey keyOf keysOf carrying ifFine replied tam1Reply tamBlock twoBytes
+unfolding run answerTo poweredUp answerOf benchChecks judgedTo ofMessage inOrder kindOf tamKind offered inTurn byKind tam1Answer tam1Of bytesFrom openingChecks lengthFits hasKey keyWith carrying ifFine replied tam1Reply tamBlock twoBytes
 answered enc l a b = refl
 
 -- Two tags that differ in the ENC_key of record 1, and are told apart by their replies.
@@ -123,8 +124,14 @@ told-apart l a b h =
 abbrev challenge : List ℕ
 challenge = replicate 10 0
 
-abbrev read : List Sent
-read = record { message = 0x38 ∷ 1 ∷ (challenge ++ (0 ∷ 0 ∷ 0 ∷ [])); draws = replicate 10 0; room = 172 } ∷ []
+abbrev read : List Event
+read =
+    Message (record {
+      message = 0x38 ∷ 1 ∷ (challenge ++ (0 ∷ 0 ∷ 0 ∷ []));
+      draws = replicate 10 0;
+      room = 172;
+    })
+    ∷ []
 
 abbrev showing : ℕ → ℕ → Memory
 showing a b = record { identity = []; user = a ∷ b ∷ 3 ∷ 4 ∷ [] }
@@ -141,7 +148,7 @@ shown enc a b = (authentication enc ++ clear a b) ++ []
 
 word-answered : (enc : List ℕ) (l : Key) (a b : ℕ) → answers (carrying (ours enc) l) (showing a b) read
     ≡ record { outcome = Replied (length (shown enc a b)); session = cleared; reply = shown enc a b; identity = []; user = a ∷ b ∷ 3 ∷ 4 ∷ [] } ∷ []
-unfolding run poweredUp answerOf benchChecks judgedTo ofMessage inOrder kindOf tamKind offered inTurn byKind tam2Answer tam2Of bytesFrom sizeOf selectCustom tam2Checks lengthFits sizeOffered revOffered modeSupported modeOffered hasMac hasKey keyOf keysOf slotNamed blockAsked wordsAsked addressOf stepOf overruns profileEnd lastWord permitted windowOf areaOf partOf within carrying ifFine replied tam2Reply tam2Body tamBlock twoBytes byMode tam2Constant encrypts withMac carriedData filled headerOf headerStart headerLength headerPart dataLength carried blocksLength dOf blockBytes blockSizeBit
+unfolding run answerTo poweredUp answerOf benchChecks judgedTo ofMessage inOrder kindOf tamKind offered inTurn byKind tam2Answer tam2Of bytesFrom sizeOf selectCustom tam2Checks lengthFits sizeOffered revOffered modeSupported modeOffered hasMac hasKey keyWith slotNamed blockAsked wordsAsked addressOf stepOf overruns profileEnd lastWord permitted windowOf areaOf partOf within carrying ifFine replied tam2Reply tam2Body tamBlock twoBytes byMode tam2Constant encrypts withMac carriedData filled headerOf headerStart headerLength headerPart dataLength carried blocksLength dOf blockBytes blockSizeBit
 word-answered enc l a b = refl
 
 -- Two tags that differ in that word, and are told apart by their replies, whatever the keys are.

@@ -11,7 +11,7 @@ use Rattle.aes.specs.AesEnc.{aesEnc}
 use Rattle.memory.specs.declared.Area.the-variants.{Identity, User}
 use Rattle.memory.specs.Areas.{areaOf, windowOf, storedIn}
 use Rattle.sheet.specs.declared.Key.{Key}
-use Rattle.sheet.specs.declared.Setup.{Setup}
+use Rattle.sheet.specs.Setups.{Setup}
 use Rattle.frames.specs.declared.Kind.{Kind}
 use Rattle.frames.specs.declared.Kind.the-variants.{Tam1, Tam2, Iam1, Iam2, Iam3, Mam1, Mam2, Unsupported}
 use Rattle.frames.specs.Fields.{byte}
@@ -29,7 +29,8 @@ use Rattle.offer.specs.declared.Verdict.the-variants.{Fine, Wrong}
 use Rattle.offer.specs.Checks.{judged}
 use Rattle.entry.specs.Sessions.{cleared, entered}
 use Rattle.tag.specs.States.{atRest, afterIam1, afterMam1, inTurn}
-use Rattle.offer.specs.Records.{offered, keyNamed, keysOf, blockAsked}
+use Rattle.keytable.specs.Named.{keyWith}
+use Rattle.offer.specs.Records.{offered, blockAsked}
 use Rattle.tam.specs.Replies.{tam1Reply, tam2Reply}
 use Rattle.entry.specs.Replies.{mam1Reply}
 use Rattle.entry.specs.Opened.{purposeIn, openedData, wordsIn, sentBlock}
@@ -150,20 +151,20 @@ module _ (named : ℕ → Bool) (s t : Setup) (alike : SetupsAlike named s t) (x
 
   -- ---- by kind
 
-  whole : (keyid : ℕ) → named keyid ≡ true → keyNamed s keyid ≡ keyNamed t keyid
+  whole : (keyid : ℕ) → named keyid ≡ true → keyWith keyid (s .keys) ≡ keyWith keyid (t .keys)
   whole keyid n = finds named s t alike keyid .whole n
 
   abbrev m : List ℕ
   m = sent .message
 
-  module _ (held : Session) (same : keyNamed s (held .keyid) ≡ keyNamed t (held .keyid)) where
-    iam2-step : Step (iam2Answer c s held) (iam2Answer d t held)
+  module _ (held : Session) (same : keyWith (held .keyid) (s .keys) ≡ keyWith (held .keyid) (t .keys)) where
+    iam2-step : Step (iam2Answer c (s .keys) held) (iam2Answer d (t .keys) held)
     unfolding iam2Answer
     iam2-step =
         fine-alike _ _ _ _ (iam2-alike named s t alike m held same)
         (λ h. entry-alike _ _ _ _ _ _ (λ j. purposeIn (aesEnc (same j .enc) (iam2Of m .iresponse))) (unchanged (x .identity) (y .identity)) (unchanged (x .user) (y .user)))
 
-    mam2-step : Step (mam2Answer c s held) (mam2Answer d t held)
+    mam2-step : Step (mam2Answer c (s .keys) held) (mam2Answer d (t .keys) held)
     unfolding mam2Answer
     mam2-step =
         fine-alike _ _ _ _ (mam2-alike named s t alike m held same)
@@ -175,17 +176,17 @@ module _ (named : ℕ → Bool) (s t : Setup) (alike : SetupsAlike named s t) (x
       let same = whole (held .keyid) n in
       let custom = iam3Of m .custom in
       let words : Key → List ℕ = λ k. wordsIn custom (openedData k (iam3Of m) m) in
-      let b = blockAsked s custom in
+      let b = blockAsked (s .profiles) custom in
       fine-alike _ _ _ _ (iam3-alike named s t alike m held same)
       (λ h.
       let r = iam3-right s held m h in
-      let o = asked-open named s custom (held .keyid) n (permitted-present (held .keyid) (custom .profile) (keysOf s) r) r (iam3-slot s held m h) (iam3-inside s held m h) in
+      let o = asked-open named s custom (held .keyid) n (permitted-present (held .keyid) (custom .profile) (s .keys) r) r (iam3-slot s held m h) (iam3-inside s held m h) in
       let block = block-alike named s t alike custom in
       entry-alike _ _ _ _ _ _ (λ j. purposeIn (aesEnc (same j .enc) (sentBlock m)))
-      (subst (λ (l : List ℕ). SameChange (x .identity) (y .identity) (storedIn Identity b (words (keyNamed s (held .keyid))) (x .identity)) l)
+      (subst (λ (l : List ℕ). SameChange (x .identity) (y .identity) (storedIn Identity b (words (keyWith (held .keyid) (s .keys))) (x .identity)) l)
       (λ j. storedIn Identity (block j) (words (same j)) (y .identity))
       (stored-alike Identity b _ (x .identity) (y .identity) (mem .identityLength) (same-in-block named s x y mem Identity b o)))
-      (subst (λ (l : List ℕ). SameChange (x .user) (y .user) (storedIn User b (words (keyNamed s (held .keyid))) (x .user)) l)
+      (subst (λ (l : List ℕ). SameChange (x .user) (y .user) (storedIn User b (words (keyWith (held .keyid) (s .keys))) (x .user)) l)
       (λ j. storedIn User (block j) (words (same j)) (y .user))
       (stored-alike User b _ (x .user) (y .user) (mem .userLength) (same-in-block named s x y mem User b o))))
 
@@ -193,27 +194,27 @@ module _ (named : ℕ → Bool) (s t : Setup) (alike : SetupsAlike named s t) (x
     second-named : (k : Kind) → kindOf first ≡ k → carriesKeyid k ≡ true → lengthFits k m ≡ true → named (byte m 1) ≡ true
     second-named k f h l = mine (byte m 1) (names-second m rest first k e f h l)
 
-    tam1-step : kindOf first ≡ Tam1 → Step (tam1Answer c s) (tam1Answer d t)
+    tam1-step : kindOf first ≡ Tam1 → Step (tam1Answer c (s .keys)) (tam1Answer d (t .keys))
     unfolding tam1Answer tam1Of carriesKeyid
     tam1-step f =
         fine-alike _ _ _ _ (opening-alike named s t alike m Tam1 (tam1Of m .rfu) (byte m 1))
         (λ h.
-        let n = second-named Tam1 f refl (opening-length Tam1 _ _ s m h) in
+        let n = second-named Tam1 f refl (opening-length Tam1 _ _ (s .keys) m h) in
         reply-alike _ _ cleared (ap (λ (k : Key). tam1Reply k (tam1Of m) (sent .draws)) (whole (byte m 1) n)) (cleared-named named))
 
-    mam1-step : kindOf first ≡ Mam1 → Step (mam1Answer c s) (mam1Answer d t)
+    mam1-step : kindOf first ≡ Mam1 → Step (mam1Answer c (s .keys)) (mam1Answer d (t .keys))
     unfolding mam1Answer mam1Of carriesKeyid
     mam1-step f =
         fine-alike _ _ _ _ (opening-alike named s t alike m Mam1 (mam1Of m .rfu) (byte m 1))
         (λ h.
-        let n = second-named Mam1 f refl (opening-length Mam1 _ _ s m h) in
+        let n = second-named Mam1 f refl (opening-length Mam1 _ _ (s .keys) m h) in
         reply-alike _ _ _ (ap (λ (k : Key). mam1Reply k (mam1Of m) (sent .draws)) (whole (byte m 1) n)) (λ z. n))
 
-    iam1-step : kindOf first ≡ Iam1 → Step (iam1Answer c s) (iam1Answer d t)
+    iam1-step : kindOf first ≡ Iam1 → Step (iam1Answer c (s .keys)) (iam1Answer d (t .keys))
     unfolding iam1Answer iam1Of carriesKeyid
     iam1-step f =
         fine-alike _ _ _ _ (opening-alike named s t alike m Iam1 (iam1Of m .rfu) (byte m 1))
-        (λ h. reply-alike _ _ _ refl (λ z. second-named Iam1 f refl (opening-length Iam1 _ _ s m h)))
+        (λ h. reply-alike _ _ _ refl (λ z. second-named Iam1 f refl (opening-length Iam1 _ _ (s .keys) m h)))
 
     tam2-named : kindOf first ≡ Tam2 → judged (tam2Checks s m) ≡ Fine → named (tam2Of m .keyid) ≡ true
     unfolding tam2Of carriesKeyid lengthFits
@@ -226,7 +227,7 @@ module _ (named : ℕ → Bool) (s t : Setup) (alike : SetupsAlike named s t) (x
         (λ h.
         let n = tam2-named f h in
         let o = asked-open named s (tam2Of m .custom) (tam2Of m .keyid) n (tam2-key s m h) (tam2-right s m h) (tam2-slot s m h) (tam2-inside s m h) in
-        let shown = window-alike named s x y mem (blockAsked s (tam2Of m .custom)) o ∙ ap (windowOf (y .identity) (y .user)) (block-alike named s t alike (tam2Of m .custom)) in
+        let shown = window-alike named s x y mem (blockAsked (s .profiles) (tam2Of m .custom)) o ∙ ap (windowOf (y .identity) (y .user)) (block-alike named s t alike (tam2Of m .custom)) in
         reply-alike _ _ cleared (λ j. tam2Reply (whole (tam2Of m .keyid) n j) (tam2Of m) (shown j) (sent .draws)) (cleared-named named))
 
     kind-step : (held : Session) → HeldNamed named held → (k : Kind) → kindOf first ≡ k → inTurn (held .state) k ≡ true → Step (byKind c s held k) (byKind d t held k)
@@ -256,7 +257,7 @@ module _ (named : ℕ → Bool) (s t : Setup) (alike : SetupsAlike named s t) (x
       (bench-alike named s t alike (length (sent .draws)) (sent .room) _ _ _ _ (mem .identityLength) (mem .userLength)) (judged-alike v)
     where
       v : Verdict
-      v = judged (benchChecks s (length (sent .draws)) (sent .room) (length (x .identity)) (length (x .user)))
+      v = judged (benchChecks (s .sizes) (length (sent .draws)) (sent .room) (length (x .identity)) (length (x .user)))
 
       judged-alike : (z : Verdict) → Step (ofBench c s held z) (ofBench d t held z)
       judged-alike Fine = message-step held h m refl

@@ -14,10 +14,11 @@ use Rattle.memory.specs.Address.{areaNumber, sameArea, addressOf, overruns}
 use Rattle.memory.specs.Areas.{areaOf, windowOf}
 use Rattle.memory.specs.Rights.{permitted}
 use Rattle.memory.proofs.Windows.{word-inside, window-agree}
-use Rattle.sheet.specs.declared.Setup.{Setup}
+use Rattle.sheet.specs.Setups.{Setup}
 use Rattle.frames.specs.declared.Custom.{Custom}
 use Rattle.frames.specs.Asked.{blockAsked as wordsAsked}
-use Rattle.offer.specs.Records.{keyPresent, keyNamed, slotNamed, blockAsked}
+use Rattle.keytable.specs.Named.{hasKey, keyWith}
+use Rattle.offer.specs.Records.{slotNamed, blockAsked}
 use Rattle.claims.specs.Names.{Open}
 use Rattle.claims.specs.Silence.{wordOf, Memory, MemoriesAlike, SameChange}
 
@@ -41,11 +42,11 @@ module _ (named : ℕ → Bool) (setup : Setup) where
   AllOpen block = (w : ℕ) → block .first .0 ≤ w → w < block .first .0 + block .words → Open named setup (block .area) w
 
   -- what a message asks for in the name of a record with the right to it, inside a profile
-  pub asked-open : (c : Custom) (keyid : ℕ) → named keyid ≡ true → keyPresent setup keyid ≡ true → permitted (keyNamed setup keyid .mpi) (c .profile) ≡ true
-      → slotNamed setup (c .profile) .present ≡ true → overruns (slotNamed setup (c .profile) .profile) (blockAsked setup c) ≡ false → AllOpen (blockAsked setup c)
+  pub asked-open : (c : Custom) (keyid : ℕ) → named keyid ≡ true → hasKey keyid (setup .keys) ≡ true → permitted (keyWith keyid (setup .keys) .mpi) (c .profile) ≡ true
+      → slotNamed (setup .profiles) (c .profile) .present ≡ true → overruns (slotNamed (setup .profiles) (c .profile) .profile) (blockAsked (setup .profiles) c) ≡ false → AllOpen (blockAsked (setup .profiles) c)
   unfolding blockAsked wordsAsked addressOf
   asked-open c keyid n k r p o w f l =
-      let h = word-inside (slotNamed setup (c .profile) .profile) (c .blocksize) (c .offset) (c .blockcount + 1) w o f l in
+      let h = word-inside (slotNamed (setup .profiles) (c .profile) .profile) (c .blocksize) (c .offset) (c .blockcount + 1) w o f l in
       record { keyid = keyid; name = n; key = k; profile = c .profile; right = r; present = p; its = refl; from = h .0; before = h .1 }
 
   module _ (x y : Memory) (m : MemoriesAlike named setup x y) where

@@ -16,9 +16,10 @@ use Rattle.memory.specs.Areas.{areaOf, windowOf}
 use Rattle.memory.proofs.Windows.{fitting-length}
 use Rattle.sheet.specs.declared.Sizes.{Sizes}
 use Rattle.sheet.specs.declared.Slot.{Slot}
-use Rattle.sheet.specs.declared.Setup.{Setup}
+use Rattle.sheet.specs.Setups.{Setup}
 use Rattle.sheet.specs.Records.{wordsIn, inside}
 use Rattle.sheet.specs.Setups.{noSlot}
+use Rattle.sheet.specs.Limits.{keyLimit}
 use Rattle.sheet.specs.Within.{SlotFine, SlotsFine, Within}
 use Rattle.sheet.specs.Writer.{areaByte}
 use Rattle.frames.specs.declared.Custom.{Custom}
@@ -47,7 +48,8 @@ ends-in z s (inr h) p =
     let w = wordsIn z (areaByte (s .profile .area)) in
     leb-true n w (both-right (leb 1 (s .profile .words)) (leb n w) (both-right (leb (areaByte (s .profile .area)) 1) (both (leb 1 (s .profile .words)) (leb n w)) (h .1)))
 
-module _ (setup : Setup) (identity user : List ℕ) (draws room : ℕ) (h : judged (benchChecks setup draws room (length identity) (length user)) ≡ Fine) where
+module _ (setup : Setup) (identity user : List ℕ) (draws room : ℕ)
+    (h : judged (benchChecks (setup .sizes) draws room (length identity) (length user)) ≡ Fine) where
   bench-identity : length identity ≡ setup .sizes .identity * 2
   unfolding benchChecks
   bench-identity = eqb-true _ _ (first-holds _ _ (others-hold _ _ (others-hold _ _ h)))
@@ -61,14 +63,14 @@ module _ (setup : Setup) (identity user : List ℕ) (draws room : ℕ) (h : judg
   area-long Identity = bench-identity
   area-long User = bench-user
 
-  holds-profile : (c : Custom) → Within setup → slotNamed setup (c .profile) .present ≡ true → profileEnd (slotNamed setup (c .profile) .profile) * 2 ≤ length (areaOf (blockAsked setup c .area) identity user)
+  holds-profile : (c : Custom) → Within keyLimit setup → slotNamed (setup .profiles) (c .profile) .present ≡ true → profileEnd (slotNamed (setup .profiles) (c .profile) .profile) * 2 ≤ length (areaOf (blockAsked (setup .profiles) c .area) identity user)
   unfolding blockAsked wordsAsked addressOf slotNamed
   holds-profile c g p =
       let s = getD (setup .profiles) (c .profile) noSlot in
       omega (arith, area-long (s .profile .area), ends-in (setup .sizes) s (slot-fine (setup .sizes) (setup .profiles) (c .profile) (g .profiles)) p)
 
-  pub words-all : (c : Custom) → Within setup → slotNamed setup (c .profile) .present ≡ true → overruns (slotNamed setup (c .profile) .profile) (blockAsked setup c) ≡ false
-      → length (windowOf identity user (blockAsked setup c)) ≡ dataLength (c .blocksize) (c .blockcount)
+  pub words-all : (c : Custom) → Within keyLimit setup → slotNamed (setup .profiles) (c .profile) .present ≡ true → overruns (slotNamed (setup .profiles) (c .profile) .profile) (blockAsked (setup .profiles) c) ≡ false
+      → length (windowOf identity user (blockAsked (setup .profiles) c)) ≡ dataLength (c .blocksize) (c .blockcount)
   unfolding windowOf
   words-all c g p o =
-      fitting-length (blockAsked setup c) (slotNamed setup (c .profile) .profile) (areaOf (blockAsked setup c .area) identity user) (holds-profile c g p) o ∙ asked-bytes setup c
+      fitting-length (blockAsked (setup .profiles) c) (slotNamed (setup .profiles) (c .profile) .profile) (areaOf (blockAsked (setup .profiles) c .area) identity user) (holds-profile c g p) o ∙ asked-bytes (setup .profiles) c

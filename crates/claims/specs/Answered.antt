@@ -13,8 +13,9 @@ use Rattle.sheet.specs.declared.Finding.the-variants.{Faulty}
 use Rattle.sheet.specs.declared.Kept.{Kept}
 use Rattle.sheet.specs.declared.Verdict.the-variants.{Refused as NoSheet}
 use Rattle.sheet.specs.Kinds as sheet
-use Rattle.sheet.specs.Setups.{emptySetup}
+use Rattle.sheet.specs.Setups.{emptyTerms}
 use Rattle.sheet.specs.Judgement.{judgedOf}
+use Rattle.sheet.specs.Limits.{keyLimit}
 use Rattle.sheet.specs.Sheet.{readOf}
 use Rattle.frames.specs.Built.{Built}
 use Rattle.offer.specs.declared.Fault.{Fault as TagFault}
@@ -47,14 +48,14 @@ pub record TagRefused (tag : Tag) (identity user : List ℕ) (b : Brought) (x : 
   pub silent : x .room ≡ b .room
   pub identity-kept : x .identity ≡ identity
   pub user-kept : x .user ≡ user
-  pub setup : x .stepped .tag .setup ≡ tag .setup
+  pub terms : x .stepped .tag .terms ≡ tag .terms
   pub session : x .stepped .tag .session ≡ sessionAfter f (tag .session)
 
 -- `tag::step`, by its contract.
 abbrev pub TagAnswers : Type 0
 TagAnswers =
-    (tag : Tag) (identity user : List ℕ) (b : Brought) (x : Left) (f : TagFault)
-    → Called tag identity user b x
+    (table : List ℕ) (tag : Tag) (identity user : List ℕ) (b : Brought) (x : Left) (f : TagFault)
+    → Called table tag identity user b x
     → x .stepped .outcome ≡ NoReply f
     → TagRefused tag identity user b x f
 
@@ -90,15 +91,15 @@ BuilderAnswers =
 abbrev pub SheetAnswers : Type 0
 SheetAnswers =
     (s : List ℕ) (f : SheetFault) (at : ℕ)
-    → readOf s .verdict ≡ NoSheet f at
-    → FromTo 30 35 (sheet.numberOf f) × (readOf s .setup ≡ emptySetup)
+    → readOf keyLimit s .verdict ≡ NoSheet f at
+    → FromTo 30 35 (sheet.numberOf f) × (readOf keyLimit s .terms ≡ emptyTerms) × (readOf keyLimit s .keys ≡ 0)
 
 -- `sheet::judge`: a record that is refused leaves what was kept.
 abbrev pub RecordAnswers : Type 0
 RecordAnswers =
     (s : List ℕ) (k : Kept) (f : SheetFault)
-    → judgedOf s k .finding ≡ Faulty f
-    → FromTo 30 35 (sheet.numberOf f) × (judgedOf s k .kept ≡ k)
+    → judgedOf keyLimit s k .finding ≡ Faulty f
+    → FromTo 30 35 (sheet.numberOf f) × (judgedOf keyLimit s k .kept ≡ k)
 
 -- ---- chaining and MAC, and the parts of messages
 

@@ -13,6 +13,7 @@ use Rattle.memory.specs.declared.Area.the-variants.{User}
 use Rattle.memory.specs.declared.Block.{Block}
 use Rattle.memory.specs.declared.Profile.{Profile}
 use Rattle.memory.specs.Address.{addressOf, lastWord, overruns}
+use Rattle.sheet.specs.Limits.{keyLimit}
 use Rattle.sheet.specs.Sheet.{readNumber, readPlace}
 use Rattle.frames.specs.declared.Iam3.{Iam3}
 use Rattle.frames.specs.Fields.{sizeOf}
@@ -36,7 +37,7 @@ asked bit offset = addressOf profile (sizeOf bit) (record { 0 = offset }) 1
 
 -- (11) to (13): the number of a sheet and its place, 0 and 0 for one that is accepted.
 abbrev pub sheetOf : List ℕ → List ℕ
-sheetOf s = readNumber s ∷ readPlace s ∷ []
+sheetOf s = readNumber keyLimit s ∷ readPlace keyLimit s ∷ []
 
 -- What the definitions say; `rest` is whatever follows in the sheet of (13).
 abbrev pub computed : List ℕ → List (List ℕ)

@@ -8,12 +8,13 @@ use Rattle.ground.specs.Choice.{both, either}
 use Rattle.memory.specs.declared.Area.{Area}
 use Rattle.memory.specs.Address.{profileEnd}
 use Rattle.memory.specs.Rights.{permitted}
-use Rattle.sheet.specs.declared.Setup.{Setup}
+use Rattle.sheet.specs.Setups.{Setup}
 use Rattle.frames.specs.declared.Kind.{Kind}
 use Rattle.frames.specs.declared.Kind.the-variants.{Tam1, Tam2, Iam1, Iam2, Iam3, Mam1, Mam2, Unsupported}
 use Rattle.frames.specs.Kinds.{kindOf}
-use Rattle.offer.specs.Records.{keyPresent, keyNamed, slotNamed}
-use Rattle.tag.specs.Runs.{Sent}
+use Rattle.keytable.specs.Named.{hasKey, keyWith}
+use Rattle.offer.specs.Records.{slotNamed}
+use Rattle.tag.specs.Runs.{Event, Message, PowerUp}
 
 -- TAM1, TAM2, IAM1 and MAM1 carry a KeyID.
 unfoldable pub carriesKeyid : Kind → Bool
@@ -33,19 +34,20 @@ namedBy [] keyid = false
 namedBy (first ∷ []) keyid = false
 namedBy (first ∷ second ∷ rest) keyid = both (carriesKeyid (kindOf first)) (eqb second keyid)
 
--- Some message of the run names it.
-unfoldable pub namedIn : List Sent → ℕ → Bool
+-- Some message of the run names it; a power-up names none.
+unfoldable pub namedIn : List Event → ℕ → Bool
 namedIn [] keyid = false
-namedIn (s ∷ ss) keyid = either (namedBy (s .message) keyid) (namedIn ss keyid)
+namedIn (Message s ∷ es) keyid = either (namedBy (s .message) keyid) (namedIn es keyid)
+namedIn (PowerUp ∷ es) keyid = namedIn es keyid
 
 -- A word of an area is open: it lies inside a profile that is there, and that is permitted to a record of the tag that is named.
 pub record Open (named : ℕ → Bool) (setup : Setup) (area : Area) (w : ℕ) : Type 0 where
   pub keyid : ℕ
   pub name : named keyid ≡ true
-  pub key : keyPresent setup keyid ≡ true
+  pub key : hasKey keyid (setup .keys) ≡ true
   pub profile : ℕ
-  pub right : permitted (keyNamed setup keyid .mpi) profile ≡ true
-  pub present : slotNamed setup profile .present ≡ true
-  pub its : slotNamed setup profile .profile .area ≡ area
-  pub from : slotNamed setup profile .profile .base .0 ≤ w
-  pub before : w < profileEnd (slotNamed setup profile .profile)
+  pub right : permitted (keyWith keyid (setup .keys) .mpi) profile ≡ true
+  pub present : slotNamed (setup .profiles) profile .present ≡ true
+  pub its : slotNamed (setup .profiles) profile .profile .area ≡ area
+  pub from : slotNamed (setup .profiles) profile .profile .base .0 ≤ w
+  pub before : w < profileEnd (slotNamed (setup .profiles) profile .profile)

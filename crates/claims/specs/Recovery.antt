@@ -7,6 +7,7 @@ use lib.ListN.{length, take}
 use Rattle.field.proofs.Block.{Bytes}
 use Rattle.memory.specs.Areas.{windowOf}
 use Rattle.sheet.specs.declared.Key.{Key}
+use Rattle.sheet.specs.Limits.{keyLimit}
 use Rattle.sheet.specs.Within.{Within}
 use Rattle.frames.specs.declared.Kind.{Kind}
 use Rattle.frames.specs.declared.Kind.the-variants.{Tam1, Tam2, Iam1, Iam2, Iam3, Mam1, Mam2, Unsupported}
@@ -14,11 +15,13 @@ use Rattle.frames.specs.Fields.{byte}
 use Rattle.frames.specs.Kinds.{kindOf}
 use Rattle.frames.specs.Messages.{tam1Of, tam2Of, iam1Of, mam1Of}
 use Rattle.tag.specs.declared.Tag.{Tag}
+use Rattle.tag.specs.States.{KeyedTag, keyed}
 use Rattle.offer.specs.declared.Outcome.{Outcome}
 use Rattle.offer.specs.declared.Outcome.the-variants.{Replied, Entered, Refused}
 use Rattle.tag.specs.Answers.{Answer, Call, answerOf}
 use Rattle.offer.specs.Outcomes.{replyLength}
-use Rattle.offer.specs.Records.{keyNamed, blockAsked}
+use Rattle.keytable.specs.Named.{keyWith}
+use Rattle.offer.specs.Records.{blockAsked}
 use Rattle.tag.specs.Reactions.{lent}
 use Rattle.tag.specs.Plays.{Brought, Left, Called}
 use Rattle.reader_judge.specs.declared.Judgement.{Judgement}
@@ -34,7 +37,7 @@ Taken (Entered purpose) = Unit {0}
 Taken (Refused f) = ⊥
 
 -- The KeyID of the record that the tag uses: the message's, or the one that is held since the message before.
-unfoldable pub keyidUsed : Tag → List ℕ → Kind → ℕ
+unfoldable pub keyidUsed : KeyedTag → List ℕ → Kind → ℕ
 keyidUsed tag m Tam1 = tam1Of m .keyid
 keyidUsed tag m Tam2 = tam2Of m .keyid
 keyidUsed tag m Iam1 = iam1Of m .keyid
@@ -44,8 +47,8 @@ keyidUsed tag m Mam1 = mam1Of m .keyid
 keyidUsed tag m Mam2 = tag .session .keyid
 keyidUsed tag m Unsupported = 0
 
-abbrev pub keyUsed : Tag → List ℕ → Key
-keyUsed tag m = keyNamed (tag .setup) (keyidUsed tag m (kindOf (byte m 0)))
+abbrev pub keyUsed : KeyedTag → List ℕ → Key
+keyUsed tag m = keyWith (keyidUsed tag m (kindOf (byte m 0))) (tag .setup .keys)
 
 -- The reader has the keys of a record.
 pub record Shares (keys : Keys) (key : Key) : Type 0 where
@@ -54,8 +57,8 @@ pub record Shares (keys : Keys) (key : Key) : Type 0 where
   pub mackey : keys .mackey ≡ key .mackey
 
 -- What is lent and what is sent are bytes, and the setup is one that a sheet says.
-pub record Fit (c : Call) (tag : Tag) (keys : Keys) : Type 0 where
-  pub setup : Within (tag .setup)
+pub record Fit (c : Call) (tag : KeyedTag) (keys : Keys) : Type 0 where
+  pub setup : Within keyLimit (tag .setup)
   pub message : Bytes (c .message)
   pub draws : Bytes (c .draws)
   pub identity : Bytes (c .identity)
@@ -63,9 +66,9 @@ pub record Fit (c : Call) (tag : Tag) (keys : Keys) : Type 0 where
   pub enc : Bytes (keys .enc)
 
 -- What the reader is to find, of an answer to a message of a kind.
-unfoldable pub due : Call → Tag → Answer → Kind → Finding
+unfoldable pub due : Call → KeyedTag → Answer → Kind → Finding
 due c tag a Tam1 = nothingMore
-due c tag a Tam2 = carries (worthOf (tam2Of (c .message) .protmode)) (windowOf (c .identity) (c .user) (blockAsked (tag .setup) (tam2Of (c .message) .custom)))
+due c tag a Tam2 = carries (worthOf (tam2Of (c .message) .protmode)) (windowOf (c .identity) (c .user) (blockAsked (tag .setup .profiles) (tam2Of (c .message) .custom)))
 due c tag a Iam1 = issues (a .session .tchallenge)
 due c tag a Iam2 = nothingMore
 due c tag a Iam3 = nothingMore
@@ -75,17 +78,19 @@ due c tag a Unsupported = nothingMore
 
 abbrev pub Recovery : Type 0
 Recovery =
-    (c : Call) (tag : Tag) (keys : Keys) (room : ℕ) → Fit c tag keys → Shares keys (keyUsed tag (c .message)) → dataRoom ≤ room → Taken (answerOf c tag .outcome)
+    (c : Call) (tag : KeyedTag) (keys : Keys) (room : ℕ) → Fit c tag keys → Shares keys (keyUsed tag (c .message)) → dataRoom ≤ room → Taken (answerOf c tag .outcome)
     → judgementOf keys (c .message) (answerOf c tag .reply) room ≡ due c tag (answerOf c tag) (kindOf (byte (c .message) 0))
 
 -- The same of the code: what `tag::step` left in the room, as far as `tag::reply_length` says, given to the judge.
 abbrev pub RecoveryCode : Type 0
 RecoveryCode =
-    (tag : Tag) (identity user : List ℕ) (b : Brought) (x : Left) (keys : Keys) (room : List ℕ) (r : Judgement) (after : List ℕ)
-    → Called tag identity user b x
-    → Fit (lent (b .message) (b .draws) (b .room) identity user) tag keys
-    → Shares keys (keyUsed tag (b .message))
+    (table : List ℕ) (tag : Tag) (identity user : List ℕ) (b : Brought) (x : Left) (keys : Keys) (room : List ℕ)
+    (r : Judgement) (after : List ℕ)
+    → Called table tag identity user b x
+    → Fit (lent (b .message) (b .draws) (b .room) identity user) (keyed tag table) keys
+    → Shares keys (keyUsed (keyed tag table) (b .message))
     → dataRoom ≤ length room
     → Taken (x .stepped .outcome)
     → Judges (judgementOf keys (b .message) (take (replyLength (x .stepped .outcome)) (x .room)) (length room)) room r after
-    → Judges (due (lent (b .message) (b .draws) (b .room) identity user) tag (answerOf (lent (b .message) (b .draws) (b .room) identity user) tag) (kindOf (byte (b .message) 0))) room r after
+    → (let c = lent (b .message) (b .draws) (b .room) identity user in
+    Judges (due c (keyed tag table) (answerOf c (keyed tag table)) (kindOf (byte (b .message) 0))) room r after)

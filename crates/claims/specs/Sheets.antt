@@ -6,11 +6,11 @@ use Prim.Native.Nat.{ℕ, zero, suc}
 use lib.ListN.{take, drop}
 use Rattle.sheet.specs.declared.Kind.{Kind}
 use Rattle.sheet.specs.declared.Kind.the-variants.{FeatureRecord, SizeRecord, KeyRecord, ProfileRecord, LockRecord, EndRecord, NoRecord}
-use Rattle.sheet.specs.declared.Reading.{Reading}
 use Rattle.sheet.specs.Kinds.{kindOf, bodyLength}
-use Rattle.sheet.specs.Records.{byteAt, wordAt}
-use Rattle.sheet.specs.Sheet.{readOf}
-use Rattle.tag.specs.Runs.{Sent}
+use Rattle.ground.specs.Bytes.{byteAt, wordAt, Bytes}
+use Rattle.sheet.specs.Limits.{keyLimit}
+use Rattle.sheet.specs.Sheet.{readOf, saidOf}
+use Rattle.tag.specs.Runs.{Event}
 use Rattle.claims.specs.Names.{namedIn}
 use Rattle.claims.specs.Silence.{SetupsAlike, Memory, MemoriesAlike, SameAnswers, answers}
 
@@ -34,30 +34,37 @@ BodiesAlike named LockRecord b c = b ≡ c
 BodiesAlike named EndRecord b c = b ≡ c
 BodiesAlike named NoRecord b c = b ≡ c
 
--- The bytes from a place on, of which the first `body` belong to a record whose kind byte stands before: so long, with the same kind bytes, and alike bodies.
+-- The bytes from a place on, of which the first `body` belong to a record whose kind byte stands before: so long, with
+-- the same kind bytes, and alike bodies.
 unfoldable pub AlikeFrom : (ℕ → Bool) → List ℕ → List ℕ → ℕ → Type 0
 AlikeFrom named [] [] body = Unit
 AlikeFrom named [] (c ∷ v) body = ⊥
 AlikeFrom named (b ∷ u) [] body = ⊥
 AlikeFrom named (b ∷ u) (c ∷ v) (suc body) = AlikeFrom named u v body
 AlikeFrom named (b ∷ u) (c ∷ v) zero =
-    (b ≡ c) × BodiesAlike named (kindOf b) (take (bodyLength (kindOf b)) u) (take (bodyLength (kindOf b)) v) × AlikeFrom named u v (bodyLength (kindOf b))
+    (b ≡ c) × BodiesAlike named (kindOf b) (take (bodyLength (kindOf b)) u) (take (bodyLength (kindOf b)) v)
+    × AlikeFrom named u v (bodyLength (kindOf b))
 
 abbrev pub SheetsAlike : (ℕ → Bool) → List ℕ → List ℕ → Type 0
 SheetsAlike named u v = AlikeFrom named u v 0
 
--- Both are taken, or both are refused with the same number at the same place; and the setups are alike.
-pub record ReadAlike (named : ℕ → Bool) (r q : Reading) : Type 0 where
-  pub verdict : r .verdict ≡ q .verdict
-  pub setup : SetupsAlike named (r .setup) (q .setup)
+-- Both are taken, or both are refused with the same number at the same place; and what they say is alike.
+pub record ReadAlike (named : ℕ → Bool) (u v : List ℕ) : Type 0 where
+  pub verdict : readOf keyLimit u .verdict ≡ readOf keyLimit v .verdict
+  pub setup : SetupsAlike named (saidOf keyLimit u) (saidOf keyLimit v)
 
+-- A sheet is a string of bytes.
 abbrev pub SheetsReadAlike : Type 0
-SheetsReadAlike = (named : ℕ → Bool) (u v : List ℕ) → SheetsAlike named u v → ReadAlike named (readOf u) (readOf v)
+SheetsReadAlike =
+    (named : ℕ → Bool) (u v : List ℕ) → Bytes u → Bytes v → SheetsAlike named u v → ReadAlike named u v
 
 -- Demand 3 of two tags that are set up by such sheets.
 abbrev pub SilentSheets : Type 0
 SilentSheets =
-    (ss : List Sent) (u v : List ℕ) (x y : Memory)
-    → SheetsAlike (namedIn ss) u v
-    → MemoriesAlike (namedIn ss) (readOf u .setup) x y
-    → (readOf u .verdict ≡ readOf v .verdict) × SameAnswers x y (answers (readOf u .setup) x ss) (answers (readOf v .setup) y ss)
+    (es : List Event) (u v : List ℕ) (x y : Memory)
+    → Bytes u
+    → Bytes v
+    → SheetsAlike (namedIn es) u v
+    → MemoriesAlike (namedIn es) (saidOf keyLimit u) x y
+    → (readOf keyLimit u .verdict ≡ readOf keyLimit v .verdict)
+    × SameAnswers x y (answers (saidOf keyLimit u) x es) (answers (saidOf keyLimit v) y es)

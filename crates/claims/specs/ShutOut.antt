@@ -1,5 +1,6 @@
--- Demand 2 shuts out false tags (the scope paper, "What we hold a promise to"). A program is what is left of every run of calls; it is the standard's tag where
--- each run is one of the calls that the contract of `tag::step` allows (`Plays`). There is one such program, and none of the five below is it.
+-- Demand 2 shuts out false tags (the scope paper, "What we hold a promise to"). A program is what is left of every run of
+-- calls; it is the standard's tag where each run is one of the calls that the contracts of `tag::step` and
+-- `tag::power_up` allow (`Plays`). There is one such program, and none of the five below is it.
 use mathlib.Core.Path.{_≡_}
 use mathlib.Core.List.{List, [], _∷_}
 use Prim.Native.Nat.{ℕ}
@@ -12,18 +13,22 @@ use Rattle.frames.specs.Lengths.{tam1ReplyLength, tam2ReplyLength, iam1ReplyLen
 use Rattle.frames.specs.Messages.{tam2Of}
 use Rattle.offer.specs.declared.Outcome.the-variants.{Replied}
 use Rattle.tag.specs.declared.Tag.{Tag}
-use Rattle.tag.specs.Plays.{Brought, Left, Called, Plays}
+use Rattle.tag.specs.Plays.{Brought, Doing, Step, Left, Called, Plays}
 
--- The tag, the two areas, and what is brought to each call; and what each call leaves.
+-- The key table, the tag, the two areas, and the calls; and what each call leaves.
 abbrev pub Program : Type 0
-Program = Tag → List ℕ → List ℕ → List Brought → List Left
+Program = List ℕ → Tag → List ℕ → List ℕ → List Doing → List Left
 
 abbrev pub Standard : Program → Type 0
-Standard p = (tag : Tag) (identity user : List ℕ) (bs : List Brought) → Plays tag identity user bs (p tag identity user bs)
+Standard p =
+    (table : List ℕ) (tag : Tag) (identity user : List ℕ) (ds : List Doing)
+    → Plays table tag identity user ds (p table tag identity user ds)
 
 -- There is such a program, and there is no second one.
 abbrev pub OneTag : Type 0
-OneTag = (p q : Program) → Standard p → Standard q → (tag : Tag) (identity user : List ℕ) (bs : List Brought) → p tag identity user bs ≡ q tag identity user bs
+OneTag =
+    (p q : Program) → Standard p → Standard q → (table : List ℕ) (tag : Tag) (identity user : List ℕ) (ds : List Doing)
+    → p table tag identity user ds ≡ q table tag identity user ds
 
 pub record SomeTag : Type 0 where
   pub program : Program
@@ -35,7 +40,9 @@ Each P [] = Unit
 Each P (x ∷ xs) = P x × Each P xs
 
 abbrev pub Always : Program → (List ℕ → List ℕ → Left → Type 0) → Type 0
-Always p P = (tag : Tag) (identity user : List ℕ) (bs : List Brought) → Each (P identity user) (p tag identity user bs)
+Always p P =
+    (table : List ℕ) (tag : Tag) (identity user : List ℕ) (ds : List Doing)
+    → Each (P identity user) (p table tag identity user ds)
 
 -- The tag that refuses everything: no call ends in a reply.
 abbrev pub RefusesEverything : Program → Type 0
@@ -48,17 +55,17 @@ OneFixedReply reply p = Always p (λ identity user x. (n : ℕ) → x .stepped .
 -- The tag that answers its first message truly and later ones for show: what the later calls leave takes no notice of what was sent in them.
 abbrev pub LaterForShow : Program → Type 0
 LaterForShow p =
-    (tag : Tag) (identity user : List ℕ) (b : Brought) (bs cs : List Brought)
-    → length bs ≡ length cs
-    → drop 1 (p tag identity user (b ∷ bs)) ≡ drop 1 (p tag identity user (b ∷ cs))
+    (table : List ℕ) (tag : Tag) (identity user : List ℕ) (d : Doing) (ds es : List Doing)
+    → length ds ≡ length es
+    → drop 1 (p table tag identity user (d ∷ ds)) ≡ drop 1 (p table tag identity user (d ∷ es))
 
 -- A made-up reply length: the reply to an IAM1 is never said to have its ten bytes.
 abbrev pub MadeUpLength : Program → Type 0
 MadeUpLength p =
-    (tag : Tag) (identity user : List ℕ) (b : Brought) (first : ℕ) (rest : List ℕ)
+    (table : List ℕ) (tag : Tag) (identity user : List ℕ) (b : Brought) (first : ℕ) (rest : List ℕ)
     → b .message ≡ first ∷ rest
     → kindOf first ≡ Iam1
-    → Each (λ x. x .stepped .outcome ≡ Replied 10 → ⊥) (p tag identity user (b ∷ []))
+    → Each (λ x. x .stepped .outcome ≡ Replied 10 → ⊥) (p table tag identity user (Step b ∷ []))
 
 -- The tag that never stores: after every call both areas are as they were at the start.
 abbrev pub NeverStores : Program → Type 0
@@ -81,7 +88,7 @@ layoutLength Unsupported m = emptyReplyLength
 
 abbrev pub LengthFixed : Type 0
 LengthFixed =
-    (tag : Tag) (identity user : List ℕ) (b : Brought) (x : Left) (n : ℕ)
-    → Called tag identity user b x
+    (table : List ℕ) (tag : Tag) (identity user : List ℕ) (b : Brought) (x : Left) (n : ℕ)
+    → Called table tag identity user b x
     → x .stepped .outcome ≡ Replied n
     → n ≡ layoutLength (kindOf (byte (b .message) 0)) (b .message)

@@ -8,12 +8,12 @@ use lib.ListN.{length, getD}
 use Rattle.memory.specs.declared.Area.the-variants.{Identity, User}
 use Rattle.memory.specs.Areas.{wordBytes}
 use Rattle.sheet.specs.declared.Key.{Key}
-use Rattle.sheet.specs.declared.Setup.{Setup}
-use Rattle.tag.specs.States.{poweredUp}
-use Rattle.offer.specs.Records.{keysOf}
+use Rattle.sheet.specs.declared.Terms.{Terms}
+use Rattle.sheet.specs.Setups.{Setup, setupOf}
+use Rattle.tag.specs.States.{poweredUp, awake}
 use Rattle.tag.specs.Answers.{Answer}
-use Rattle.tag.specs.Runs.{Sent, run}
-use Rattle.tag.specs.Plays.{Brought, Left, Plays, sentAll}
+use Rattle.tag.specs.Runs.{Event, run}
+use Rattle.tag.specs.Plays.{Doing, Left, Plays, eventsOf}
 use Rattle.claims.specs.Names.{namedIn, Open}
 
 -- ---- set up alike
@@ -37,7 +37,7 @@ RecordsAlike named (k ∷ ks) (l ∷ ls) = RecordAlike named k l × RecordsAlike
 pub record SetupsAlike (named : ℕ → Bool) (s t : Setup) : Type 0 where
   pub features : s .features ≡ t .features
   pub sizes : s .sizes ≡ t .sizes
-  pub records : RecordsAlike named (keysOf s) (keysOf t)
+  pub records : RecordsAlike named (s .keys) (t .keys)
   pub profiles : s .profiles ≡ t .profiles
   pub locks : s .locks ≡ t .locks
 
@@ -84,19 +84,20 @@ SameAnswers x y (a ∷ more) (b ∷ more′) = SameAnswer x y a b × SameAnswers
 
 -- ---- the demand
 
--- What a tag answers to messages from power-up on.
-abbrev pub answers : Setup → Memory → List Sent → List Answer
-answers setup x ss = run (poweredUp setup) (x .identity) (x .user) ss
+-- What a tag answers from power-up on, to messages and further power-ups.
+abbrev pub answers : Setup → Memory → List Event → List Answer
+answers setup x es = run (poweredUp setup) (x .identity) (x .user) es
 
--- Whatever is sent: two tags that are alike but for what no message of it may touch cannot be told apart.
+-- Whatever reaches them: two tags that are alike but for what no message of it may touch cannot be told apart.
 abbrev pub Silent : Type 0
 Silent =
-    (ss : List Sent) (s t : Setup) (x y : Memory)
-    → SetupsAlike (namedIn ss) s t
-    → MemoriesAlike (namedIn ss) s x y
-    → SameAnswers x y (answers s x ss) (answers t y ss)
+    (es : List Event) (s t : Setup) (x y : Memory)
+    → SetupsAlike (namedIn es) s t
+    → MemoriesAlike (namedIn es) s x y
+    → SameAnswers x y (answers s x es) (answers t y es)
 
--- The same of the code, whose calls leave what the contract of `step` says: `ls` and `rs` are what it leaves of the same calls, with the same bytes in each room.
+-- The same of the code, whose calls leave what the contracts of `step` and `power_up` say: of two tags by their terms and
+-- key tables, `ls` and `rs` are what is left of the same calls, with the same bytes in each room.
 pub record SameLeft (x y : Memory) (l r : Left) : Type 0 where
   pub outcome : l .stepped .outcome ≡ r .stepped .outcome
   pub session : l .stepped .tag .session ≡ r .stepped .tag .session
@@ -112,11 +113,11 @@ SameLefts x y (l ∷ more) (r ∷ more′) = SameLeft x y l r × SameLefts x y m
 
 abbrev pub SilentCode : Type 0
 SilentCode =
-    (bs : List Brought) (s t : Setup) (x y : Memory) (ls rs : List Left)
-    → SetupsAlike (namedIn (sentAll bs)) s t
-    → MemoriesAlike (namedIn (sentAll bs)) s x y
-    → Plays (poweredUp s) (x .identity) (x .user) bs ls
-    → Plays (poweredUp t) (y .identity) (y .user) bs rs
+    (ds : List Doing) (p q : Terms) (k l : List ℕ) (x y : Memory) (ls rs : List Left)
+    → SetupsAlike (namedIn (eventsOf ds)) (setupOf p k) (setupOf q l)
+    → MemoriesAlike (namedIn (eventsOf ds)) (setupOf p k) x y
+    → Plays k (awake p) (x .identity) (x .user) ds ls
+    → Plays l (awake q) (y .identity) (y .user) ds rs
     → SameLefts x y ls rs
 
 -- What the same change means from one moment to another: of an area that was s and t at power-up, m and n at the one, k and l at the other.

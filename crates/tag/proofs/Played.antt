@@ -8,11 +8,12 @@ use borrow.Fn.Kinds.{Dens, resT, endedOf}
 use denote.Triple.Clauses.{AtExit}
 use denote.Ref.{now}
 use Rattle.tag.specs.declared.Tag.{Tag}
-use Rattle.tag.specs.States.{keyed}
-use Rattle.tag.specs.Answers.{Answer, answerOf}
-use Rattle.tag.specs.Reactions.{lent}
-use Rattle.tag.specs.Runs.{run}
-use Rattle.tag.specs.Plays.{Brought, Left, Called, Plays, sentAll, leftOf, leftAll}
+use Rattle.tag.specs.States.{keyed, awake}
+use Rattle.tag.specs.Answers.{Answer}
+use Rattle.tag.specs.Runs.{answerTo, run}
+use Rattle.tag.specs.Plays.{Doing, Step, Wake, Left, Called, Does, Plays, eventOf, eventsOf, leftOf, leftAll}
+use Rattle.tag.proofs.power_up.Reads as power-up
+use Rattle.tag.proofs.power_up.Kinds as power-up-kinds
 use Rattle.tag.proofs.step.Reads as step
 use Rattle.tag.proofs.step.Kinds as step-kinds
 
@@ -30,28 +31,36 @@ pub call-is-step : (κs : Lfts 6) (a : Dens κs step-kinds.ps) (r : resT step-ki
     })
 call-is-step κs a r e = refl
 
-module _ (keys identity user : List ℕ) (tag : Tag) (b : Brought) where
-  abbrev answer : Answer
-  answer = answerOf (lent (b .message) (b .draws) (b .room) identity user) (keyed tag keys)
+-- A power-up, as the run has it, leaves the tag that the contract of `power_up` gives.
+pub wake-is-power-up : (κs : Lfts 0) (a : Dens κs power-up-kinds.ps) (r : resT power-up-kinds.r κs .Denot)
+    (e : AtExit (endedOf 0 power-up-kinds.ps power-up-kinds.r) κs)
+    → power-up.Post κs a r e ≡ (r ≡ awake (a .0))
+wake-is-power-up κs a r e = refl
+
+module _ (keys identity user : List ℕ) (tag : Tag) where
+  abbrev answer : Doing → Answer
+  answer d = answerTo (keyed tag keys) identity user (eventOf d)
 
   -- what one call leaves
-  called : (x : Left) → Called keys tag identity user b x → x ≡ leftOf tag b answer
-  called x h =
+  done : (d : Doing) (x : Left) → Does keys tag identity user d x → x ≡ leftOf tag d (answer d)
+  unfolding answerTo
+  done (Step b) x h =
       λ j. record {
         stepped = record { outcome = h .outcome j; tag = h .next j };
         room = h .reply j;
         identity = h .identity j;
         user = h .user j;
       }
+  done Wake x h = h
 
 -- what a run leaves
-pub played : (bs : List Brought) (xs : List Left) (keys : List ℕ) (tag : Tag) (identity user : List ℕ)
-    → Plays keys tag identity user bs xs → xs ≡ leftAll tag bs (run (keyed tag keys) identity user (sentAll bs))
-unfolding Plays leftAll run sentAll
+pub played : (ds : List Doing) (xs : List Left) (keys : List ℕ) (tag : Tag) (identity user : List ℕ)
+    → Plays keys tag identity user ds xs → xs ≡ leftAll tag ds (run (keyed tag keys) identity user (eventsOf ds))
+unfolding Plays leftAll run eventsOf
 played [] [] keys tag identity user h = refl
 played [] (x ∷ xs) keys tag identity user h = absurd h
-played (b ∷ bs) [] keys tag identity user h = absurd h
-played (b ∷ bs) (x ∷ xs) keys tag identity user (h, hs) =
-    let e = called keys identity user tag b x h in
-    let k = subst (λ (y : Left). Plays keys (y .stepped .tag) (y .identity) (y .user) bs xs) e hs in
-    λ j. e j ∷ played bs xs keys _ _ _ k j
+played (d ∷ ds) [] keys tag identity user h = absurd h
+played (d ∷ ds) (x ∷ xs) keys tag identity user (h, hs) =
+    let e = done keys identity user tag d x h in
+    let k = subst (λ (y : Left). Plays keys (y .stepped .tag) (y .identity) (y .user) ds xs) e hs in
+    λ j. e j ∷ played ds xs keys _ _ _ k j

@@ -18,7 +18,7 @@ use Rattle.offer.specs.declared.Outcome.the-variants.{Refused}
 use Rattle.tag.specs.States.{KeyedTag}
 use Rattle.entry.specs.Sessions.{cleared, entered}
 use Rattle.tag.specs.States.{poweredUp, atRest, afterIam1, afterMam1, inTurn, tableA1}
-use Rattle.tag.specs.Runs.{Sent, callOf, tagAfter, run}
+use Rattle.tag.specs.Runs.{Event, Message, PowerUp, callOf, answerTo, tagAfter, run}
 use Rattle.offer.specs.Records.{offered}
 use Rattle.tag.specs.Answers.{Answer, Call, refused, replied, letIn, tam1Answer, tam2Answer, iam1Answer}
 use Rattle.tag.specs.Answers.{iam2Answer, iam3Answer, mam1Answer, mam2Answer, byKind, answerOf}
@@ -219,10 +219,11 @@ unfoldable pub AllRested : List Answer → Type 0
 AllRested [] = Unit
 AllRested (a ∷ answers) = Rested (a .session) × AllRested answers
 
-pub run-rests : (sent : List Sent) (tag : KeyedTag) (identity user : List ℕ) → Rested (tag .session)
-    → AllRested (run tag identity user sent)
-unfolding run AllRested
+pub run-rests : (es : List Event) (tag : KeyedTag) (identity user : List ℕ) → Rested (tag .session)
+    → AllRested (run tag identity user es)
+unfolding run answerTo AllRested
 run-rests [] tag identity user h = tt
-run-rests (s ∷ sent) tag identity user h =
+run-rests (Message s ∷ es) tag identity user h =
     let k = answer-rests (callOf s identity user) tag h in
-    (k, run-rests sent (tagAfter tag (answerOf (callOf s identity user) tag)) _ _ k)
+    (k, run-rests es (tagAfter tag (answerOf (callOf s identity user) tag)) _ _ k)
+run-rests (PowerUp ∷ es) tag identity user h = (cleared-rests, run-rests es _ identity user cleared-rests)

@@ -1,21 +1,28 @@
 -- A run of the code: each call is lent the key table, given the tag and the areas that the last one left, and leaves what
 -- its contract says.
+use mathlib.Core.Path.{_≡_}
 use mathlib.Core.List.{List, [], _∷_}
 use Prim.Native.Nat.{ℕ}
 use lib.ListN.{length}
 use Rattle.modes.specs.Room.{over}
+use Rattle.offer.specs.declared.Outcome.the-variants.{Replied}
 use Rattle.tag.specs.declared.Stepped.{Stepped}
 use Rattle.tag.specs.declared.Tag.{Tag}
-use Rattle.tag.specs.States.{keyed}
+use Rattle.tag.specs.States.{keyed, awake}
 use Rattle.tag.specs.Answers.{Answer, answerOf}
 use Rattle.tag.specs.Reactions.{lent, nextTag, Steps}
-use Rattle.tag.specs.Runs.{Sent}
+use Rattle.tag.specs.Runs.{Sent, Event, Message, PowerUp}
 
--- What the bench brings to a call, the room with its bytes.
+-- What the bench brings to a step, the room with its bytes.
 pub record Brought : Type 0 where
   pub message : List ℕ
   pub draws : List ℕ
   pub room : List ℕ
+
+-- A call of the code: of `step`, or of `power_up`.
+pub data Doing : Type 0 where
+  Step : Brought → Doing
+  Wake : Doing
 
 -- What a call leaves.
 pub record Left : Type 0 where
@@ -24,37 +31,59 @@ pub record Left : Type 0 where
   pub identity : List ℕ
   pub user : List ℕ
 
--- One call of the code, by its contract.
+-- One step of the code, by its contract.
 abbrev pub Called : List ℕ → Tag → List ℕ → List ℕ → Brought → Left → Type 0
 Called keys tag identity user b x =
     Steps (answerOf (lent (b .message) (b .draws) (b .room) identity user) (keyed tag keys)) tag (b .room) (x .stepped)
     (x .room) (x .identity) (x .user)
 
+-- `power_up` has no room and is lent no area: it leaves its tag.
+abbrev pub woken : Tag → List ℕ → List ℕ → Left
+woken tag identity user = record {
+  stepped = record { outcome = Replied 0; tag = awake (tag .terms) };
+  room = [];
+  identity = identity;
+  user = user;
+}
+
+abbrev pub Does : List ℕ → Tag → List ℕ → List ℕ → Doing → Left → Type 0
+Does keys tag identity user (Step b) x = Called keys tag identity user b x
+Does keys tag identity user Wake x = x ≡ woken tag identity user
+
 -- A run of such calls.
-unfoldable pub Plays : List ℕ → Tag → List ℕ → List ℕ → List Brought → List Left → Type 0
+unfoldable pub Plays : List ℕ → Tag → List ℕ → List ℕ → List Doing → List Left → Type 0
 Plays keys tag identity user [] [] = Unit
 Plays keys tag identity user [] (x ∷ xs) = ⊥
-Plays keys tag identity user (b ∷ bs) [] = ⊥
-Plays keys tag identity user (b ∷ bs) (x ∷ xs) =
-    Called keys tag identity user b x × Plays keys (x .stepped .tag) (x .identity) (x .user) bs xs
+Plays keys tag identity user (d ∷ ds) [] = ⊥
+Plays keys tag identity user (d ∷ ds) (x ∷ xs) =
+    Does keys tag identity user d x × Plays keys (x .stepped .tag) (x .identity) (x .user) ds xs
 
 -- What the definition's run says is left: of the room only the length counts for an answer.
 abbrev pub sentOf : Brought → Sent
 sentOf b = record { message = b .message; draws = b .draws; room = length (b .room) }
 
-unfoldable pub sentAll : List Brought → List Sent
-sentAll [] = []
-sentAll (b ∷ bs) = sentOf b ∷ sentAll bs
+abbrev pub eventOf : Doing → Event
+eventOf (Step b) = Message (sentOf b)
+eventOf Wake = PowerUp
 
-abbrev pub leftOf : Tag → Brought → Answer → Left
-leftOf tag b a = record {
+unfoldable pub eventsOf : List Doing → List Event
+eventsOf [] = []
+eventsOf (d ∷ ds) = eventOf d ∷ eventsOf ds
+
+-- The room that a call was lent; `power_up` has none.
+abbrev pub roomOf : Doing → List ℕ
+roomOf (Step b) = b .room
+roomOf Wake = []
+
+abbrev pub leftOf : Tag → Doing → Answer → Left
+leftOf tag d a = record {
   stepped = record { outcome = a .outcome; tag = nextTag tag a };
-  room = over (a .reply) (b .room);
+  room = over (a .reply) (roomOf d);
   identity = a .identity;
   user = a .user;
 }
 
-unfoldable pub leftAll : Tag → List Brought → List Answer → List Left
+unfoldable pub leftAll : Tag → List Doing → List Answer → List Left
 leftAll tag [] answers = []
-leftAll tag (b ∷ bs) [] = []
-leftAll tag (b ∷ bs) (a ∷ answers) = leftOf tag b a ∷ leftAll (nextTag tag a) bs answers
+leftAll tag (d ∷ ds) [] = []
+leftAll tag (d ∷ ds) (a ∷ answers) = leftOf tag d a ∷ leftAll (nextTag tag a) ds answers

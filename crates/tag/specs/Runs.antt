@@ -1,6 +1,8 @@
--- A run of messages: each call is lent the areas as the last one left them.
+-- A run of what reaches a tag: each call is lent the areas as the last one left them.
 use Prim.Native.Nat.{ℕ}
 use mathlib.Core.List.{List, [], _∷_}
+use Rattle.offer.specs.declared.Outcome.the-variants.{Replied}
+use Rattle.entry.specs.Sessions.{cleared}
 use Rattle.tag.specs.States.{KeyedTag}
 use Rattle.tag.specs.Answers.{Answer, Call, answerOf}
 
@@ -19,13 +21,24 @@ callOf s identity user = record {
   user = user;
 }
 
+-- What reaches a tag: a message, or the power, at a power-up or a reset.
+pub data Event : Type 0 where
+  Message : Sent → Event
+  PowerUp : Event
+
+-- What an event comes to. At power-up nothing is sent and no word changes; an empty reply stands for that.
+unfoldable pub answerTo : KeyedTag → List ℕ → List ℕ → Event → Answer
+answerTo tag identity user (Message s) = answerOf (callOf s identity user) tag
+answerTo tag identity user PowerUp =
+    record { outcome = Replied 0; session = cleared; reply = []; identity = identity; user = user }
+
 -- The tag after an answer.
 abbrev pub tagAfter : KeyedTag → Answer → KeyedTag
 tagAfter tag a = record { setup = tag .setup; session = a .session }
 
--- The answers to a run of messages.
-unfoldable pub run : KeyedTag → List ℕ → List ℕ → List Sent → List Answer
+-- The answers to a run of events.
+unfoldable pub run : KeyedTag → List ℕ → List ℕ → List Event → List Answer
 run tag identity user [] = []
-run tag identity user (s ∷ ss) =
-    let a = answerOf (callOf s identity user) tag in
-    a ∷ run (tagAfter tag a) (a .identity) (a .user) ss
+run tag identity user (e ∷ es) =
+    let a = answerTo tag identity user e in
+    a ∷ run (tagAfter tag a) (a .identity) (a .user) es
