@@ -72,10 +72,14 @@ impl<'a> Player<'a> {
         let wrong = self.wrong(kind);
         self.lead_up(kind, &wrong);
         let (held, before) = (self.open, self.tag().session);
-        let given = match self.draws.below(64) {
-            0 => self.any_bytes(),
-            1 => self.call(Vec::new(), &wrong, &[]),
-            _ => self.send(kind, &wrong),
+        let (what, given) = match self.draws.below(64) {
+            0 => ("any bytes".to_string(), self.any_bytes()),
+            1 => ("no byte".to_string(), self.call(Vec::new(), &wrong, &[])),
+            2 | 3 => {
+                self.script.expect("power", "ok");
+                ("power".to_string(), 0)
+            }
+            _ => (format!("{kind:?}"), self.send(kind, &wrong)),
         };
         let (Session::IamInit(..) | Session::MamInit(..)) = before else {
             return;
@@ -88,7 +92,7 @@ impl<'a> Player<'a> {
                 _ => self.draws.one_of(&[Kind::Iam2, Kind::Iam3]),
             };
             self.send(second, &[]);
-            tally::survival(self.script, before.name(), kind, given);
+            tally::survival(self.script, before.name(), &what, given);
         }
     }
 
