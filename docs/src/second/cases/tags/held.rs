@@ -150,6 +150,7 @@ fn forms_held(script: &mut Script) {
         "starts on the last word of a lock",
         "is locked above word 255",
         "is in a lock of over 255 words",
+        "starts on the last word of a lock of over 700 words",
     ] {
         script.often(&format!("Iam3 {edge}"), EACH_SELDOM);
     }

@@ -103,10 +103,18 @@ impl<'a> Player<'a> {
             .copied()
             .filter(|&check| self.shows(check))
             .collect();
-        let count = [0, 0, 1, 1, 2, 2][self.draws.below(6)];
+        let count = self.draws.one_of(if kind == Kind::Tam2 {
+            &[0, 0, 0, 1, 2, 2]
+        } else {
+            &[0, 0, 1, 1, 2, 2]
+        });
         let mut wrong: Vec<Check> = (0..count).map(|_| self.draws.one_of(&can)).collect();
         if kind == Kind::Iam3 && count == 1 && self.draws.once_in(2) {
             wrong = vec![self.draws.one_of(&IN_THE_PROOF)];
+        }
+        // Locks far behind are on few tags.
+        if kind == Kind::Iam3 && self.tag().setup.words.iter().any(|&words| words > 255) && self.draws.once_in(2) {
+            wrong = vec![Check::Lock];
         }
         if self.draws.once_in(if count == 0 { 12 } else { 6 }) {
             wrong.insert(0, self.draws.one_of(&BENCH));

@@ -117,6 +117,10 @@ fn fields(tag: &Tag, kind: Kind, call: &Call, failing: &[Check], what: &mut Vec<
             "starts on the last word of a lock",
             locks().any(|(_, lock)| start + 1 == lock.first + lock.words),
         );
+        edge(
+            "starts on the last word of a lock of over 700 words",
+            locks().any(|(_, lock)| lock.words > 700 && start + 1 == lock.first + lock.words),
+        );
         edge("is locked above word 255", start > 255);
         edge(
             "is in a lock of over 255 words",
