@@ -1,6 +1,5 @@
 -- The maps of one column, of four bytes. Each is additive in the four together, so two are equal where they agree on
--- each byte by itself,
--- and there they agree where they agree at the eight bits.
+-- each byte by itself, and there they agree where they agree at the eight bits.
 use mathlib.Core.Path.{_≡_, refl, sym, ap, ap₂, _∙_}
 use Prim.Native.Nat.{ℕ, _^_, _<_}
 use mathlib.Core.List.{List, _∷_}

@@ -15,7 +15,15 @@ use Rattle.sheet.specs.declared.Finding.{Finding}
 use Rattle.sheet.specs.declared.Finding.the-variants.{Taken, Ended, Faulty}
 use Rattle.sheet.specs.declared.Kept.{Kept}
 use Rattle.sheet.specs.declared.Kind.{Kind}
-use Rattle.sheet.specs.declared.Kind.the-variants.{FeatureRecord, SizeRecord, KeyRecord, ProfileRecord, LockRecord, EndRecord, NoRecord}
+use Rattle.sheet.specs.declared.Kind.the-variants.{
+  FeatureRecord,
+  SizeRecord,
+  KeyRecord,
+  ProfileRecord,
+  LockRecord,
+  EndRecord,
+  NoRecord,
+}
 use Rattle.sheet.specs.declared.Judged.{Judged}
 use Rattle.sheet.specs.declared.Opened.{Opened}
 use Rattle.sheet.specs.declared.Opened.the-variants.{Open, Shut}
@@ -25,11 +33,31 @@ use Rattle.sheet.specs.Kinds as sheet
 use Rattle.sheet.specs.Kinds.{kindOf, bodyLength}
 use Rattle.sheet.specs.Setups.{emptyTerms}
 use Rattle.sheet.specs.Records.{featuresRule, sizesRule, keyRule, profileRule, lockRule}
-use Rattle.sheet.specs.Judgement.{judgedOf, openedOf, recordOf, taken, refused, onlyIf, withFeatures, withSizes, withKey, withProfile, withLock}
+use Rattle.sheet.specs.Judgement.{
+  judgedOf,
+  openedOf,
+  recordOf,
+  taken,
+  refused,
+  onlyIf,
+  withFeatures,
+  withSizes,
+  withKey,
+  withProfile,
+  withLock,
+}
 use Rattle.sheet.specs.Limits.{keyLimit}
 use Rattle.sheet.specs.Sheet.{readOf, walk, after}
 use Rattle.offer.specs.declared.Fault.{Fault as TagFault}
-use Rattle.offer.specs.declared.Fault.the-variants.{OtherError, NotSupported, MemoryOverrun, MemoryWriteError, OutOfTurn, ProofWrong, BenchFault}
+use Rattle.offer.specs.declared.Fault.the-variants.{
+  OtherError,
+  NotSupported,
+  MemoryOverrun,
+  MemoryWriteError,
+  OutOfTurn,
+  ProofWrong,
+  BenchFault,
+}
 use Rattle.tag.specs.declared.Tag.{Tag}
 use Rattle.tag.specs.States.{keyed}
 use Rattle.offer.specs.Outcomes as outcomes
@@ -84,8 +112,10 @@ unfolding recordOf
 kind-leaves FeatureRecord b k = record-leaves (featuresRule b) FeatureRecord k (withFeatures k b)
 kind-leaves SizeRecord b k = record-leaves (sizesRule b) SizeRecord k (withSizes k b)
 kind-leaves KeyRecord b k = record-leaves (keyRule (k .marks .id) b) KeyRecord k (withKey k b)
-kind-leaves ProfileRecord b k = record-leaves (profileRule (k .marks .number) (k .terms .sizes) b) ProfileRecord k (withProfile k b)
-kind-leaves LockRecord b k = record-leaves (lockRule (k .marks .area) (k .marks .word) (k .terms .sizes) b) LockRecord k (withLock k b)
+kind-leaves ProfileRecord b k = record-leaves (profileRule (k .marks .number) (k .terms .sizes) b) ProfileRecord k
+    (withProfile k b)
+kind-leaves LockRecord b k = record-leaves (lockRule (k .marks .area) (k .marks .word) (k .terms .sizes) b) LockRecord k
+    (withLock k b)
 kind-leaves EndRecord b k = λ f e. refl
 kind-leaves NoRecord b k = λ f e. refl
 
@@ -116,7 +146,8 @@ pub walk-empty : (s : List ℕ) (body at : ℕ) (k : Kept) → Empty (walk keyLi
 unfolding walk
 walk-empty [] body at k = λ f i e. (refl, refl)
 walk-empty (b ∷ t) (suc body) at k = walk-empty t body (at + 1) k
-walk-empty (b ∷ t) zero at k = after-empty _ _ at t _ (walk-empty t (bodyLength (kindOf b)) (at + 1) (judgedOf keyLimit (b ∷ t) k .kept))
+walk-empty (b ∷ t) zero at k = after-empty _ _ at t _ (walk-empty t (bodyLength (kindOf b)) (at + 1)
+    (judgedOf keyLimit (b ∷ t) k .kept))
 
 pub sheet-answers : SheetAnswers
 unfolding readOf
@@ -129,4 +160,5 @@ chain-answers true out before r after h = inl (h .number)
 chain-answers false out before r after h = inr (h .number, h .leaves)
 
 pub layer-answers : LayerAnswers
-layer-answers fit n message before r after h e = h .holds ∙ ap (λ (t : Bool). pick t (message ++ drop n before) before) (sym (h .says) ∙ e)
+layer-answers fit n message before r after h e = h .holds
+    ∙ ap (λ (t : Bool). pick t (message ++ drop n before) before) (sym (h .says) ∙ e)

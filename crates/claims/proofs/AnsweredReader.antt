@@ -22,7 +22,17 @@ use Rattle.reader_judge.specs.declared.Worth.{Worth}
 use Rattle.reader.specs.Numbers.{numberOf}
 use Rattle.reader_judge.specs.Findings.{Finding, silent, refused, nothingMore, carries, issues, saidOf}
 use Rattle.reader.specs.Own.{ownFits}
-use Rattle.reader_judge.specs.Judged.{dataFinding, iam1Finding, emptyFinding, tam1Finding, tam2Finding, mam1Finding, byKind, ofKind, judgementOf}
+use Rattle.reader_judge.specs.Judged.{
+  dataFinding,
+  iam1Finding,
+  emptyFinding,
+  tam1Finding,
+  tam2Finding,
+  mam1Finding,
+  byKind,
+  ofKind,
+  judgementOf,
+}
 use Rattle.reader_build.specs.Makes.{taken, madeNumber}
 use Rattle.claims.specs.Answered.{FromTo, JudgeAnswers, BuilderAnswers}
 
@@ -74,7 +84,8 @@ judgement-quiet : (keys : Keys) (m reply : List ℕ) (room : ℕ) → Quiet (jud
 unfolding judgementOf ofKind
 judgement-quiet keys [] reply room = refused-quiet OwnMessage
 judgement-quiet keys (b ∷ m) reply room =
-    picked-quiet (ownFits keys (kindOf b) (b ∷ m) room) (byKind keys (b ∷ m) reply (kindOf b)) (refused OwnMessage) (kind-quiet keys (b ∷ m) reply (kindOf b)) (refused-quiet OwnMessage)
+    picked-quiet (ownFits keys (kindOf b) (b ∷ m) room) (byKind keys (b ∷ m) reply (kindOf b)) (refused OwnMessage)
+    (kind-quiet keys (b ∷ m) reply (kindOf b)) (refused-quiet OwnMessage)
 
 pub judge-answers : JudgeAnswers
 judge-answers keys m reply room r after f h e =
@@ -92,9 +103,11 @@ judge-answers keys m reply room r after f h e =
 -- ---- the builders
 
 builder-refused : (t : Bool) (n : ℕ) (message room after : List ℕ) (f : Fault)
-    → NotMade f ≡ pick t (Message n) (NotMade OwnMessage) → after ≡ pick t (over message room) room → (numberOf f ≡ 24) × (after ≡ room)
+    → NotMade f ≡ pick t (Message n) (NotMade OwnMessage) → after ≡ pick t (over message room) room → (numberOf f ≡ 24)
+    × (after ≡ room)
 builder-refused true n message room after f e h = let z : _≡_ {A = ℕ} 0 1 = cc in absurd (omega arith)
 builder-refused false n message room after f e h = (ap madeNumber e, h)
 
 pub builder-answers : BuilderAnswers
-builder-answers fit message room r after f h e = builder-refused (taken fit room) (length message) message room after f (sym e ∙ h .says) (h .holds)
+builder-answers fit message room r after f h e =
+    builder-refused (taken fit room) (length message) message room after f (sym e ∙ h .says) (h .holds)

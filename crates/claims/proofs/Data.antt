@@ -46,9 +46,11 @@ use Rattle.claims.proofs.Opens.{opens, block-right}
 constant-le : (rev : Bool) (protmode : ℕ) → tam2Constant rev protmode ≤ 0xFFFF
 unfolding tam2Constant
 constant-le false protmode = omega arith
-constant-le true protmode = by-mode-le C-TAM2-0 C-TAM2-1 C-TAM2-2 C-TAM2-3 protmode 0xFFFF (omega arith) (omega arith) (omega arith) (omega arith)
+constant-le true protmode = by-mode-le C-TAM2-0 C-TAM2-1 C-TAM2-2 C-TAM2-3 protmode 0xFFFF (omega arith) (omega arith)
+    (omega arith) (omega arith)
 
-made-block : (enc constant draws ichallenge : List ℕ) → tamBlock enc constant draws ichallenge ≡ aesEnc enc (constant ++ (take 4 draws ++ ichallenge))
+made-block : (enc constant draws ichallenge : List ℕ)
+    → tamBlock enc constant draws ichallenge ≡ aesEnc enc (constant ++ (take 4 draws ++ ichallenge))
 unfolding tamBlock
 made-block enc constant draws ichallenge = refl
 
@@ -59,99 +61,110 @@ undone true a enc p ha he hp w = dec-inv-undoes-enc a enc p ha he hp w
 undone false a enc p ha he hp w = refl
 
 -- the MAC that was put there, where there is one
-mac-there : (b : Bool) (mackey s : List ℕ) → macs (length s) 12 ≡ true → implies b (both (macs (length s) 12) (same (cmac96 mackey s) (pick b (cmac96 mackey s) []))) ≡ true
+mac-there : (b : Bool) (mackey s : List ℕ) → macs (length s) 12 ≡ true
+    → implies b (both (macs (length s) 12) (same (cmac96 mackey s) (pick b (cmac96 mackey s) []))) ≡ true
 mac-there true mackey s t = ap₂ both t (same-self (cmac96 mackey s))
 mac-there false mackey s t = refl
 
 module _ (keys : Keys) (key : Key) (e : Shares keys key) (b : Bytes (keys .enc)) (draws : List ℕ) (d : Ten draws)
     (f : Tam2) (t : Ten (f .ichallenge)) (fit : customFits (f .custom) ≡ true)
-    (words : List ℕ) (all : length words ≡ dataLength (f .custom .blocksize) (f .custom .blockcount)) (w : Bytes words) where
-  abbrev count : ℕ
-  count = blocksLength (f .custom .blocksize) (f .rev) (f .custom .blockcount)
+    (words : List ℕ) (all : length words ≡ dataLength (f .custom .blocksize) (f .custom .blockcount)) (w : Bytes words)
+  where
+    abbrev count : ℕ
+    count = blocksLength (f .custom .blocksize) (f .rev) (f .custom .blockcount)
 
-  -- the authentication block, the data in the clear and as they are sent, and the MAC
-  abbrev block : List ℕ
-  block = tamBlock (key .enc) (twoBytes (tam2Constant (f .rev) (f .protmode))) draws (f .ichallenge)
+    -- the authentication block, the data in the clear and as they are sent, and the MAC
+    abbrev block : List ℕ
+    block = tamBlock (key .enc) (twoBytes (tam2Constant (f .rev) (f .protmode))) draws (f .ichallenge)
 
-  abbrev clear : List ℕ
-  clear = carriedData (f .rev) (f .custom) words
+    abbrev clear : List ℕ
+    clear = carriedData (f .rev) (f .custom) words
 
-  abbrev sent : List ℕ
-  sent = pick (encrypts (f .protmode)) (cbcEncAes block (key .enc) clear) clear
+    abbrev sent : List ℕ
+    sent = pick (encrypts (f .protmode)) (cbcEncAes block (key .enc) clear) clear
 
-  abbrev mac : List ℕ
-  mac = pick (hasMac (f .protmode)) (cmac96 (key .mackey) (block ++ sent)) []
+    abbrev mac : List ℕ
+    mac = pick (hasMac (f .protmode)) (cmac96 (key .mackey) (block ++ sent)) []
 
-  abbrev reply : List ℕ
-  reply = (block ++ sent) ++ mac
+    abbrev reply : List ℕ
+    reply = (block ++ sent) ++ mac
 
-  reply-is : tam2Reply key f words draws ≡ reply
-  unfolding tam2Reply withMac tam2Body
-  reply-is = refl
+    reply-is : tam2Reply key f words draws ≡ reply
+    unfolding tam2Reply withMac tam2Body
+    reply-is = refl
 
-  few : length words ≤ dataLength (f .custom .blocksize) (f .custom .blockcount)
-  few = omega (arith, all)
+    few : length words ≤ dataLength (f .custom .blocksize) (f .custom .blockcount)
+    few = omega (arith, all)
 
-  clear-long : length clear ≡ count
-  clear-long = carried-long (f .rev) (f .custom) words few
+    clear-long : length clear ≡ count
+    clear-long = carried-long (f .rev) (f .custom) words few
 
-  clear-whole : length clear % 16 ≡ 0
-  clear-whole = omega (arith, clear-long, blocks-whole (f .custom .blocksize) (f .rev) (f .custom .blockcount))
+    clear-whole : length clear % 16 ≡ 0
+    clear-whole = omega (arith, clear-long, blocks-whole (f .custom .blocksize) (f .rev) (f .custom .blockcount))
 
-  block-long : length block ≡ 16
-  block-long = tam-block-long (key .enc) (twoBytes (tam2Constant (f .rev) (f .protmode))) draws (f .ichallenge)
+    block-long : length block ≡ 16
+    block-long = tam-block-long (key .enc) (twoBytes (tam2Constant (f .rev) (f .protmode))) draws (f .ichallenge)
 
-  sent-long : length sent ≡ count
-  sent-long = body-long (f .protmode) block (key .enc) clear clear-whole ∙ clear-long
+    sent-long : length sent ≡ count
+    sent-long = body-long (f .protmode) block (key .enc) clear clear-whole ∙ clear-long
 
-  both-long : length (block ++ sent) ≡ 16 + count
-  both-long = length-append block sent ∙ ap₂ (λ (i j : ℕ). i + j) block-long sent-long
+    both-long : length (block ++ sent) ≡ 16 + count
+    both-long = length-append block sent ∙ ap₂ (λ (i j : ℕ). i + j) block-long sent-long
 
-  front : take 16 reply ≡ block
-  front = ap (take 16) (append-assoc block sent mac) ∙ take-at block (sent ++ mac) 16 block-long
+    front : take 16 reply ≡ block
+    front = ap (take 16) (append-assoc block sent mac) ∙ take-at block (sent ++ mac) 16 block-long
 
-  middle : dataSent f reply ≡ sent
-  middle = ap (λ (l : List ℕ). take count (drop 16 l)) (append-assoc block sent mac) ∙ ap (take count) (drop-at block (sent ++ mac) 16 block-long) ∙ take-at sent mac count sent-long
+    middle : dataSent f reply ≡ sent
+    middle = ap (λ (l : List ℕ). take count (drop 16 l)) (append-assoc block sent mac)
+        ∙ ap (take count) (drop-at block (sent ++ mac) 16 block-long) ∙ take-at sent mac count sent-long
 
-  block-fits : blockFits (twoBytes (tam2Constant (f .rev) (f .protmode))) (f .ichallenge) (openedBlock keys reply) ≡ true
-  block-fits =
-      let four : length (take 4 draws) ≡ 4 = length-take-le 4 draws (omega (arith, d .ten)) in
-      let k = tam2Constant (f .rev) (f .protmode) in
-      ap (blockFits (twoBytes k) (f .ichallenge)) (opens k (take 4 draws) (f .ichallenge) four keys (key .enc) reply (e .enc) b
-      (constant-le (f .rev) (f .protmode)) (bytes-take 4 draws (d .bytes)) t (front ∙ made-block (key .enc) (twoBytes k) draws (f .ichallenge)))
-      ∙ block-right k (take 4 draws) (f .ichallenge) four
+    block-fits : blockFits (twoBytes (tam2Constant (f .rev) (f .protmode))) (f .ichallenge) (openedBlock keys reply) ≡
+        true
+    block-fits =
+        let four : length (take 4 draws) ≡ 4 = length-take-le 4 draws (omega (arith, d .ten)) in
+        let k = tam2Constant (f .rev) (f .protmode) in
+        ap (blockFits (twoBytes k) (f .ichallenge)) (opens k (take 4 draws) (f .ichallenge) four keys (key .enc) reply
+        (e .enc) b
+        (constant-le (f .rev) (f .protmode)) (bytes-take 4 draws (d .bytes)) t
+        (front ∙ made-block (key .enc) (twoBytes k) draws (f .ichallenge)))
+        ∙ block-right k (take 4 draws) (f .ichallenge) four
 
-  mac-fits : macFits (keys .mackey) (f .protmode) (take (tam2MacAt (f .custom .blocksize) (f .rev) (f .custom .blockcount)) reply) (drop (tam2MacAt (f .custom .blocksize) (f .rev) (f .custom .blockcount)) reply) ≡ true
-  unfolding macFits tam2MacAt
-  mac-fits =
-      let whole : length (block ++ sent) % 16 ≡ 0 = omega (arith, both-long, blocks-whole (f .custom .blocksize) (f .rev) (f .custom .blockcount)) in
-      let t = room-for-mac (length (block ++ sent)) 12 (omega (arith, both-long)) whole (omega arith) in
-      (λ i. macFits (e .mackey i) (f .protmode) (take-at (block ++ sent) mac (16 + count) both-long i) (drop-at (block ++ sent) mac (16 + count) both-long i))
-      ∙ mac-there (hasMac (f .protmode)) (key .mackey) (block ++ sent) t
+    mac-fits : macFits (keys .mackey) (f .protmode) (take
+        (tam2MacAt (f .custom .blocksize) (f .rev) (f .custom .blockcount)) reply)
+        (drop (tam2MacAt (f .custom .blocksize) (f .rev) (f .custom .blockcount)) reply) ≡ true
+    unfolding macFits tam2MacAt
+    mac-fits =
+        let whole : length (block ++ sent) % 16 ≡ 0 =
+        omega (arith, both-long, blocks-whole (f .custom .blocksize) (f .rev) (f .custom .blockcount)) in
+        let t = room-for-mac (length (block ++ sent)) 12 (omega (arith, both-long)) whole (omega arith) in
+        (λ i. macFits (e .mackey i) (f .protmode) (take-at (block ++ sent) mac (16 + count) both-long i)
+        (drop-at (block ++ sent) mac (16 + count) both-long i))
+        ∙ mac-there (hasMac (f .protmode)) (key .mackey) (block ++ sent) t
 
-  opened : openedData keys f reply ≡ clear
-  unfolding openedData
-  opened =
-      let be : Bytes (key .enc) = λ i. subst (λ (l : List ℕ). getD l i 0 < 256) (e .enc) (b i) in
-      (λ i. pick (encrypts (f .protmode)) (cbcDecAesInv (front i) (e .enc i) (middle i)) (middle i))
-      ∙ undone (encrypts (f .protmode)) block (key .enc) clear
-      (tam-block-block draws d (key .enc) (f .ichallenge) (tam2Constant (f .rev) (f .protmode)) be (constant-le (f .rev) (f .protmode)) t .bytes) be
-      (carried-bytes (f .rev) (f .custom) words fit w) clear-whole
+    opened : openedData keys f reply ≡ clear
+    unfolding openedData
+    opened =
+        let be : Bytes (key .enc) = λ i. subst (λ (l : List ℕ). getD l i 0 < 256) (e .enc) (b i) in
+        (λ i. pick (encrypts (f .protmode)) (cbcDecAesInv (front i) (e .enc i) (middle i)) (middle i))
+        ∙ undone (encrypts (f .protmode)) block (key .enc) clear
+        (tam-block-block draws d (key .enc) (f .ichallenge) (tam2Constant (f .rev) (f .protmode)) be
+        (constant-le (f .rev) (f .protmode)) t .bytes) be
+        (carried-bytes (f .rev) (f .custom) words fit w) clear-whole
 
-  clear-found : dataFinding f clear ≡ carries (worthOf (f .protmode)) words
-  unfolding dataFinding
-  clear-found =
-      let h = header-carried (f .custom) words (f .rev) fit in
-      let k = filler-carried (f .custom) words (f .rev) all in
-      sym (passes _ _ _ _ h (passes _ _ _ _ k (ends _ _)))
-      ∙ ap (carries (worthOf (f .protmode))) (words-carried (f .custom) words (f .rev) all)
+    clear-found : dataFinding f clear ≡ carries (worthOf (f .protmode)) words
+    unfolding dataFinding
+    clear-found =
+        let h = header-carried (f .custom) words (f .rev) fit in
+        let k = filler-carried (f .custom) words (f .rev) all in
+        sym (passes _ _ _ _ h (passes _ _ _ _ k (ends _ _)))
+        ∙ ap (carries (worthOf (f .protmode))) (words-carried (f .custom) words (f .rev) all)
 
-  pub tam2-found : tam2Finding keys f (tam2Reply key f words draws) ≡ carries (worthOf (f .protmode)) words
-  unfolding tam2Finding
-  tam2-found =
-      ap (tam2Finding keys f) reply-is
-      ∙ sym
-      (passes _ _ _ _ (eq-eqb _ _ (sym (ap length reply-is) ∙ tam2-long key f words draws few))
-      (passes _ _ _ _ block-fits (passes _ _ _ _ mac-fits (ends _ _))))
-      ∙ ap (dataFinding f) opened
-      ∙ clear-found
+    pub tam2-found : tam2Finding keys f (tam2Reply key f words draws) ≡ carries (worthOf (f .protmode)) words
+    unfolding tam2Finding
+    tam2-found =
+        ap (tam2Finding keys f) reply-is
+        ∙ sym
+        (passes _ _ _ _ (eq-eqb _ _ (sym (ap length reply-is) ∙ tam2-long key f words draws few))
+        (passes _ _ _ _ block-fits (passes _ _ _ _ mac-fits (ends _ _))))
+        ∙ ap (dataFinding f) opened
+        ∙ clear-found

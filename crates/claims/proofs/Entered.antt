@@ -1,4 +1,5 @@
--- The premises of Entry hold: on the bench of examples a reader that has the keys is let in by IAM2, by MAM2, and by an IAM3 that writes. No cipher is computed.
+-- The premises of Entry hold: on the bench of examples a reader that has the keys is let in by IAM2, by MAM2, and by an
+-- IAM3 that writes. No cipher is computed.
 use mathlib.Core.Path.{_≡_, refl}
 use mathlib.Core.Bool.{true, false}
 use mathlib.Core.List.{List, [], _∷_}
@@ -43,7 +44,11 @@ zeros (suc n) (suc i) = zeros n i
 
 -- the tag after an IAM1 or a MAM1 whose draws are zeros, and a call
 abbrev pub waiting : State → KeyedTag
-waiting state = record { setup = setup; session = record { state = state; keyid = 0; tchallenge = drawn 0; ichallenge = replicate 4 0 } }
+waiting state = record {
+  setup = setup;
+  session =
+      record { state = state; keyid = 0; tchallenge = drawn 0; ichallenge = replicate 4 0 };
+}
 
 abbrev pub call : List ℕ → Call
 call message = lent message (drawn 0) (replicate 172 0) [] user
@@ -76,7 +81,8 @@ unfolding judgedTo benchChecks offered inTurn afterIam1 setup terms
 iam2-waits = record { bench = refl; there = refl; turn = refl }
 
 pub iam2-entered : answerOf iam2 (waiting IamInit) ≡ letIn iam2 0 [] user
-iam2-entered = iam2-enters iam2 (waiting IamInit) keys 0 (replicate 4 0) iam2-waits (knows IamInit) ten four purpose-0 refl
+iam2-entered = iam2-enters iam2 (waiting IamInit) keys 0 (replicate 4 0) iam2-waits (knows IamInit) ten four purpose-0
+    refl
 
 abbrev mam2 : Call
 mam2 = call (mam2Made keys 0 (replicate 10 0) (drawn 0))
@@ -86,7 +92,8 @@ unfolding judgedTo benchChecks offered inTurn afterMam1 setup terms
 mam2-waits = record { bench = refl; there = refl; turn = refl }
 
 pub mam2-entered : answerOf mam2 (waiting MamInit) ≡ letIn mam2 0 [] user
-mam2-entered = mam2-enters mam2 (waiting MamInit) keys 0 (replicate 10 0) mam2-waits (knows MamInit) ten ten refl purpose-0 refl
+mam2-entered = mam2-enters mam2 (waiting MamInit) keys 0 (replicate 10 0) mam2-waits (knows MamInit) ten ten refl
+    purpose-0 refl
 
 -- ---- IAM3: ProtMode 0, one 64-bit block at Offset 0 of profile 0
 
@@ -112,10 +119,13 @@ unfolding iam3Fits modeFits hasMac purposeFits dataFits dataLength blockBytes cu
 fits = refl
 
 writable : Writable setup (keyWith 0 (setup .keys)) custom 0
-unfolding setup terms modeSupported modeOffered hasMac keyWith slotNamed permitted sizeOffered overruns lastWord profileEnd blockAsked wordsAsked addressOf stepOf someLocked meetsAny keyLimit profileLimit lockLimit
+unfolding setup terms modeSupported modeOffered hasMac keyWith slotNamed permitted sizeOffered overruns lastWord
+    profileEnd blockAsked wordsAsked addressOf stepOf someLocked meetsAny keyLimit profileLimit lockLimit
 writable = record { mode = refl; present = refl; right = refl; size = refl; inside = refl; unlocked = refl }
 
 pub iam3-entered : answerOf (call iam3) (waiting IamInit)
-    ≡ letIn (call iam3) 0 (storedIn Identity (blockAsked (setup .profiles) custom) words []) (storedIn User (blockAsked (setup .profiles) custom) words user)
+    ≡ letIn (call iam3) 0 (storedIn Identity (blockAsked (setup .profiles) custom) words [])
+    (storedIn User (blockAsked (setup .profiles) custom) words user)
 unfolding iam3
-iam3-entered = iam3-enters (call iam3) (waiting IamInit) keys custom 0 0 (replicate 4 0) words iam3-waits (knows IamInit) ten four words-bytes fits writable refl
+iam3-entered = iam3-enters (call iam3) (waiting IamInit) keys custom 0 0 (replicate 4 0) words iam3-waits
+    (knows IamInit) ten four words-bytes fits writable refl

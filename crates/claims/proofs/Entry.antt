@@ -35,7 +35,8 @@ use Rattle.claims.specs.Entry.{Knows, Array, Iam2Enters, Mam2Enters}
 use Rattle.claims.proofs.Proofs.{sent, sixteen, opened, clear, purpose-in, iam-holds, middle-holds}
 
 -- checks that are fine, and the Purpose that was opened
-entered : (c : Call) (v : Verdict) (p purpose : ℕ) → v ≡ Fine → p ≡ purpose → ifFine c v (letIn c p (c .identity) (c .user)) ≡ letIn c purpose (c .identity) (c .user)
+entered : (c : Call) (v : Verdict) (p purpose : ℕ) → v ≡ Fine → p ≡ purpose
+    → ifFine c v (letIn c p (c .identity) (c .user)) ≡ letIn c purpose (c .identity) (c .user)
 unfolding ifFine
 entered c v p purpose e q = ap₂ {C = Answer} (λ x y. ifFine c x (letIn c y (c .identity) (c .user))) e q
 
@@ -51,18 +52,27 @@ iam2-let-in c setup held keys purpose irnd knows t m fit e =
     let key = keyWith (held .keyid) (setup .keys) in
     let small : C-IAM2 < 4096 = omega arith in
     let n = sixteen keys key C-IAM2 purpose irnd (held .tchallenge) knows small m t in
-    let f : Iam2 = record { rfu = 0; iresponse = sent keys key C-IAM2 purpose irnd (held .tchallenge) knows small m t } in
+    let f : Iam2 = record { rfu = 0; iresponse = sent keys key C-IAM2 purpose irnd (held .tchallenge) knows small m t }
+    in
     let taken : iam2Of (c .message) ≡ f = ap iam2Of e ∙ iam2-taken f n (omega arith) in
     let long : length (c .message) ≡ 17 = ap length e ∙ iam2-shape f n (omega arith) .0 in
-    let block : aesEnc (key .enc) (iam2Of (c .message) .iresponse) ≡ clear C-IAM2 purpose irnd (held .tchallenge) (m .long) (t .long) =
-    ap (λ (g : Iam2). aesEnc (key .enc) (g .iresponse)) taken ∙ opened keys key C-IAM2 purpose irnd (held .tchallenge) knows small m t in
-    let proof = ap (iamProof C-IAM2 held) block ∙ iam-holds C-IAM2 purpose irnd (held .tchallenge) (m .long) (t .long) held refl in
-    entered c _ _ purpose (sym (passes _ _ (eq-eqb _ _ long) (passes _ _ (eq-eqb _ _ (ap (λ (g : Iam2). g .rfu) taken)) (passes _ _ proof ends))))
+    let block : aesEnc (key .enc) (iam2Of (c .message) .iresponse) ≡ clear C-IAM2 purpose irnd (held .tchallenge)
+    (m .long) (t .long) =
+    ap (λ (g : Iam2). aesEnc (key .enc) (g .iresponse)) taken
+    ∙ opened keys key C-IAM2 purpose irnd (held .tchallenge) knows small m t in
+    let proof = ap (iamProof C-IAM2 held) block ∙ iam-holds C-IAM2 purpose irnd (held .tchallenge) (m .long) (t .long)
+    held refl in
+    entered c _ _ purpose (sym (passes _ _ (eq-eqb _ _ long)
+    (passes _ _ (eq-eqb _ _ (ap (λ (g : Iam2). g .rfu) taken)) (passes _ _ proof ends))))
     (ap purposeIn block ∙ purpose-in C-IAM2 purpose irnd (held .tchallenge) (m .long) (t .long) fit)
 
 -- the last four bytes of ten
 last-four : (s : List ℕ) → Array 10 s → Array 4 (drop 6 s)
-last-four s a = record { long = omega (arith, length-drop 6 s, a .long); bytes = λ i. rw (getD-drop 6 s i 0) (a .bytes (6 + i)) }
+last-four s a = record {
+  long = omega (arith, length-drop 6 s, a .long);
+  bytes =
+      λ i. rw (getD-drop 6 s i 0) (a .bytes (6 + i));
+}
 
 mam2-let-in : (c : Call) (setup : Setup) (held : Session) (keys : Keys) (purpose : ℕ) (ichallenge : List ℕ)
     → Knows keys (keyWith (held .keyid) (setup .keys))
@@ -78,15 +88,23 @@ mam2-let-in c setup held keys purpose ichallenge knows t i own fit e =
     let small : C-MAM2 < 4096 = omega arith in
     let m = last-four ichallenge i in
     let n = sixteen keys key C-MAM2 purpose (drop 6 ichallenge) (held .tchallenge) knows small m t in
-    let f : Mam2 = record { rfu = 0; iresponse = sent keys key C-MAM2 purpose (drop 6 ichallenge) (held .tchallenge) knows small m t } in
+    let f : Mam2 = record {
+      rfu = 0;
+      iresponse =
+          sent keys key C-MAM2 purpose (drop 6 ichallenge) (held .tchallenge) knows small m t;
+    } in
     let taken : mam2Of (c .message) ≡ f = ap mam2Of e ∙ mam2-taken f n (omega arith) in
     let long : length (c .message) ≡ 17 = ap length e ∙ mam2-shape f n (omega arith) .0 in
-    let block : aesEnc (key .enc) (mam2Of (c .message) .iresponse) ≡ clear C-MAM2 purpose (drop 6 ichallenge) (held .tchallenge) (m .long) (t .long) =
-    ap (λ (g : Mam2). aesEnc (key .enc) (g .iresponse)) taken ∙ opened keys key C-MAM2 purpose (drop 6 ichallenge) (held .tchallenge) knows small m t in
+    let block : aesEnc (key .enc) (mam2Of (c .message) .iresponse) ≡ clear C-MAM2 purpose (drop 6 ichallenge)
+    (held .tchallenge) (m .long) (t .long) =
+    ap (λ (g : Mam2). aesEnc (key .enc) (g .iresponse)) taken
+    ∙ opened keys key C-MAM2 purpose (drop 6 ichallenge) (held .tchallenge) knows small m t in
     let proof =
     ap (mamProof held) block
-    ∙ ap₂ both (iam-holds C-MAM2 purpose (drop 6 ichallenge) (held .tchallenge) (m .long) (t .long) held refl) (middle-holds C-MAM2 purpose (drop 6 ichallenge) (held .tchallenge) (m .long) (t .long) held refl own) in
-    entered c _ _ purpose (sym (passes _ _ (eq-eqb _ _ long) (passes _ _ (eq-eqb _ _ (ap (λ (g : Mam2). g .rfu) taken)) (passes _ _ proof ends))))
+    ∙ ap₂ both (iam-holds C-MAM2 purpose (drop 6 ichallenge) (held .tchallenge) (m .long) (t .long) held refl)
+    (middle-holds C-MAM2 purpose (drop 6 ichallenge) (held .tchallenge) (m .long) (t .long) held refl own) in
+    entered c _ _ purpose (sym (passes _ _ (eq-eqb _ _ long)
+    (passes _ _ (eq-eqb _ _ (ap (λ (g : Mam2). g .rfu) taken)) (passes _ _ proof ends))))
     (ap purposeIn block ∙ purpose-in C-MAM2 purpose (drop 6 ichallenge) (held .tchallenge) (m .long) (t .long) fit)
 
 pub iam2-enters : Iam2Enters
@@ -95,8 +113,13 @@ iam2-enters c tag keys purpose irnd w knows t m fit e =
     let small : C-IAM2 < 4096 = omega arith in
     let key = keyWith (tag .session .keyid) (tag .setup .keys) in
     let n = sixteen keys key C-IAM2 purpose irnd (tag .session .tchallenge) knows small m t in
-    let shape = iam2-shape (record { rfu = 0; iresponse = sent keys key C-IAM2 purpose irnd (tag .session .tchallenge) knows small m t }) n (omega arith) in
-    in-turn c tag Iam2Kind w (let l : length (c .message) ≡ 17 = ap length e ∙ shape .0 in omega (arith, l)) (ap (λ (l : List ℕ). kindOf (byte l 0)) e ∙ shape .1)
+    let shape = iam2-shape (record {
+      rfu = 0;
+      iresponse =
+          sent keys key C-IAM2 purpose irnd (tag .session .tchallenge) knows small m t;
+    }) n (omega arith) in
+    in-turn c tag Iam2Kind w (let l : length (c .message) ≡ 17 = ap length e ∙ shape .0 in omega (arith, l))
+    (ap (λ (l : List ℕ). kindOf (byte l 0)) e ∙ shape .1)
     ∙ iam2-let-in c (tag .setup) (tag .session) keys purpose irnd knows t m fit e
 
 pub mam2-enters : Mam2Enters
@@ -106,6 +129,12 @@ mam2-enters c tag keys purpose ichallenge w knows t i own fit e =
     let key = keyWith (tag .session .keyid) (tag .setup .keys) in
     let m = last-four ichallenge i in
     let n = sixteen keys key C-MAM2 purpose (drop 6 ichallenge) (tag .session .tchallenge) knows small m t in
-    let shape = mam2-shape (record { rfu = 0; iresponse = sent keys key C-MAM2 purpose (drop 6 ichallenge) (tag .session .tchallenge) knows small m t }) n (omega arith) in
-    in-turn c tag Mam2Kind w (let l : length (c .message) ≡ 17 = ap length e ∙ shape .0 in omega (arith, l)) (ap (λ (l : List ℕ). kindOf (byte l 0)) e ∙ shape .1)
+    let shape = mam2-shape (record {
+      rfu = 0;
+      iresponse =
+          sent keys key C-MAM2 purpose (drop 6 ichallenge) (tag .session .tchallenge) knows small m t;
+    }) n (omega arith)
+    in
+    in-turn c tag Mam2Kind w (let l : length (c .message) ≡ 17 = ap length e ∙ shape .0 in omega (arith, l))
+    (ap (λ (l : List ℕ). kindOf (byte l 0)) e ∙ shape .1)
     ∙ mam2-let-in c (tag .setup) (tag .session) keys purpose ichallenge knows t i own fit e

@@ -19,13 +19,16 @@ module _ (c : Call) (tag : KeyedTag) (kind : Kind) (w : Waits c tag kind) where
   ordered : inOrder c (tag .setup) (tag .session) kind ≡ byKind c (tag .setup) (tag .session) kind
   unfolding inOrder
   ordered =
-      ap₂ {C = Answer} (λ (x y : Bool). pick x (pick y (byKind c (tag .setup) (tag .session) kind) (refused c OutOfTurn cleared)) (refused c NotSupported cleared)) (w .there) (w .turn)
+      ap₂ {C = Answer} (λ (x y : Bool). pick x (pick y (byKind c (tag .setup) (tag .session) kind)
+      (refused c OutOfTurn cleared)) (refused c NotSupported cleared)) (w .there) (w .turn)
 
-  of-kind : (m : List ℕ) → 1 ≤ length m → kindOf (byte m 0) ≡ kind → ofMessage c (tag .setup) (tag .session) m ≡ byKind c (tag .setup) (tag .session) kind
+  of-kind : (m : List ℕ) → 1 ≤ length m → kindOf (byte m 0) ≡ kind
+      → ofMessage c (tag .setup) (tag .session) m ≡ byKind c (tag .setup) (tag .session) kind
   unfolding ofMessage
   of-kind [] h e = absurd (let z : ⊥ = omega arith in z)
   of-kind (first ∷ rest) h e = ap (inOrder c (tag .setup) (tag .session)) e ∙ ordered
 
-  pub in-turn : 1 ≤ length (c .message) → kindOf (byte (c .message) 0) ≡ kind → answerOf c tag ≡ byKind c (tag .setup) (tag .session) kind
+  pub in-turn : 1 ≤ length (c .message) → kindOf (byte (c .message) 0) ≡ kind
+      → answerOf c tag ≡ byKind c (tag .setup) (tag .session) kind
   unfolding answerOf
   in-turn h e = ap (ofBench c (tag .setup) (tag .session)) (w .bench) ∙ of-kind (c .message) h e

@@ -1,4 +1,5 @@
--- No premise is hollow: the theorems of demand 1 and the five false tags, applied to something of which they hold. (Entry's are in Entered, demand 3's in SilenceExamples and SheetsExamples.)
+-- No premise is hollow: the theorems of demand 1 and the five false tags, applied to something of which they hold.
+-- (Entry's are in Entered, demand 3's in SilenceExamples and SheetsExamples.)
 use mathlib.Core.Path.{_≡_, refl, ap}
 use mathlib.Core.Logic.{_⊎_}
 use mathlib.Core.Bool.{true, false}
@@ -31,7 +32,15 @@ use Rattle.reader.specs.Numbers as reader
 use Rattle.reader_judge.specs.Findings as findings
 use Rattle.reader_judge.specs.Judged.{judgementOf}
 use Rattle.claims.specs.Answered.{FromTo, TagRefused, JudgeRefused}
-use Rattle.claims.specs.ShutOut.{Program, Each, RefusesEverything, OneFixedReply, LaterForShow, MadeUpLength, NeverStores}
+use Rattle.claims.specs.ShutOut.{
+  Program,
+  Each,
+  RefusesEverything,
+  OneFixedReply,
+  LaterForShow,
+  MadeUpLength,
+  NeverStores,
+}
 use Rattle.claims.proofs.Answered.{tag-answers, sheet-answers, record-answers, chain-answers, layer-answers}
 use Rattle.claims.proofs.AnsweredReader.{judge-answers, builder-answers}
 use Rattle.claims.proofs.Bench.{terms, table, bench, user, brings}
@@ -48,12 +57,15 @@ tag-refused = tag-answers table bench [] user (brings [] 0) unanswered OtherErro
 
 pub judge-refused : (keys : Keys) → JudgeRefused [] (findings.saidOf (findings.refused OwnMessage)) [] OwnMessage
 unfolding judgementOf
-judge-refused keys = judge-answers keys [] [] [] _ [] OwnMessage (record { says = refl; number = refl; holds = refl }) refl
+judge-refused keys = judge-answers keys [] [] [] _ [] OwnMessage (record { says = refl; number = refl; holds = refl })
+    refl
 
 pub builder-refused : (reader.numberOf OwnMessage ≡ 24) × (_≡_ {A = List ℕ} [] [])
-builder-refused = builder-answers true [] [] (NotMade OwnMessage) [] OwnMessage (record { says = refl; number = refl; holds = refl }) refl
+builder-refused = builder-answers true [] [] (NotMade OwnMessage) [] OwnMessage
+    (record { says = refl; number = refl; holds = refl }) refl
 
-pub sheet-refused : FromTo 30 35 (sheet.numberOf Cut) × (readOf keyLimit [] .terms ≡ emptyTerms) × (readOf keyLimit [] .keys ≡ 0)
+pub sheet-refused : FromTo 30 35 (sheet.numberOf Cut) × (readOf keyLimit [] .terms ≡ emptyTerms)
+    × (readOf keyLimit [] .keys ≡ 0)
 sheet-refused = sheet-answers [] Cut 0 (ap (λ (r : Reading). r .verdict) (example-12 keyLimit))
 
 pub record-refused : FromTo 30 35 (sheet.numberOf Cut) × (judgedOf keyLimit [] nothingKept .kept ≡ nothingKept)
@@ -69,7 +81,13 @@ layer-refused = layer-answers false 0 [] [] false [] (record { says = refl; hold
 -- ---- demand 2: one program that is each of the five false ones, since it refuses whatever comes
 
 abbrev refusing : Tag → List ℕ → List ℕ → Left
-refusing tag identity user = record { stepped = record { outcome = Refused OtherError; tag = tag }; room = []; identity = identity; user = user }
+refusing tag identity user = record {
+  stepped = record { outcome = Refused OtherError; tag = tag };
+  room =
+      [];
+  identity = identity;
+  user = user;
+}
 
 pub refuser : Program
 refuser table tag identity user [] = []

@@ -31,7 +31,8 @@ use Rattle.claims.proofs.ShutOut.{is-defined, answered}
 
 -- the words are stored
 stored : answerOf (call iam3) (waiting IamInit) .user ≡ words
-unfolding letIn setup terms profileLimit slotNamed blockAsked wordsAsked addressOf stepOf storedIn written within sameArea areaNumber
+unfolding letIn setup terms profileLimit slotNamed blockAsked wordsAsked addressOf stepOf storedIn written within
+    sameArea areaNumber
 stored = ap (λ (a : Answer). a .user) iam3-entered
 
 -- the run: an IAM1, and the IAM3
@@ -45,13 +46,16 @@ module _ (p : Program) (h : Standard p) where
 
   left : p table bench [] user ds
       ≡ answered 0 ∷ leftOf held (Step (brings iam3 0)) (answerOf (call iam3) (waiting IamInit)) ∷ []
-  unfolding leftAll run answerTo eventsOf setup terms keysIn recordsIn keyOf bench cleared atRest inTurn judgedTo offered hasKey benchChecks openingChecks answerOf ofMessage inOrder byKind iam1Answer ifFine replied refused kindOf iamKind lengthFits iam1Of keyLimit profileLimit
+  unfolding leftAll run answerTo eventsOf setup terms keysIn recordsIn keyOf bench cleared atRest inTurn judgedTo
+      offered hasKey benchChecks openingChecks answerOf ofMessage inOrder byKind iam1Answer ifFine replied refused
+      kindOf iamKind lengthFits iam1Of keyLimit profileLimit
   left = is-defined p h table bench [] user ds
 
 pub never-stores : ShutOut NeverStores
 unfolding Each
 never-stores p says h =
-    let e = subst (λ (xs : List Left). Each (λ x. (x .identity ≡ []) × (x .user ≡ user)) xs) (left p h) (says table bench [] user (ds p h)) in
+    let e = subst (λ (xs : List Left). Each (λ x. (x .identity ≡ []) × (x .user ≡ user)) xs) (left p h)
+    (says table bench [] user (ds p h)) in
     let same : words ≡ user = sym stored ∙ e .1 .0 .1 in
     let z : _≡_ {A = ℕ} 1 0 = ap (λ (l : List ℕ). getD l 0 0) same in
     omega arith

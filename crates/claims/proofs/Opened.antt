@@ -1,4 +1,5 @@
--- What the tag finds in an IAM3 that the reader built: each part in its place, the MAC right, and the data in the clear as they went in.
+-- What the tag finds in an IAM3 that the reader built: each part in its place, the MAC right, and the data in the clear
+-- as they went in.
 use mathlib.Core.Path.{_≡_, refl, sym, ap, ap₂, _∙_}
 use mathlib.Core.Bool.{Bool, true, false}
 use mathlib.Core.List.{List, [], _++_, append-assoc}
@@ -32,7 +33,8 @@ use Rattle.reader_build.specs.Builds.{sentData as readerData, iam3Response, iam
 use Rattle.reader_build.proofs.Sending.{data-sent-long}
 use Rattle.claims.specs.Entry.{Knows}
 
-module _ (keys : Keys) (custom : Custom) (protmode : ℕ) (a p : List ℕ) (sixteen : length a ≡ 16) (blocks : length p ≡ blocksLength (custom .blocksize) true (custom .blockcount)) where
+module _ (keys : Keys) (custom : Custom) (protmode : ℕ) (a p : List ℕ) (sixteen : length a ≡ 16)
+    (blocks : length p ≡ blocksLength (custom .blocksize) true (custom .blockcount)) where
   -- its fields, what it carries, and its MAC
   abbrev pub head : Iam3
   head = record { rfu = 0; custom = custom; protmode = protmode; iresponse = a }
@@ -66,7 +68,8 @@ module _ (keys : Keys) (custom : Custom) (protmode : ℕ) (a p : List ℕ) (sixt
     behind-head = ap (drop 20) (e ∙ as-head) ∙ drop-at (iam3Head head) (body ++ mac) 20 (iam3-head head sixteen)
 
     pub data-sent : sentData custom m ≡ body
-    data-sent = ap (take (blocksLength (custom .blocksize) true (custom .blockcount))) behind-head ∙ take-at body mac (blocksLength (custom .blocksize) true (custom .blockcount)) body-long
+    data-sent = ap (take (blocksLength (custom .blocksize) true (custom .blockcount))) behind-head
+        ∙ take-at body mac (blocksLength (custom .blocksize) true (custom .blockcount)) body-long
 
     mac-sent : sentMac custom m ≡ mac
     mac-sent =
@@ -76,17 +79,21 @@ module _ (keys : Keys) (custom : Custom) (protmode : ℕ) (a p : List ℕ) (sixt
     -- ---- the MAC
 
     module _ (key : Key) (knows : Knows keys key) where
-      mac-right : (t : Bool) (k s : List ℕ) → macs (length s) 12 ≡ true → implies t (both (macs (length s) 12) (same (cmac96 k s) (pick t (cmac96 k s) []))) ≡ true
+      mac-right : (t : Bool) (k s : List ℕ) → macs (length s) 12 ≡ true
+          → implies t (both (macs (length s) 12) (same (cmac96 k s) (pick t (cmac96 k s) []))) ≡ true
       mac-right true k s h = ap₂ both h (same-self (cmac96 k s))
       mac-right false k s h = refl
 
       pub mac-fits : sentMacFits key head m ≡ true
       unfolding sentMacFits macFits
       mac-fits =
-          let long : length (a ++ body) ≡ 16 + blocksLength (custom .blocksize) true (custom .blockcount) = omega (arith, length-append a body, body-long) in
+          let long : length (a ++ body) ≡ 16 + blocksLength (custom .blocksize) true (custom .blockcount) =
+          omega (arith, length-append a body, body-long) in
           let w = blocks-whole (custom .blocksize) true (custom .blockcount) in
-          let k : macs (length (a ++ body)) 12 ≡ true = room-for-mac (length (a ++ body)) 12 (omega arith) (omega arith) (omega arith) in
-          ap₂ (λ (x y : List ℕ). macFits (key .mackey) protmode x y) (ap₂ {C = List ℕ} (λ x y. x ++ y) block-sent data-sent) mac-sent
+          let k : macs (length (a ++ body)) 12 ≡ true =
+          room-for-mac (length (a ++ body)) 12 (omega arith) (omega arith) (omega arith) in
+          ap₂ (λ (x y : List ℕ). macFits (key .mackey) protmode x y)
+          (ap₂ {C = List ℕ} (λ x y. x ++ y) block-sent data-sent) mac-sent
           ∙ ap (λ (x : List ℕ). macFits x protmode (a ++ body) mac) (sym (knows .mackey))
           ∙ mac-right (hasMac protmode) (keys .mackey) (a ++ body) k
 
@@ -99,6 +106,7 @@ module _ (keys : Keys) (custom : Custom) (protmode : ℕ) (a p : List ℕ) (sixt
           ∙ ap (λ (k : List ℕ). pick (encrypts protmode) (cbcDecAes a k body) body) (sym (knows .enc))
           ∙ undone (encrypts protmode)
         where
-          undone : (t : Bool) → pick t (cbcDecAes a (keys .enc) (pick t (cbcEncAesInv a (keys .enc) p) p)) (pick t (cbcEncAesInv a (keys .enc) p) p) ≡ p
+          undone : (t : Bool) → pick t (cbcDecAes a (keys .enc) (pick t (cbcEncAesInv a (keys .enc) p) p))
+              (pick t (cbcEncAesInv a (keys .enc) p) p) ≡ p
           undone true = dec-undoes-enc-inv a (keys .enc) p ba (rw (knows .enc) (knows .array .bytes)) bp whole
           undone false = refl

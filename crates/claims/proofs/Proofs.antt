@@ -53,21 +53,25 @@ module _ (k purpose : ℕ) (middle tchallenge : List ℕ) (m4 : length middle �
     middle-holds q = ap₂ same middle-in q ∙ same-self middle
 
 -- the block that the reader sends, and what the tag finds in it
-module _ (keys : Keys) (key : Key) (k purpose : ℕ) (middle tchallenge : List ℕ) (knows : Knows keys key) (h : k < 4096) (m : Array 4 middle) (t : Array 10 tchallenge) where
+module _ (keys : Keys) (key : Key) (k purpose : ℕ) (middle tchallenge : List ℕ) (knows : Knows keys key) (h : k < 4096)
+    (m : Array 4 middle) (t : Array 10 tchallenge) where
   abbrev pub sent : List ℕ
   sent = response (keys .enc) (withPurpose k purpose) middle tchallenge
 
   pub sixteen : length sent ≡ 16
   sixteen =
       ap (λ (e : List ℕ). length (response e (withPurpose k purpose) middle tchallenge)) (knows .enc)
-      ∙ response-block (key .enc) (withPurpose k purpose) middle tchallenge (knows .array .bytes) (constant-bytes k purpose h) (m .bytes) (t .bytes) (constant-two k purpose) (m .long) (t .long) .sixteen
+      ∙ response-block (key .enc) (withPurpose k purpose) middle tchallenge (knows .array .bytes)
+      (constant-bytes k purpose h) (m .bytes) (t .bytes) (constant-two k purpose) (m .long) (t .long) .sixteen
 
   pub opened : aesEnc (key .enc) sent ≡ clear k purpose middle tchallenge (m .long) (t .long)
   opened =
       ap (λ (e : List ℕ). aesEnc (key .enc) (response e (withPurpose k purpose) middle tchallenge)) (knows .enc)
-      ∙ response-opened (key .enc) (withPurpose k purpose) middle tchallenge (knows .array .bytes) (constant-bytes k purpose h) (m .bytes) (t .bytes) (constant-two k purpose) (m .long) (t .long)
+      ∙ response-opened (key .enc) (withPurpose k purpose) middle tchallenge (knows .array .bytes)
+      (constant-bytes k purpose h) (m .bytes) (t .bytes) (constant-two k purpose) (m .long) (t .long)
 
   pub sent-bytes : Bytes sent
   sent-bytes =
       rw (knows .enc)
-      (response-block (key .enc) (withPurpose k purpose) middle tchallenge (knows .array .bytes) (constant-bytes k purpose h) (m .bytes) (t .bytes) (constant-two k purpose) (m .long) (t .long) .bytes)
+      (response-block (key .enc) (withPurpose k purpose) middle tchallenge (knows .array .bytes)
+      (constant-bytes k purpose h) (m .bytes) (t .bytes) (constant-two k purpose) (m .long) (t .long) .bytes)

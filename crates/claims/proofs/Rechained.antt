@@ -1,4 +1,5 @@
--- The ENC form of chaining undoes the DEC form over the other way of the cipher, so that a chain that was opened can be made again.
+-- The ENC form of chaining undoes the DEC form over the other way of the cipher, so that a chain that was opened can be
+-- made again.
 use mathlib.Core.Path.{_≡_, refl, ap, ap₂, _∙_}
 use mathlib.Core.List.{List, [], _∷_}
 use Prim.Native.Nat.{ℕ, _%_}
@@ -30,13 +31,18 @@ module _ (F G : List ℕ → List ℕ) (g : Keeps G) (undoes : (s : List ℕ) �
   blocks-again [] iv h = refl
   blocks-again (b ∷ bs) iv (hb, h) =
       let e = again b iv hb in
-      ap₂ {C = List (List ℕ)} (λ y ys. y ∷ ys) e (ap (λ (c : List ℕ). cbcEnc F c (cbcDec G b bs)) e ∙ blocks-again bs b h)
+      ap₂ {C = List (List ℕ)} (λ y ys. y ∷ ys) e (ap (λ (c : List ℕ). cbcEnc F c (cbcDec G b bs)) e
+      ∙ blocks-again bs b h)
 
 -- CBC_ENC_AES makes again what CBC_DEC_AES_INV opened
-pub enc-undoes-dec-inv : (iv key s : List ℕ) → Bytes iv → Bytes key → Bytes s → length s % 16 ≡ 0 → cbcEncAes iv key (cbcDecAesInv iv key s) ≡ s
+pub enc-undoes-dec-inv : (iv key s : List ℕ) → Bytes iv → Bytes key → Bytes s → length s % 16 ≡ 0
+    → cbcEncAes iv key (cbcDecAesInv iv key s) ≡ s
 unfolding cbcEncAes cbcDecAesInv
 enc-undoes-dec-inv iv key s v k h e =
-    let open-all = opened-blocks (aesEnc key) (aesDec key) (λ b hb. dec-block key b k hb) (λ b hb. enc-dec key b k hb) in
-    ap (λ (bs : List (List ℕ)). joined (cbcEnc (aesEnc key) iv bs)) (whole-joined (cbcDec (aesDec key) iv (wholeBlocks s)) (open-all (wholeBlocks s) iv v (whole-are s h)))
-    ∙ ap joined (blocks-again (aesEnc key) (aesDec key) (λ b hb. dec-block key b k hb) (λ b hb. enc-dec key b k hb) (wholeBlocks s) iv (whole-are s h))
+    let open-all = opened-blocks (aesEnc key) (aesDec key) (λ b hb. dec-block key b k hb) (λ b hb. enc-dec key b k hb)
+    in
+    ap (λ (bs : List (List ℕ)). joined (cbcEnc (aesEnc key) iv bs))
+    (whole-joined (cbcDec (aesDec key) iv (wholeBlocks s)) (open-all (wholeBlocks s) iv v (whole-are s h)))
+    ∙ ap joined (blocks-again (aesEnc key) (aesDec key) (λ b hb. dec-block key b k hb) (λ b hb. enc-dec key b k hb)
+    (wholeBlocks s) iv (whole-are s h))
     ∙ joined-whole s e

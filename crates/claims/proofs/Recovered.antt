@@ -1,4 +1,5 @@
--- The premises of recovery and of Fixed hold: on the bench of examples an IAM1 is taken, and the reader recovers the challenge. No cipher is computed.
+-- The premises of recovery and of Fixed hold: on the bench of examples an IAM1 is taken, and the reader recovers the
+-- challenge. No cipher is computed.
 use mathlib.Core.Path.{_≡_, sym, ap, refl, subst}
 use mathlib.Core.Bool.{Bool, true, false}
 use mathlib.Core.List.{List, [], _∷_}
@@ -87,14 +88,24 @@ tag = keyed bench table
 
 fit : Fit call tag keys
 unfolding bench
-fit = record { setup = subst (Within keyLimit) (sym its-setup) within; message = asked; draws = zeros 10; identity = λ i. lit< tt; user = zeros 8; enc = zeros 16 }
+fit = record {
+  setup = subst (Within keyLimit) (sym its-setup) within;
+  message = asked;
+  draws = zeros 10;
+  identity =
+      λ i. lit< tt;
+  user = zeros 8;
+  enc = zeros 16;
+}
 
 shares : Shares keys (keyUsed tag iam1)
 unfolding bench keysIn recordsIn keyOf keyidUsed kindOf iamKind iam1Of keyWith keyLimit
 shares = record { enc = refl; mac = refl; mackey = refl }
 
 called : Called table bench [] user (brings iam1 0) (answered 0)
-unfolding terms keysIn recordsIn keyOf bench cleared atRest inTurn judgedTo offered hasKey benchChecks openingChecks answerOf ofMessage inOrder byKind iam1Answer ifFine replied refused kindOf iamKind lengthFits iam1Of keyLimit profileLimit
+unfolding terms keysIn recordsIn keyOf bench cleared atRest inTurn judgedTo offered hasKey benchChecks openingChecks
+    answerOf ofMessage inOrder byKind iam1Answer ifFine replied refused kindOf iamKind lengthFits iam1Of keyLimit
+    profileLimit
 called = record { outcome = refl; number = refl; next = refl; reply = refl; identity = refl; user = refl }
 
 -- what the step left, as far as it says, goes to the judge, who finds what is due
@@ -102,12 +113,15 @@ pub challenge-recovered : (room : List ℕ) → 144 ≡ length room
     → (let found = judgementOf keys iam1 (take 10 (over (drawn 0) (replicate 172 0))) (length room) in
     Judges (due call tag (answerOf call tag) (kindOf (byte iam1 0))) room (saidOf found) (over (found .bytes) room))
 challenge-recovered room e =
-    recovery-code table bench [] user (brings iam1 0) (answered 0) keys room _ _ called fit shares (omega arith) tt (record { says = refl; number = refl; holds = refl })
+    recovery-code table bench [] user (brings iam1 0) (answered 0) keys room _ _ called fit shares (omega arith) tt
+    (record { says = refl; number = refl; holds = refl })
 
 -- an accepted reply is made again
 taken : judgementOf keys iam1 (drawn 0) 144 .verdict ≡ Accepted
 unfolding judgementOf ofKind judge.byKind iam1Finding judgedTo ownFits fieldsFit lengthFits kindOf iamKind iam1Of
 taken = refl
 
-pub reply-fixed : drawn 0 ≡ remade key iam1 (trndIn keys (drawn 0)) (judgementOf keys iam1 (drawn 0) 144) (kindOf (byte iam1 0))
-reply-fixed = fixed keys key iam1 (drawn 0) 144 (record { enc = refl; mac = refl; mackey = refl }) (zeros 16) (zeros 10) taken
+pub reply-fixed : drawn 0 ≡ remade key iam1 (trndIn keys (drawn 0)) (judgementOf keys iam1 (drawn 0) 144)
+    (kindOf (byte iam1 0))
+reply-fixed = fixed keys key iam1 (drawn 0) 144 (record { enc = refl; mac = refl; mackey = refl }) (zeros 16) (zeros 10)
+    taken

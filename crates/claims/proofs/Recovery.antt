@@ -1,4 +1,5 @@
--- Recovery is proved: kind by kind, the checks that the tag made pass the reader's own, and what the tag closed the reader opens.
+-- Recovery is proved: kind by kind, the checks that the tag made pass the reader's own, and what the tag closed the
+-- reader opens.
 use mathlib.Core.Path.{_≡_, refl, sym, ap, ap₂, _∙_, subst}
 use mathlib.Core.Bool.{Bool, true, false}
 use mathlib.Core.List.{List, [], _∷_}
@@ -31,7 +32,26 @@ use Rattle.offer.specs.Records.{offered, modeOffered, modeSupported, slotNamed,
 use Rattle.offer.specs.Judged.{benchChecks, openingChecks}
 use Rattle.tam.specs.Judged.{tam2Checks}
 use Rattle.entry.specs.Judged.{iam2Checks, iam3Checks, mam2Checks}
-use Rattle.tag.specs.Answers.{Answer, Call, refused, replied, letIn, ifFine, tam1Answer, tam2Answer, iam1Answer, iam2Answer, iam3Answer, mam1Answer, mam2Answer, byKind, inOrder, ofMessage, ofBench, answerOf}
+use Rattle.tag.specs.Answers.{
+  Answer,
+  Call,
+  refused,
+  replied,
+  letIn,
+  ifFine,
+  tam1Answer,
+  tam2Answer,
+  iam1Answer,
+  iam2Answer,
+  iam3Answer,
+  mam1Answer,
+  mam2Answer,
+  byKind,
+  inOrder,
+  ofMessage,
+  ofBench,
+  answerOf,
+}
 use Rattle.offer.proofs.Lines.{first-holds, others-hold}
 use Rattle.offer.proofs.Passed.{mode-below, bench-draws}
 use Rattle.tam.proofs.Passed.{tam2-mode, tam2-inside}
@@ -49,7 +69,8 @@ use Rattle.claims.proofs.Data.{tam2-found}
 use Rattle.claims.proofs.Windows.{words-all}
 
 -- a ProtMode that the tag supports with a record is one that the reader can judge with its keys
-mode-own : (setup : Setup) (keys : Keys) (key : Key) (p : ℕ) → Shares keys key → modeSupported (setup .features) key p ≡ true → modeFits keys p ≡ true
+mode-own : (setup : Setup) (keys : Keys) (key : Key) (p : ℕ) → Shares keys key
+    → modeSupported (setup .features) key p ≡ true → modeFits keys p ≡ true
 unfolding modeFits modeSupported
 mode-own setup keys key p s h =
     ap₂ both (le-leb p 3 (omega (arith, mode-below (setup .features) key p h)))
@@ -80,20 +101,31 @@ module _ (c : Call) (tag : KeyedTag) (keys : Keys) (room : ℕ) (fit : Fit c tag
   picked k true x y h g = h
   picked k false x y h g = g
 
-  module _ (bench : judged (benchChecks (tag .setup .sizes) (length (c .draws)) (c .room) (length (c .identity)) (length (c .user))) ≡ Fine) (some : length (c .message) ≡ 0 → ⊥) where
+  module _ (bench : judged (benchChecks (tag .setup .sizes) (length (c .draws)) (c .room) (length (c .identity))
+      (length (c .user))) ≡ Fine) (some : length (c .message) ≡ 0 → ⊥) where
     ten : Ten (c .draws)
-    ten = record { ten = bench-draws (tag .setup .sizes) (length (c .draws)) (c .room) (length (c .identity)) (length (c .user)) bench; bytes = fit .draws }
+    ten = record {
+      ten = bench-draws (tag .setup .sizes) (length (c .draws)) (c .room) (length (c .identity))
+          (length (c .user)) bench;
+      bytes = fit .draws;
+    }
 
-    module _ (k : Kind) (e : k ≡ kindOf (byte (c .message) 0)) (s : Shares keys (keyWith (keyidUsed tag (c .message) k) (tag .setup .keys))) where
-      judges : (reply : List ℕ) (found : Finding) → lengthFits k (c .message) ≡ true → fieldsFit keys k (c .message) ≡ true → findingOf keys (c .message) reply k ≡ found
+    module _ (k : Kind) (e : k ≡ kindOf (byte (c .message) 0))
+        (s : Shares keys (keyWith (keyidUsed tag (c .message) k) (tag .setup .keys))) where
+      judges : (reply : List ℕ) (found : Finding) → lengthFits k (c .message) ≡ true
+          → fieldsFit keys k (c .message) ≡ true → findingOf keys (c .message) reply k ≡ found
           → judgementOf keys (c .message) reply room ≡ found
       unfolding ownFits
-      judges reply found l h q = own-told keys (c .message) reply room k some e (ap₂ both (le-leb dataRoom room enough) (ap₂ both l h)) ∙ q
+      judges reply found l h q = own-told keys (c .message) reply room k some e
+          (ap₂ both (le-leb dataRoom room enough) (ap₂ both l h)) ∙ q
 
-      opens-with : (rfu keyid : ℕ) (reply : List ℕ) (found : Finding) → fieldsFit keys k (c .message) ≡ eqb rfu 0 → findingOf keys (c .message) reply k ≡ found
-          → judged (openingChecks k rfu keyid (tag .setup .keys) (c .message)) ≡ Fine → judgementOf keys (c .message) reply room ≡ found
+      opens-with : (rfu keyid : ℕ) (reply : List ℕ) (found : Finding) → fieldsFit keys k (c .message) ≡ eqb rfu 0
+          → findingOf keys (c .message) reply k ≡ found
+          → judged (openingChecks k rfu keyid (tag .setup .keys) (c .message)) ≡ Fine
+          → judgementOf keys (c .message) reply room ≡ found
       unfolding openingChecks
-      opens-with rfu keyid reply found r q h = judges reply found (first-holds _ _ h) (r ∙ first-holds _ _ (others-hold _ _ h)) q
+      opens-with rfu keyid reply found r q h = judges reply found (first-holds _ _ h)
+          (r ∙ first-holds _ _ (others-hold _ _ h)) q
 
     -- ---- kind by kind
 
@@ -106,13 +138,15 @@ module _ (c : Call) (tag : KeyedTag) (keys : Keys) (room : ℕ) (fit : Fit c tag
         let f = tam1Of (c .message) in
         fine Tam1 _ _
         (λ h t. opens-with Tam1 e s (f .rfu) (f .keyid) _ nothingMore refl
-        (tam1-found keys (keyWith (f .keyid) (tag .setup .keys)) (s .enc) (fit .enc) (c .draws) ten f (tam1-challenge (c .message) (fit .message))) h)
+        (tam1-found keys (keyWith (f .keyid) (tag .setup .keys)) (s .enc) (fit .enc) (c .draws) ten f
+        (tam1-challenge (c .message) (fit .message))) h)
 
     iam1-claim : Iam1 ≡ kindOf (byte (c .message) 0) → Keyed Iam1 → Claim Iam1 (iam1Answer c (tag .setup .keys))
     unfolding iam1Answer replied due findingOf fieldsFit keyidUsed
     iam1-claim e s =
         let f = iam1Of (c .message) in
-        fine Iam1 _ _ (λ h t. opens-with Iam1 e s (f .rfu) (f .keyid) (c .draws) (issues (c .draws)) refl (iam1-found (c .draws) (ten .ten)) h)
+        fine Iam1 _ _ (λ h t. opens-with Iam1 e s (f .rfu) (f .keyid) (c .draws) (issues (c .draws)) refl
+        (iam1-found (c .draws) (ten .ten)) h)
 
     mam1-claim : Mam1 ≡ kindOf (byte (c .message) 0) → Keyed Mam1 → Claim Mam1 (mam1Answer c (tag .setup .keys))
     unfolding mam1Answer replied due findingOf fieldsFit keyidUsed
@@ -120,23 +154,30 @@ module _ (c : Call) (tag : KeyedTag) (keys : Keys) (room : ℕ) (fit : Fit c tag
         let f = mam1Of (c .message) in
         fine Mam1 _ _
         (λ h t. opens-with Mam1 e s (f .rfu) (f .keyid) _ (issues (c .draws)) refl
-        (mam1-found keys (keyWith (f .keyid) (tag .setup .keys)) (s .enc) (fit .enc) (c .draws) ten f (mam1-challenge (c .message) (fit .message))) h)
+        (mam1-found keys (keyWith (f .keyid) (tag .setup .keys)) (s .enc) (fit .enc) (c .draws) ten f
+        (mam1-challenge (c .message) (fit .message))) h)
 
-    iam2-claim : Iam2 ≡ kindOf (byte (c .message) 0) → Keyed Iam2 → Claim Iam2 (iam2Answer c (tag .setup .keys) (tag .session))
+    iam2-claim : Iam2 ≡ kindOf (byte (c .message) 0) → Keyed Iam2
+        → Claim Iam2 (iam2Answer c (tag .setup .keys) (tag .session))
     unfolding iam2Answer iam2Checks letIn due findingOf fieldsFit
-    iam2-claim e s = fine Iam2 _ _ (λ h t. judges Iam2 e s [] nothingMore (first-holds _ _ h) (first-holds _ _ (others-hold _ _ h)) empty-found)
+    iam2-claim e s = fine Iam2 _ _ (λ h t. judges Iam2 e s [] nothingMore (first-holds _ _ h)
+        (first-holds _ _ (others-hold _ _ h)) empty-found)
 
-    mam2-claim : Mam2 ≡ kindOf (byte (c .message) 0) → Keyed Mam2 → Claim Mam2 (mam2Answer c (tag .setup .keys) (tag .session))
+    mam2-claim : Mam2 ≡ kindOf (byte (c .message) 0) → Keyed Mam2
+        → Claim Mam2 (mam2Answer c (tag .setup .keys) (tag .session))
     unfolding mam2Answer mam2Checks letIn due findingOf fieldsFit
-    mam2-claim e s = fine Mam2 _ _ (λ h t. judges Mam2 e s [] nothingMore (first-holds _ _ h) (first-holds _ _ (others-hold _ _ h)) empty-found)
+    mam2-claim e s = fine Mam2 _ _ (λ h t. judges Mam2 e s [] nothingMore (first-holds _ _ h)
+        (first-holds _ _ (others-hold _ _ h)) empty-found)
 
-    iam3-claim : Iam3 ≡ kindOf (byte (c .message) 0) → Keyed Iam3 → Claim Iam3 (iam3Answer c (tag .setup) (tag .session))
+    iam3-claim : Iam3 ≡ kindOf (byte (c .message) 0) → Keyed Iam3
+        → Claim Iam3 (iam3Answer c (tag .setup) (tag .session))
     unfolding iam3Answer iam3Checks letIn due findingOf fieldsFit keyidUsed
     iam3-claim e s =
         fine Iam3 _ _
         (λ h t. judges Iam3 e s [] nothingMore (first-holds _ _ h)
         (ap₂ both (first-holds _ _ (others-hold _ _ (others-hold _ _ h)))
-        (mode-own (tag .setup) keys (keyWith (tag .session .keyid) (tag .setup .keys)) (iam3Of (c .message) .protmode) s (first-holds _ _ (others-hold _ _ h)))) empty-found)
+        (mode-own (tag .setup) keys (keyWith (tag .session .keyid) (tag .setup .keys)) (iam3Of (c .message) .protmode) s
+        (first-holds _ _ (others-hold _ _ h)))) empty-found)
 
     module _ (h : judged (tam2Checks (tag .setup) (c .message)) ≡ Fine) (s : Keyed Tam2) where
       tam2-lengths : lengthFits Tam2 (c .message) ≡ true
@@ -148,11 +189,13 @@ module _ (c : Call) (tag : KeyedTag) (keys : Keys) (room : ℕ) (fit : Fit c tag
       tam2-fields =
           let f = tam2Of (c .message) in
           ap₂ both (first-holds _ _ (others-hold _ _ (others-hold _ _ (others-hold _ _ h))))
-          (mode-own (tag .setup) keys (keyWith (f .keyid) (tag .setup .keys)) (f .protmode) s (tam2-mode (tag .setup) (c .message) h))
+          (mode-own (tag .setup) keys (keyWith (f .keyid) (tag .setup .keys)) (f .protmode) s
+          (tam2-mode (tag .setup) (c .message) h))
 
       tam2-slot : slotNamed (tag .setup .profiles) (tam2Of (c .message) .custom .profile) .present ≡ true
       unfolding tam2Checks
-      tam2-slot = first-holds _ _ (others-hold _ _ (others-hold _ _ (others-hold _ _ (others-hold _ _ (others-hold _ _ h)))))
+      tam2-slot = first-holds _ _ (others-hold _ _ (others-hold _ _
+          (others-hold _ _ (others-hold _ _ (others-hold _ _ h)))))
 
     tam2-claim : Tam2 ≡ kindOf (byte (c .message) 0) → Keyed Tam2 → Claim Tam2 (tam2Answer c (tag .setup))
     unfolding tam2Answer replied due findingOf keyidUsed
@@ -162,8 +205,10 @@ module _ (c : Call) (tag : KeyedTag) (keys : Keys) (room : ℕ) (fit : Fit c tag
         let words = windowOf (c .identity) (c .user) block in
         fine Tam2 _ _
         (λ h t. judges Tam2 e s _ _ (tam2-lengths h s) (tam2-fields h s)
-        (tam2-found keys (keyWith (f .keyid) (tag .setup .keys)) s (fit .enc) (c .draws) ten f (tam2-challenge (c .message) (fit .message)) (tam2-custom-fits (c .message) (fit .message)) words
-        (words-all (tag .setup) (c .identity) (c .user) (length (c .draws)) (c .room) bench (f .custom) (fit .setup) (tam2-slot h s) (tam2-inside (tag .setup) (c .message) h))
+        (tam2-found keys (keyWith (f .keyid) (tag .setup .keys)) s (fit .enc) (c .draws) ten f
+        (tam2-challenge (c .message) (fit .message)) (tam2-custom-fits (c .message) (fit .message)) words
+        (words-all (tag .setup) (c .identity) (c .user) (length (c .draws)) (c .room) bench (f .custom) (fit .setup)
+        (tam2-slot h s) (tam2-inside (tag .setup) (c .message) h))
         (words-bytes block (c .identity) (c .user) (fit .identity) (fit .user))))
 
     -- ---- every kind, in its order
@@ -179,26 +224,31 @@ module _ (c : Call) (tag : KeyedTag) (keys : Keys) (room : ℕ) (fit : Fit c tag
     kinds Mam2 e s = mam2-claim e s
     kinds Unsupported e s = λ t. absurd t
 
-    in-order : (k : Kind) → k ≡ kindOf (byte (c .message) 0) → Keyed k → Claim k (inOrder c (tag .setup) (tag .session) k)
+    in-order : (k : Kind) → k ≡ kindOf (byte (c .message) 0) → Keyed k
+        → Claim k (inOrder c (tag .setup) (tag .session) k)
     unfolding inOrder refused
     in-order k e s =
         picked k (offered (tag .setup .features) k) _ (refused c NotSupported cleared)
-        (picked k (inTurn (tag .session .state) k) (byKind c (tag .setup) (tag .session) k) (refused c OutOfTurn cleared) (kinds k e s) (λ t. absurd t)) (λ t. absurd t)
+        (picked k (inTurn (tag .session .state) k) (byKind c (tag .setup) (tag .session) k)
+        (refused c OutOfTurn cleared) (kinds k e s) (λ t. absurd t)) (λ t. absurd t)
 
   abbrev kind : Kind
   kind = kindOf (byte (c .message) 0)
 
   module _ (s : Shares keys (keyWith (keyidUsed tag (c .message) kind) (tag .setup .keys))) where
-    of-message : judged (benchChecks (tag .setup .sizes) (length (c .draws)) (c .room) (length (c .identity)) (length (c .user))) ≡ Fine → (m : List ℕ) → c .message ≡ m
+    of-message : judged (benchChecks (tag .setup .sizes) (length (c .draws)) (c .room) (length (c .identity))
+        (length (c .user))) ≡ Fine → (m : List ℕ) → c .message ≡ m
         → Claim kind (ofMessage c (tag .setup) (tag .session) m)
     unfolding ofMessage refused
     of-message bench [] e = λ t. absurd t
     of-message bench (x ∷ l) e =
         let first : kind ≡ kindOf x = ap (λ (m : List ℕ). kindOf (byte m 0)) e in
         let some : length (c .message) ≡ 0 → ⊥ = λ z. (let n = sym (ap length e) ∙ z in omega arith) in
-        subst (λ (k : Kind). Claim kind (inOrder c (tag .setup) (tag .session) k)) first (in-order bench some kind refl s)
+        subst (λ (k : Kind). Claim kind (inOrder c (tag .setup) (tag .session) k)) first
+        (in-order bench some kind refl s)
 
-    of-bench : (v : Verdict) → judged (benchChecks (tag .setup .sizes) (length (c .draws)) (c .room) (length (c .identity)) (length (c .user))) ≡ v
+    of-bench : (v : Verdict) → judged (benchChecks (tag .setup .sizes) (length (c .draws)) (c .room)
+        (length (c .identity)) (length (c .user))) ≡ v
         → Claim kind (ofBench c (tag .setup) (tag .session) v)
     unfolding refused
     of-bench Fine e = of-message e (c .message) refl

@@ -19,9 +19,11 @@ recovery-code table tag identity user b x keys room r after called fit share eno
     let c = lent (b .message) (b .draws) (b .room) identity user in
     let t = keyed tag table in
     let a = answerOf c t in
-    let long : replyLength (x .stepped .outcome) ≡ length (a .reply) = ap replyLength (called .outcome) ∙ length-told c t in
+    let long : replyLength (x .stepped .outcome) ≡ length (a .reply) = ap replyLength (called .outcome)
+    ∙ length-told c t in
     let reply : take (replyLength (x .stepped .outcome)) (x .room) ≡ a .reply =
-    (λ j. take (long j) (called .reply j)) ∙ take-at (a .reply) (drop (length (a .reply)) (b .room)) (length (a .reply)) refl in
+    (λ j. take (long j) (called .reply j)) ∙ take-at (a .reply) (drop (length (a .reply)) (b .room)) (length (a .reply))
+    refl in
     let found = ap (λ (l : List ℕ). judgementOf keys (b .message) l (length room)) reply
     ∙ recovery c t keys (length room) fit share enough (subst Taken (called .outcome) taken) in
     subst (λ (f : Finding). Judges f room r after) found judges

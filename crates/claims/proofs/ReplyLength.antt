@@ -27,7 +27,26 @@ use Rattle.offer.specs.Checks.{judged}
 use Rattle.keytable.specs.Named.{keyWith}
 use Rattle.offer.specs.Records.{offered, blockAsked}
 use Rattle.offer.specs.Judged.{benchChecks}
-use Rattle.tag.specs.Answers.{Answer, Call, refused, replied, letIn, tam1Answer, tam2Answer, iam1Answer, iam2Answer, iam3Answer, mam1Answer, mam2Answer, byKind, inOrder, ofMessage, ofBench, ifFine, answerOf}
+use Rattle.tag.specs.Answers.{
+  Answer,
+  Call,
+  refused,
+  replied,
+  letIn,
+  tam1Answer,
+  tam2Answer,
+  iam1Answer,
+  iam2Answer,
+  iam3Answer,
+  mam1Answer,
+  mam2Answer,
+  byKind,
+  inOrder,
+  ofMessage,
+  ofBench,
+  ifFine,
+  answerOf,
+}
 use Rattle.tag.specs.Reactions.{lent}
 use Rattle.tag.proofs.Cases.{fine-case}
 use Rattle.offer.proofs.Lines.{first-holds}
@@ -63,33 +82,42 @@ module _ (c : Call) where
   module _ (setup : Setup) (held : Session) (ten : length (c .draws) ≡ 10) where
     kind-long : (kind : Kind) → Long (layoutLength kind (c .message)) (byKind c setup held kind)
     unfolding layoutLength byKind tam1Answer tam2Answer iam1Answer iam2Answer iam3Answer mam1Answer mam2Answer
-    kind-long Tam1 = fine-long _ _ _ (reply-long _ _ _ (tam1-long (keyWith (tam1Of (c .message) .keyid) (setup .keys)) (tam1Of (c .message)) (c .draws)))
+    kind-long Tam1 = fine-long _ _ _ (reply-long _ _ _
+        (tam1-long (keyWith (tam1Of (c .message) .keyid) (setup .keys)) (tam1Of (c .message)) (c .draws)))
     kind-long Tam2 =
         let f = tam2Of (c .message) in
-        fine-long _ _ _ (reply-long _ _ _ (tam2-long (keyWith (f .keyid) (setup .keys)) f (windowOf (c .identity) (c .user) (blockAsked (setup .profiles) (f .custom))) (c .draws) (words-most (setup .profiles) (f .custom) (c .identity) (c .user))))
+        fine-long _ _ _ (reply-long _ _ _ (tam2-long (keyWith (f .keyid) (setup .keys)) f
+        (windowOf (c .identity) (c .user) (blockAsked (setup .profiles) (f .custom))) (c .draws)
+        (words-most (setup .profiles) (f .custom) (c .identity) (c .user))))
     kind-long Iam1 = fine-long _ _ _ (reply-long _ _ _ ten)
     kind-long Iam2 = fine-long _ _ _ (entry-long _ _ _ _)
     kind-long Iam3 = fine-long _ _ _ (entry-long _ _ _ _)
-    kind-long Mam1 = fine-long _ _ _ (reply-long _ _ _ (mam1-long (keyWith (mam1Of (c .message) .keyid) (setup .keys)) (mam1Of (c .message)) (c .draws) ten))
+    kind-long Mam1 = fine-long _ _ _ (reply-long _ _ _
+        (mam1-long (keyWith (mam1Of (c .message) .keyid) (setup .keys)) (mam1Of (c .message)) (c .draws) ten))
     kind-long Mam2 = fine-long _ _ _ (entry-long _ _ _ _)
     kind-long Unsupported = refusal-long _ cleared NotSupported
 
-    message-long : (m : List ℕ) → c .message ≡ m → Long (layoutLength (kindOf (byte m 0)) (c .message)) (ofMessage c setup held m)
+    message-long : (m : List ℕ) → c .message ≡ m
+        → Long (layoutLength (kindOf (byte m 0)) (c .message)) (ofMessage c setup held m)
     unfolding ofMessage inOrder
     message-long [] e = refusal-long _ cleared OtherError
     message-long (first ∷ rest) e =
         let k = layoutLength (kindOf first) (c .message) in
         picked-long k (offered (setup .features) (kindOf first)) _ (refused c NotSupported cleared)
-        (picked-long k (inTurn (held .state) (kindOf first)) (byKind c setup held (kindOf first)) (refused c OutOfTurn cleared) (kind-long (kindOf first)) (refusal-long k cleared OutOfTurn))
+        (picked-long k (inTurn (held .state) (kindOf first)) (byKind c setup held (kindOf first))
+        (refused c OutOfTurn cleared) (kind-long (kindOf first)) (refusal-long k cleared OutOfTurn))
         (refusal-long k cleared NotSupported)
 
   module _ (tag : KeyedTag) where
     abbrev verdict : Verdict
-    verdict = judged (benchChecks (tag .setup .sizes) (length (c .draws)) (c .room) (length (c .identity)) (length (c .user)))
+    verdict = judged (benchChecks (tag .setup .sizes) (length (c .draws)) (c .room) (length (c .identity))
+        (length (c .user)))
 
-    bench-long : (v : Verdict) → verdict ≡ v → Long (layoutLength (kindOf (byte (c .message) 0)) (c .message)) (ofBench c (tag .setup) (tag .session) v)
+    bench-long : (v : Verdict) → verdict ≡ v → Long (layoutLength (kindOf (byte (c .message) 0)) (c .message))
+        (ofBench c (tag .setup) (tag .session) v)
     unfolding benchChecks
-    bench-long Fine e = message-long (tag .setup) (tag .session) (eqb-true (length (c .draws)) 10 (first-holds _ _ e)) (c .message) refl
+    bench-long Fine e = message-long (tag .setup) (tag .session) (eqb-true (length (c .draws)) 10 (first-holds _ _ e))
+        (c .message) refl
     bench-long (Wrong f) e = refusal-long _ (tag .session) f
 
     answer-long : Long (layoutLength (kindOf (byte (c .message) 0)) (c .message)) (answerOf c tag)

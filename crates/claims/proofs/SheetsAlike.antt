@@ -1,5 +1,5 @@
--- Two sheets that are alike but for key bytes of records that are not named: the reader finds the same in both, record by
--- record, and keeps the same of it; the keys that it meets are alike.
+-- Two sheets that are alike but for key bytes of records that are not named: the reader finds the same in both, record
+-- by record, and keeps the same of it; the keys that it meets are alike.
 use mathlib.Core.Path.{_≡_, refl, ap, _∙_}
 use mathlib.Core.Bool.{Bool, true, false}
 use mathlib.Core.List.{List, [], _∷_, _++_}

@@ -19,7 +19,8 @@ abbrev pub sheet : ℕ → ℕ → List ℕ
 sheet e m = 1 ∷ 0 ∷ 0 ∷ 2 ∷ 0 ∷ 0 ∷ 0 ∷ 0 ∷ 3 ∷ 2 ∷ 1 ∷ 0 ∷ 0 ∷ (replicate 16 e ++ (replicate 16 m ++ (6 ∷ [])))
 
 pub taken : (e m : ℕ) → readOf keyLimit (sheet e m) .verdict ≡ Whole
-unfolding readOf walk after judgedOf openedOf recordOf withFeatures withSizes withKey kindOf inOrder tooMany keyLimit wordLimit featuresRule sizesRule keyRule nothingKept noMarks emptyTerms
+unfolding readOf walk after judgedOf openedOf recordOf withFeatures withSizes withKey kindOf inOrder tooMany keyLimit
+    wordLimit featuresRule sizesRule keyRule nothingKept noMarks emptyTerms
 taken e m = refl
 
 pub sheet-hidden : (named : ℕ → Bool) → named 2 ≡ false → (e m e′ m′ : ℕ) → SheetsAlike named (sheet e m) (sheet e′ m′)

@@ -1,4 +1,5 @@
--- The five false tags, shut out: each against a run of one or two calls on one tag. No cipher is computed, since the reply to an IAM1 is the ten draws.
+-- The five false tags, shut out: each against a run of one or two calls on one tag. No cipher is computed, since the
+-- reply to an IAM1 is the ten draws.
 use mathlib.Core.Path.{_≡_, refl, sym, ap, _∙_, subst}
 use mathlib.Core.List.{List, [], _∷_}
 use Prim.Native.Nat.{ℕ}
@@ -25,7 +26,18 @@ use Rattle.tag.specs.Answers.{answerOf, ofMessage, inOrder, byKind, iam1Answer,
 use Rattle.tag.specs.Runs.{answerTo, run}
 use Rattle.tag.specs.Plays.{Doing, Step, Wake, Left, Plays, eventsOf, leftAll}
 use Rattle.tag.proofs.Played.{played}
-use Rattle.claims.specs.ShutOut.{Program, Standard, OneTag, SomeTag, Each, RefusesEverything, OneFixedReply, LaterForShow, MadeUpLength, ShutOut}
+use Rattle.claims.specs.ShutOut.{
+  Program,
+  Standard,
+  OneTag,
+  SomeTag,
+  Each,
+  RefusesEverything,
+  OneFixedReply,
+  LaterForShow,
+  MadeUpLength,
+  ShutOut,
+}
 use Rattle.claims.proofs.Bench.{terms, table, bench, user, drawn, brings, iam1}
 
 -- ---- there is one standard's tag
@@ -42,8 +54,11 @@ plays : (ds : List Doing) (table : List ℕ) (tag : Tag) (identity user : List �
     → Plays table tag identity user ds (defined table tag identity user ds)
 unfolding Plays leftAll run answerTo eventsOf
 plays [] table tag identity user = tt
-plays (Step b ∷ ds) table tag identity user =
-    (record { outcome = refl; number = refl; next = refl; reply = refl; identity = refl; user = refl }, plays ds _ _ _ _)
+plays (Step b ∷ ds) table tag identity user = (
+  record { outcome = refl; number = refl; next = refl; reply = refl; identity = refl; user = refl },
+  plays ds _ _ _
+      _,
+)
 plays (Wake ∷ ds) table tag identity user = (refl, plays ds _ _ _ _)
 
 pub some-tag : SomeTag
@@ -73,14 +88,25 @@ answered n = record {
 
 -- what an empty message leaves: number 1
 abbrev pub unanswered : Left
-unanswered = record { stepped = record { outcome = Refused OtherError; tag = bench }; room = replicate 172 0; identity = []; user = user }
+unanswered = record {
+  stepped = record { outcome = Refused OtherError; tag = bench };
+  room = replicate 172 0;
+  identity =
+      [];
+  user = user;
+}
 
 one-call : (n : ℕ) → defined table bench [] user (Step (brings iam1 n) ∷ []) ≡ answered n ∷ []
-unfolding leftAll run answerTo eventsOf terms keysIn recordsIn keyOf bench cleared atRest inTurn judgedTo offered hasKey benchChecks openingChecks answerOf ofMessage inOrder byKind iam1Answer ifFine replied refused kindOf iamKind lengthFits iam1Of keyLimit profileLimit
+unfolding leftAll run answerTo eventsOf terms keysIn recordsIn keyOf bench cleared atRest inTurn judgedTo offered hasKey
+    benchChecks openingChecks answerOf ofMessage inOrder byKind iam1Answer ifFine replied refused kindOf iamKind
+    lengthFits iam1Of keyLimit profileLimit
 one-call n = refl
 
-two-calls : (n : ℕ) → defined table bench [] user (Step (brings [] 0) ∷ Step (brings iam1 n) ∷ []) ≡ unanswered ∷ answered n ∷ []
-unfolding leftAll run answerTo eventsOf terms keysIn recordsIn keyOf bench cleared atRest inTurn judgedTo offered hasKey benchChecks openingChecks answerOf ofMessage inOrder byKind iam1Answer ifFine replied refused kindOf iamKind lengthFits iam1Of keyLimit profileLimit
+two-calls : (n : ℕ) → defined table bench [] user (Step (brings [] 0) ∷ Step (brings iam1 n) ∷ []) ≡ unanswered ∷
+    answered n ∷ []
+unfolding leftAll run answerTo eventsOf terms keysIn recordsIn keyOf bench cleared atRest inTurn judgedTo offered hasKey
+    benchChecks openingChecks answerOf ofMessage inOrder byKind iam1Answer ifFine replied refused kindOf iamKind
+    lengthFits iam1Of keyLimit profileLimit
 two-calls n = refl
 
 -- ---- the programs
@@ -89,10 +115,12 @@ two-calls n = refl
 module _ (p : Program) (h : Standard p) (n : ℕ) (P : Left → Type 0) where
   of-one : Each P (p table bench [] user (Step (brings iam1 n) ∷ [])) → P (answered n)
   unfolding Each
-  of-one e = subst (λ (xs : List Left). Each P xs) (is-defined p h table bench [] user (Step (brings iam1 n) ∷ []) ∙ one-call n) e .0
+  of-one e = subst (λ (xs : List Left). Each P xs) (is-defined p h table bench [] user (Step (brings iam1 n) ∷ [])
+      ∙ one-call n) e .0
 
 pub refuses-everything : ShutOut RefusesEverything
-refuses-everything p says h = of-one p h 0 (λ x. (n : ℕ) → x .stepped .outcome ≡ Replied n → ⊥) (says table bench [] user (Step (brings iam1 0) ∷ [])) 10 refl
+refuses-everything p says h = of-one p h 0 (λ x. (n : ℕ) → x .stepped .outcome ≡ Replied n → ⊥)
+    (says table bench [] user (Step (brings iam1 0) ∷ [])) 10 refl
 
 -- the first draw tells two replies apart
 apart : drawn 0 ≡ drawn 1 → ⊥
@@ -102,17 +130,22 @@ pub one-fixed-reply : (reply : List ℕ) → ShutOut (OneFixedReply reply)
 one-fixed-reply reply p says h = apart (sym (sent 0) ∙ sent 1)
   where
     sent : (n : ℕ) → reply ≡ drawn n
-    sent n = sym (of-one p h n (λ x. (k : ℕ) → x .stepped .outcome ≡ Replied k → take k (x .room) ≡ reply) (says table bench [] user (Step (brings iam1 n) ∷ [])) 10 refl)
+    sent n = sym (of-one p h n (λ x. (k : ℕ) → x .stepped .outcome ≡ Replied k → take k (x .room) ≡ reply)
+        (says table bench [] user (Step (brings iam1 n) ∷ [])) 10 refl)
 
 pub made-up-length : ShutOut MadeUpLength
 unfolding kindOf iamKind
-made-up-length p says h = of-one p h 0 (λ x. x .stepped .outcome ≡ Replied 10 → ⊥) (says table bench [] user (brings iam1 0) 0x40 (0x00 ∷ []) refl refl) refl
+made-up-length p says h = of-one p h 0 (λ x. x .stepped .outcome ≡ Replied 10 → ⊥)
+    (says table bench [] user (brings iam1 0) 0x40 (0x00 ∷ []) refl refl) refl
 
 pub later-for-show : ShutOut LaterForShow
-later-for-show p says h = apart (ap first (sym (later 0) ∙ says table bench [] user (Step (brings [] 0)) (Step (brings iam1 0) ∷ []) (Step (brings iam1 1) ∷ []) refl ∙ later 1))
+later-for-show p says h = apart (ap first (sym (later 0)
+    ∙ says table bench [] user (Step (brings [] 0)) (Step (brings iam1 0) ∷ []) (Step (brings iam1 1) ∷ []) refl
+    ∙ later 1))
   where
     later : (n : ℕ) → drop 1 (p table bench [] user (Step (brings [] 0) ∷ Step (brings iam1 n) ∷ [])) ≡ answered n ∷ []
-    later n = ap (drop 1) (is-defined p h table bench [] user (Step (brings [] 0) ∷ Step (brings iam1 n) ∷ []) ∙ two-calls n)
+    later n = ap (drop 1) (is-defined p h table bench [] user (Step (brings [] 0) ∷ Step (brings iam1 n) ∷ [])
+        ∙ two-calls n)
 
     first : List Left → List ℕ
     first [] = []

@@ -19,7 +19,18 @@ use Rattle.tag.specs.Reactions.{nextTag}
 use Rattle.tag.specs.Plays.{Doing, Left, eventsOf, roomOf, leftAll}
 use Rattle.tag.proofs.Played.{played}
 use Rattle.claims.specs.Names.{namedBy, namedIn}
-use Rattle.claims.specs.Silence.{SetupsAlike, Memory, MemoriesAlike, SameChange, SameAnswers, SameLefts, wordOf, Silent, SilentCode, ChangeAlike}
+use Rattle.claims.specs.Silence.{
+  SetupsAlike,
+  Memory,
+  MemoriesAlike,
+  SameChange,
+  SameAnswers,
+  SameLefts,
+  wordOf,
+  Silent,
+  SilentCode,
+  ChangeAlike,
+}
 use Rattle.claims.proofs.SilenceStores.{unchanged, one-after-another}
 use Rattle.claims.proofs.SilenceWords.{still-alike}
 use Rattle.claims.proofs.SilenceSteps.{HeldNamed, cleared-named, step-alike}
@@ -31,7 +42,8 @@ either-right : (b d : Bool) → d ≡ true → either b d ≡ true
 either-right true d h = refl
 either-right false d h = h
 
-module _ (named : ℕ → Bool) (s t : Setup) (alike : SetupsAlike named s t) (x y : Memory) (mem : MemoriesAlike named s x y) where
+module _ (named : ℕ → Bool) (s t : Setup) (alike : SetupsAlike named s t) (x y : Memory)
+    (mem : MemoriesAlike named s x y) where
   abbrev holding : Setup → Session → KeyedTag
   holding setup held = record { setup = setup; session = held }
 
@@ -48,22 +60,32 @@ module _ (named : ℕ → Bool) (s t : Setup) (alike : SetupsAlike named s t) (x
   )
   silent-from (Message sent ∷ es) all held h i u j v f g =
       let now = still-alike named s x y mem i j u v f g in
-      let step = step-alike named s t alike (record { identity = i; user = u }) (record { identity = j; user = v }) now sent (λ k n. all k (either-left _ _ n)) held h in
+      let step = step-alike named s t alike (record { identity = i; user = u }) (record { identity = j; user = v }) now
+      sent (λ k n. all k (either-left _ _ n)) held h in
       let a = answerOf (callOf sent i u) (holding s held) in
       let b = answerOf (callOf sent j v) (holding t held) in
       let f′ = one-after-another (x .identity) (y .identity) i j (a .identity) (b .identity) f (step .same .identity) in
       let g′ = one-after-another (x .user) (y .user) u v (a .user) (b .user) g (step .same .user) in (
-        record { outcome = step .same .outcome; reply = step .same .reply; session = step .same .session; identity = f′; user = g′ },
+        record {
+          outcome = step .same .outcome;
+          reply = step .same .reply;
+          session = step .same .session;
+          identity =
+              f′;
+          user = g′;
+        },
         subst (λ (z : Session). SameAnswers x y (run (holding s (a .session)) (a .identity) (a .user) es)
             (run (holding t z) (b .identity) (b .user) es)) (step .same .session)
-            (silent-from es (λ k n. all k (either-right (namedBy (sent .message) k) _ n)) (a .session) (step .holds) (a .identity) (a .user) (b .identity) (b .user) f′ g′),
+            (silent-from es (λ k n. all k (either-right (namedBy (sent .message) k) _ n)) (a .session) (step .holds)
+            (a .identity) (a .user) (b .identity) (b .user) f′ g′),
       )
 
 -- Demand 3.
 pub silent : Silent
 unfolding poweredUp
 silent es s t x y alike mem =
-    silent-from (namedIn es) s t alike x y mem es (λ k n. n) cleared (cleared-named (namedIn es)) (x .identity) (x .user) (y .identity) (y .user)
+    silent-from (namedIn es) s t alike x y mem es (λ k n. n) cleared (cleared-named (namedIn es)) (x .identity)
+    (x .user) (y .identity) (y .user)
     (unchanged (x .identity) (y .identity)) (unchanged (x .user) (y .user))
 
 -- ---- the code
@@ -76,7 +98,14 @@ lefts x y (d ∷ ds) p q [] [] h = tt
 lefts x y (d ∷ ds) p q [] (c ∷ cs) h = absurd h
 lefts x y (d ∷ ds) p q (a ∷ more) [] h = absurd h
 lefts x y (d ∷ ds) p q (a ∷ more) (c ∷ cs) (e, h) = (
-  record { outcome = e .outcome; session = e .session; room = ap (λ (r : List ℕ). over r (roomOf d)) (e .reply); identity = e .identity; user = e .user },
+  record {
+    outcome = e .outcome;
+    session = e .session;
+    room =
+        ap (λ (r : List ℕ). over r (roomOf d)) (e .reply);
+    identity = e .identity;
+    user = e .user;
+  },
   lefts x y ds (nextTag p a) (nextTag q c) more cs h,
 )
 
@@ -92,7 +121,8 @@ silent-code ds p q k l x y ls rs alike mem u v =
 -- ---- from one moment to another
 
 -- two words are the same or not
-same-pair : (a b c d : ℕ) (p q : Bool) → eqb a c ≡ p → eqb b d ≡ q → (_≡_ {A = ℕ × ℕ} (a, b) (c, d)) ⊎ (_≡_ {A = ℕ × ℕ} (a, b) (c, d) → ⊥)
+same-pair : (a b c d : ℕ) (p q : Bool) → eqb a c ≡ p → eqb b d ≡ q
+    → (_≡_ {A = ℕ × ℕ} (a, b) (c, d)) ⊎ (_≡_ {A = ℕ × ℕ} (a, b) (c, d) → ⊥)
 same-pair a b c d true true h k = inl (λ j. (eqb-true a c h j, eqb-true b d k j))
 same-pair a b c d true false h k = inr (λ e. eqb-false b d k (λ j. e j .1))
 same-pair a b c d false q h k = inr (λ e. eqb-false a c h (λ j. e j .0))

@@ -1,5 +1,5 @@
--- Demand 3 is no empty promise: a bench with two clients' records, of which only the first is named. Whatever the keys of the second are, and whatever its word holds,
--- the tags are alike; and they answer.
+-- Demand 3 is no empty promise: a bench with two clients' records, of which only the first is named. Whatever the keys
+-- of the second are, and whatever its word holds, the tags are alike; and they answer.
 use mathlib.Core.Path.{_≡_, refl, sym, ap, _∙_, subst}
 use mathlib.Core.Bool.{Bool, true, false, false≢true}
 use mathlib.Core.List.{List, [], _∷_}
@@ -34,10 +34,22 @@ use Rattle.claims.specs.Names.{carriesKeyid, namedBy, namedIn}
 use Rattle.claims.specs.Silence.{RecordsAlike, SetupsAlike, Memory, MemoriesAlike, SameAnswers, wordOf, answers}
 use Rattle.claims.proofs.Silence.{silent}
 
--- ---- the tag: record 1 may use profile 0, which is word 0 of the user area; record 2 may use profile 1, which is word 1
+-- ---- the tag: record 1 may use profile 0, which is word 0 of the user area; record 2 may use profile 1, word 1
 
 abbrev features : Features
-features = record { blocksize1 = true; rev0 = false; rev1 = true; iam = true; iam3 = true; mam = true; mode0 = true; mode1 = true; mode2 = true; mode3 = true }
+features = record {
+  blocksize1 = true;
+  rev0 = false;
+  rev1 = true;
+  iam = true;
+  iam3 = true;
+  mam = true;
+  mode0 =
+      true;
+  mode1 = true;
+  mode2 = true;
+  mode3 = true;
+}
 
 -- the first client's record, and the second's
 abbrev pub ours : List ℕ → Key
@@ -72,14 +84,25 @@ empty-slot (suc n) (suc i) = empty-slot n i
 
 module _ (named : ℕ → Bool) (unnamed : named 2 ≡ false) (enc : List ℕ) where
   -- whatever the second client's keys are
-  pub keys-hidden : (e e′ m m′ : List ℕ) → SetupsAlike named (carrying (ours enc) (theirs e m)) (carrying (ours enc) (theirs e′ m′))
+  pub keys-hidden : (e e′ m m′ : List ℕ) → SetupsAlike named (carrying (ours enc) (theirs e m))
+      (carrying (ours enc) (theirs e′ m′))
   unfolding carrying RecordsAlike
   keys-hidden e e′ m m′ = record {
     features = refl;
     sizes = refl;
     records = (
       record { id = refl; mac = refl; mpi = refl; enc = λ h. refl; mackey = λ h. refl },
-      (record { id = refl; mac = refl; mpi = refl; enc = λ h. absurd (false≢true (sym unnamed ∙ h)); mackey = λ h. absurd (false≢true (sym unnamed ∙ h)) }, tt),
+      (
+        record {
+          id = refl;
+          mac = refl;
+          mpi = refl;
+          enc = λ h. absurd (false≢true (sym unnamed ∙ h));
+          mackey =
+              λ h. absurd (false≢true (sym unnamed ∙ h));
+        },
+        tt,
+      ),
     );
     profiles = refl;
     locks = refl;
@@ -94,7 +117,8 @@ module _ (named : ℕ → Bool) (unnamed : named 2 ≡ false) (enc : List ℕ) w
     unfolding carrying hasKey
     first-only keyid n h = tested (eqb 1 keyid) refl (eqb (l .id) keyid) refl h
       where
-        tested : (b : Bool) → eqb 1 keyid ≡ b → (d : Bool) → eqb (l .id) keyid ≡ d → either b (either d false) ≡ true → keyid ≡ 1
+        tested : (b : Bool) → eqb 1 keyid ≡ b → (d : Bool) → eqb (l .id) keyid ≡ d → either b (either d false) ≡ true
+            → keyid ≡ 1
         tested true p d q g = sym (eqb-true 1 keyid p)
         tested false p true q g =
             let two : 2 ≡ keyid = sym its ∙ eqb-true (l .id) keyid q in
@@ -102,7 +126,9 @@ module _ (named : ℕ → Bool) (unnamed : named 2 ≡ false) (enc : List ℕ) w
         tested false p false q g = absurd (false≢true g)
 
     -- so only word 0 of the user area is open
-    word-zero : (w p : ℕ) → permitted (keyWith 1 (setup .keys) .mpi) p ≡ true → slotNamed (setup .profiles) p .present ≡ true → w < profileEnd (slotNamed (setup .profiles) p .profile) → w ≡ 0
+    word-zero : (w p : ℕ) → permitted (keyWith 1 (setup .keys) .mpi) p ≡ true
+        → slotNamed (setup .profiles) p .present ≡ true → w < profileEnd (slotNamed (setup .profiles) p .profile)
+        → w ≡ 0
     unfolding carrying keyWith slotNamed permitted profileEnd noSlot
     word-zero w zero r h b = omega arith
     word-zero w (suc zero) r h b = absurd (false≢true r)
@@ -116,7 +142,8 @@ module _ (named : ℕ → Bool) (unnamed : named 2 ≡ false) (enc : List ℕ) w
       identity = λ w o. refl;
       user = λ w o.
           (let one = first-only (o .keyid) (o .name) (o .key) in
-          let z = word-zero w (o .profile) (subst (λ (k : ℕ). permitted (keyWith k (setup .keys) .mpi) (o .profile) ≡ true) one (o .right)) (o .present) (o .before) in
+          let z = word-zero w (o .profile) (subst (λ (k : ℕ). permitted (keyWith k (setup .keys) .mpi) (o .profile) ≡
+          true) one (o .right)) (o .present) (o .before) in
           subst (λ (k : ℕ). wordOf (keeping a b .user) k ≡ wordOf (keeping a′ b′ .user) k) (sym z) refl);
     }
 
@@ -140,7 +167,8 @@ pub answered : (enc : List ℕ) (l : Key) (a b : ℕ) → answers (carrying (our
       identity = [];
       user = 1 ∷ 2 ∷ a ∷ b ∷ [];
     } ∷ []
-unfolding run answerTo poweredUp answerOf benchChecks judgedTo ofMessage inOrder kindOf iamKind offered inTurn atRest cleared byKind iam1Answer iam1Of openingChecks lengthFits hasKey carrying ifFine replied
+unfolding run answerTo poweredUp answerOf benchChecks judgedTo ofMessage inOrder kindOf iamKind offered inTurn atRest
+    cleared byKind iam1Answer iam1Of openingChecks lengthFits hasKey carrying ifFine replied
 answered enc l a b = refl
 
 -- Two tags that differ in every key byte of the second client's record, and in its word, and answer alike.

@@ -24,7 +24,14 @@ use Rattle.frames.specs.Constants.{C-IAM2}
 use Rattle.frames.specs.Messages.{tam2Of, iam2Of, iam3Of, mam2Of}
 use Rattle.frames.specs.Lengths.{lengthFits, replyRoom, hasMac}
 use Rattle.frames.proofs.Range.{both-right}
-use Rattle.offer.specs.declared.Fault.the-variants.{OtherError, NotSupported, MemoryOverrun, MemoryWriteError, ProofWrong, BenchFault}
+use Rattle.offer.specs.declared.Fault.the-variants.{
+  OtherError,
+  NotSupported,
+  MemoryOverrun,
+  MemoryWriteError,
+  ProofWrong,
+  BenchFault,
+}
 use Rattle.entry.specs.declared.Session.{Session}
 use Rattle.offer.specs.declared.Verdict.the-variants.{Fine}
 use Rattle.ground.specs.Checks.{_else_}
@@ -51,11 +58,13 @@ module _ (named : ℕ → Bool) (s t : Setup) (alike : SetupsAlike named s t) wh
   unfolding blockAsked
   block-alike c j = wordsAsked (slot-alike (c .profile) j .profile) c
 
-  mode-alike : (keyid p : ℕ) → modeSupported (s .features) (keyWith keyid (s .keys)) p ≡ modeSupported (t .features) (keyWith keyid (t .keys)) p
+  mode-alike : (keyid p : ℕ) → modeSupported (s .features) (keyWith keyid (s .keys)) p ≡ modeSupported (t .features)
+      (keyWith keyid (t .keys)) p
   unfolding modeSupported
   mode-alike keyid p j = both (modeOffered (alike .features j) p) (implies (hasMac p) (finds keyid .mac j))
 
-  pub bench-alike : (draws room i u j v : ℕ) → i ≡ j → u ≡ v → judged (benchChecks (s .sizes) draws room i u) ≡ judged (benchChecks (t .sizes) draws room j v)
+  pub bench-alike : (draws room i u j v : ℕ) → i ≡ j → u ≡ v
+      → judged (benchChecks (s .sizes) draws room i u) ≡ judged (benchChecks (t .sizes) draws room j v)
   unfolding benchChecks
   bench-alike draws room i u j v e f k = judged
       ((eqb draws drawBytes else BenchFault)
@@ -65,10 +74,12 @@ module _ (named : ℕ → Bool) (s t : Setup) (alike : SetupsAlike named s t) wh
       ∷ [])
 
   module _ (m : List ℕ) where
-    pub opening-alike : (kind : Kind) (rfu keyid : ℕ) → judged (openingChecks kind rfu keyid (s .keys) m) ≡ judged (openingChecks kind rfu keyid (t .keys) m)
+    pub opening-alike : (kind : Kind) (rfu keyid : ℕ)
+        → judged (openingChecks kind rfu keyid (s .keys) m) ≡ judged (openingChecks kind rfu keyid (t .keys) m)
     unfolding openingChecks
     opening-alike kind rfu keyid j =
-        judged ((lengthFits kind m else OtherError) ∷ (eqb rfu 0 else NotSupported) ∷ (finds keyid .present j else NotSupported) ∷ [])
+        judged ((lengthFits kind m else OtherError) ∷ (eqb rfu 0 else NotSupported) ∷
+        (finds keyid .present j else NotSupported) ∷ [])
 
     pub tam2-alike : judged (tam2Checks s m) ≡ judged (tam2Checks t m)
     unfolding tam2Checks
@@ -113,8 +124,11 @@ module _ (named : ℕ → Bool) (s t : Setup) (alike : SetupsAlike named s t) wh
           ∷ (eqb (f .rfu) 0 else NotSupported)
           ∷ (slot-alike (f .custom .profile) j .present else NotSupported)
           ∷ (permitted (same j .mpi) (f .custom .profile) else NotSupported)
-          ∷ (both (sizeOffered (alike .features j) (f .custom .blocksize)) (not (overruns (slot-alike (f .custom .profile) j .profile) (block-alike (f .custom) j))) else MemoryOverrun)
-          ∷ (not (someLocked (alike .locks j .table) (alike .locks j .count) (block-alike (f .custom) j)) else MemoryWriteError)
+          ∷ (both (sizeOffered (alike .features j) (f .custom .blocksize))
+          (not (overruns (slot-alike (f .custom .profile) j .profile) (block-alike (f .custom) j))) else
+          MemoryOverrun)
+          ∷ (not (someLocked (alike .locks j .table) (alike .locks j .count) (block-alike (f .custom) j)) else
+          MemoryWriteError)
           ∷ (iam3Proof (same j) held f m else ProofWrong)
           ∷ [])
 
@@ -128,12 +142,14 @@ none-permitted p h =
     let e = eqb-true (0 / 2 ^ p % 2) 1 h in
     omega arith
 
-pub permitted-present : (keyid p : ℕ) (ks : List Key) → permitted (keyWith keyid ks .mpi) p ≡ true → hasKey keyid ks ≡ true
+pub permitted-present : (keyid p : ℕ) (ks : List Key) → permitted (keyWith keyid ks .mpi) p ≡ true
+    → hasKey keyid ks ≡ true
 unfolding hasKey keyWith noKey
 permitted-present keyid p [] h = absurd (none-permitted p h)
 permitted-present keyid p (k ∷ ks) h = tested (eqb (k .id) keyid) h (λ g. permitted-present keyid p ks g)
   where
-    tested : (b : Bool) → permitted (pick b k (keyWith keyid ks) .mpi) p ≡ true → (permitted (keyWith keyid ks .mpi) p ≡ true → hasKey keyid ks ≡ true)
+    tested : (b : Bool) → permitted (pick b k (keyWith keyid ks) .mpi) p ≡ true
+        → (permitted (keyWith keyid ks .mpi) p ≡ true → hasKey keyid ks ≡ true)
         → either b (hasKey keyid ks) ≡ true
     tested true g more = refl
     tested false g more = more g
@@ -160,8 +176,10 @@ module _ (setup : Setup) (held : Session) (m : List ℕ) (h : judged (iam3Checks
   unfolding iam3Checks
   iam3-right = first-holds _ _ (others-hold _ _ (others-hold _ _ (others-hold _ _ (others-hold _ _ h))))
 
-  pub iam3-inside : overruns (slotNamed (setup .profiles) (iam3Of m .custom .profile) .profile) (blockAsked (setup .profiles) (iam3Of m .custom)) ≡ false
+  pub iam3-inside : overruns (slotNamed (setup .profiles) (iam3Of m .custom .profile) .profile)
+      (blockAsked (setup .profiles) (iam3Of m .custom)) ≡ false
   unfolding iam3Checks
   iam3-inside =
       let k = others-hold _ _ (others-hold _ _ (others-hold _ _ (others-hold _ _ h))) in
-      not-true _ (both-right (sizeOffered (setup .features) (iam3Of m .custom .blocksize)) _ (first-holds _ _ (others-hold _ _ k)))
+      not-true _ (both-right (sizeOffered (setup .features) (iam3Of m .custom .blocksize)) _
+      (first-holds _ _ (others-hold _ _ k)))

@@ -22,7 +22,8 @@ module _ (named : ℕ → Bool) (keyid : ℕ) where
       let m : named (k .id) ≡ true = ap named e ∙ n in
       λ j. record { id = r .id j; mac = r .mac j; mpi = r .mpi j; enc = r .enc m j; mackey = r .mackey m j }
 
-  first : (k l : Key) (ks ls : List Key) → RecordAlike named k l → Found named keyid ks ls → (b : Bool) → eqb (k .id) keyid ≡ b → eqb (l .id) keyid ≡ b
+  first : (k l : Key) (ks ls : List Key) → RecordAlike named k l → Found named keyid ks ls → (b : Bool)
+      → eqb (k .id) keyid ≡ b → eqb (l .id) keyid ≡ b
       → Found named keyid (k ∷ ks) (l ∷ ls)
   unfolding hasKey keyWith
   first k l ks ls r f true p q = record {

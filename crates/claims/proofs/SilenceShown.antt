@@ -1,5 +1,6 @@
--- What demand 3 lets differ is all that may: with another key in a record that is named, or another word that is open, the replies differ.
--- The tag is the one of SilenceExamples, with the two ENC_keys of Annex F; the message, the draws and the first reply are those of Tables F.3 and F.4.
+-- What demand 3 lets differ is all that may: with another key in a record that is named, or another word that is open,
+-- the replies differ. The tag is the one of SilenceExamples, with the two ENC_keys of Annex F; the message, the draws
+-- and the first reply are those of Tables F.3 and F.4.
 use mathlib.Core.Path.{_≡_, refl, sym, ap, _∙_}
 use mathlib.Core.List.{List, [], _∷_, _++_, append-cancel-left, append-cancel-right}
 use Prim.Native.Nat.{ℕ, zero, suc, _/_, _%_}
@@ -70,10 +71,27 @@ firstRows =
     ∷ []
 
 first-reply : aesEnc (bytes 0x000102030405060708090A0B0C0D0E0F) block ≡ bytes 0xE920530CC781B20CFE1AB4A0144E7335
-unfolding nextRoundKey roundConstant xor mixColumns mixedByte shiftRows subBytes sbox affine affineBit fromBits bit inverse productOfSquares times remainder polynomialProduct
+unfolding nextRoundKey roundConstant xor mixColumns mixedByte shiftRows subBytes sbox affine affineBit fromBits bit
+    inverse productOfSquares times remainder polynomialProduct
 first-reply =
-    traced (bytes 0x000102030405060708090A0B0C0D0E0F) block refl firstRows (bytes 0x13111D7FE3944A17F307A78B4D2B30C5) refl
-    (refl, refl, (refl, refl, (refl, refl, (refl, refl, (refl, refl, (refl, refl, (refl, refl, (refl, refl, (refl, refl, tt))))))))) refl
+    traced (bytes 0x000102030405060708090A0B0C0D0E0F) block refl firstRows (bytes 0x13111D7FE3944A17F307A78B4D2B30C5)
+    refl (
+      refl,
+      refl,
+      (
+        refl,
+        refl,
+        (
+          refl,
+          refl,
+          (
+            refl,
+            refl,
+            (refl, refl, (refl, refl, (refl, refl, (refl, refl, (refl, refl, tt))))),
+          ),
+        ),
+      ),
+    ) refl
 
 abbrev secondRows : List Row
 secondRows =
@@ -89,10 +107,27 @@ secondRows =
     ∷ []
 
 second-reply : aesEnc (bytes 0x0A1B2C3D4E5F6A7B8C9D0E1F2AB3C4D5) block ≡ bytes 0x46E1F7B9B5A7951F828175344FD38EDB
-unfolding nextRoundKey roundConstant xor mixColumns mixedByte shiftRows subBytes sbox affine affineBit fromBits bit inverse productOfSquares times remainder polynomialProduct
+unfolding nextRoundKey roundConstant xor mixColumns mixedByte shiftRows subBytes sbox affine affineBit fromBits bit
+    inverse productOfSquares times remainder polynomialProduct
 second-reply =
-    traced (bytes 0x0A1B2C3D4E5F6A7B8C9D0E1F2AB3C4D5) block refl secondRows (bytes 0x11BCF69E19E5E239148BBBFAF2CB7C72) refl
-    (refl, refl, (refl, refl, (refl, refl, (refl, refl, (refl, refl, (refl, refl, (refl, refl, (refl, refl, (refl, refl, tt))))))))) refl
+    traced (bytes 0x0A1B2C3D4E5F6A7B8C9D0E1F2AB3C4D5) block refl secondRows (bytes 0x11BCF69E19E5E239148BBBFAF2CB7C72)
+    refl (
+      refl,
+      refl,
+      (
+        refl,
+        refl,
+        (
+          refl,
+          refl,
+          (
+            refl,
+            refl,
+            (refl, refl, (refl, refl, (refl, refl, (refl, refl, (refl, refl, tt))))),
+          ),
+        ),
+      ),
+    ) refl
 
 -- ---- TAM1 in the name of record 1
 
@@ -104,18 +139,32 @@ asked = Message (record {
 }) ∷ []
 
 answered : (enc : List ℕ) (l : Key) (a b : ℕ) → answers (carrying (ours enc) l) (keeping a b) asked
-    ≡ record { outcome = Replied (length (aesEnc enc block)); session = cleared; reply = aesEnc enc block; identity = []; user = 1 ∷ 2 ∷ a ∷ b ∷ [] } ∷ []
-unfolding run answerTo poweredUp answerOf benchChecks judgedTo ofMessage inOrder kindOf tamKind offered inTurn byKind tam1Answer tam1Of bytesFrom openingChecks lengthFits hasKey keyWith carrying ifFine replied tam1Reply tamBlock twoBytes
+    ≡ record {
+      outcome = Replied (length (aesEnc enc block));
+      session = cleared;
+      reply = aesEnc enc block;
+      identity =
+          [];
+      user = 1 ∷ 2 ∷ a ∷ b ∷ [];
+    } ∷ []
+unfolding run answerTo poweredUp answerOf benchChecks judgedTo ofMessage inOrder kindOf tamKind offered inTurn byKind
+    tam1Answer tam1Of bytesFrom openingChecks lengthFits hasKey keyWith carrying ifFine replied tam1Reply tamBlock
+    twoBytes
 answered enc l a b = refl
 
 -- Two tags that differ in the ENC_key of record 1, and are told apart by their replies.
 pub told-apart : (l : Key) (a b : ℕ)
-    → SameAnswers (keeping a b) (keeping a b) (answers (carrying (ours (bytes 0x000102030405060708090A0B0C0D0E0F)) l) (keeping a b) asked)
+    → SameAnswers (keeping a b) (keeping a b) (answers (carrying (ours (bytes 0x000102030405060708090A0B0C0D0E0F)) l)
+    (keeping a b) asked)
     (answers (carrying (ours (bytes 0x0A1B2C3D4E5F6A7B8C9D0E1F2AB3C4D5)) l) (keeping a b) asked)
     → ⊥
 unfolding SameAnswers
 told-apart l a b h =
-    let same = (rw (answered (bytes 0x000102030405060708090A0B0C0D0E0F) l a b, answered (bytes 0x0A1B2C3D4E5F6A7B8C9D0E1F2AB3C4D5) l a b) at h) .0 .reply in
+    let same = (rw (
+      answered (bytes 0x000102030405060708090A0B0C0D0E0F) l a b,
+      answered
+          (bytes 0x0A1B2C3D4E5F6A7B8C9D0E1F2AB3C4D5) l a b,
+    ) at h) .0 .reply in
     let first : _≡_ {A = ℕ} 0xE9 0x46 = ap (λ (r : List ℕ). getD r 0 0) (sym first-reply ∙ same ∙ second-reply) in
     omega arith
 
@@ -147,17 +196,31 @@ abbrev shown : List ℕ → ℕ → ℕ → List ℕ
 shown enc a b = (authentication enc ++ clear a b) ++ []
 
 word-answered : (enc : List ℕ) (l : Key) (a b : ℕ) → answers (carrying (ours enc) l) (showing a b) read
-    ≡ record { outcome = Replied (length (shown enc a b)); session = cleared; reply = shown enc a b; identity = []; user = a ∷ b ∷ 3 ∷ 4 ∷ [] } ∷ []
-unfolding run answerTo poweredUp answerOf benchChecks judgedTo ofMessage inOrder kindOf tamKind offered inTurn byKind tam2Answer tam2Of bytesFrom sizeOf selectCustom tam2Checks lengthFits sizeOffered revOffered modeSupported modeOffered hasMac hasKey keyWith slotNamed blockAsked wordsAsked addressOf stepOf overruns profileEnd lastWord permitted windowOf areaOf partOf within carrying ifFine replied tam2Reply tam2Body tamBlock twoBytes byMode tam2Constant encrypts withMac carriedData filled headerOf headerStart headerLength headerPart dataLength carried blocksLength dOf blockBytes blockSizeBit
+    ≡ record {
+      outcome = Replied (length (shown enc a b));
+      session = cleared;
+      reply = shown enc a b;
+      identity =
+          [];
+      user = a ∷ b ∷ 3 ∷ 4 ∷ [];
+    } ∷ []
+unfolding run answerTo poweredUp answerOf benchChecks judgedTo ofMessage inOrder kindOf tamKind offered inTurn byKind
+    tam2Answer tam2Of bytesFrom sizeOf selectCustom tam2Checks lengthFits sizeOffered revOffered modeSupported
+    modeOffered hasMac hasKey keyWith slotNamed blockAsked wordsAsked addressOf stepOf overruns profileEnd lastWord
+    permitted windowOf areaOf partOf within carrying ifFine replied tam2Reply tam2Body tamBlock twoBytes byMode
+    tam2Constant encrypts withMac carriedData filled headerOf headerStart headerLength headerPart dataLength carried
+    blocksLength dOf blockBytes blockSizeBit
 word-answered enc l a b = refl
 
 -- Two tags that differ in that word, and are told apart by their replies, whatever the keys are.
 pub word-told-apart : (enc : List ℕ) (l : Key)
-    → SameAnswers (showing 1 2) (showing 5 2) (answers (carrying (ours enc) l) (showing 1 2) read) (answers (carrying (ours enc) l) (showing 5 2) read) → ⊥
+    → SameAnswers (showing 1 2) (showing 5 2) (answers (carrying (ours enc) l) (showing 1 2) read)
+    (answers (carrying (ours enc) l) (showing 5 2) read) → ⊥
 unfolding SameAnswers
 word-told-apart enc l h =
     let same = (rw (word-answered enc l 1 2, word-answered enc l 5 2) at h) .0 .reply in
     let a = authentication enc in
-    let told = append-cancel-left a (clear 1 2) (clear 5 2) (append-cancel-right (a ++ clear 1 2) (a ++ clear 5 2) [] same) in
+    let told = append-cancel-left a (clear 1 2) (clear 5 2)
+    (append-cancel-right (a ++ clear 1 2) (a ++ clear 5 2) [] same) in
     let first : _≡_ {A = ℕ} 1 5 = ap (λ (r : List ℕ). getD r 4 0) told in
     omega arith

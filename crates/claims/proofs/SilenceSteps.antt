@@ -1,4 +1,5 @@
--- One message to two tags that are alike and hold the same: the same answer, and the same is held, of a record that is named.
+-- One message to two tags that are alike and hold the same: the same answer, and the same is held, of a record that is
+-- named.
 use mathlib.Core.Path.{_≡_, refl, sym, ap, _∙_, subst}
 use mathlib.Core.Bool.{Bool, true, false, false≢true}
 use mathlib.Core.List.{List, [], _∷_}
@@ -36,7 +37,26 @@ use Rattle.entry.specs.Replies.{mam1Reply}
 use Rattle.entry.specs.Opened.{purposeIn, openedData, wordsIn, sentBlock}
 use Rattle.offer.specs.Judged.{benchChecks}
 use Rattle.tam.specs.Judged.{tam2Checks}
-use Rattle.tag.specs.Answers.{Answer, Call, refused, replied, letIn, ifFine, tam1Answer, tam2Answer, iam1Answer, iam2Answer, iam3Answer, mam1Answer, mam2Answer, byKind, inOrder, ofMessage, ofBench, answerOf}
+use Rattle.tag.specs.Answers.{
+  Answer,
+  Call,
+  refused,
+  replied,
+  letIn,
+  ifFine,
+  tam1Answer,
+  tam2Answer,
+  iam1Answer,
+  iam2Answer,
+  iam3Answer,
+  mam1Answer,
+  mam2Answer,
+  byKind,
+  inOrder,
+  ofMessage,
+  ofBench,
+  answerOf,
+}
 use Rattle.tag.specs.Runs.{Sent, callOf}
 use Rattle.offer.proofs.Passed.{opening-length}
 use Rattle.tam.proofs.Passed.{tam2-length, tam2-key, tam2-inside}
@@ -44,7 +64,22 @@ use Rattle.claims.specs.Names.{carriesKeyid, namedBy}
 use Rattle.claims.specs.Silence.{SetupsAlike, Memory, MemoriesAlike, SameChange, SameAnswer}
 use Rattle.claims.proofs.SilenceStores.{unchanged, stored-alike}
 use Rattle.claims.proofs.SilenceWords.{asked-open, window-alike, same-in-block}
-use Rattle.claims.proofs.SilenceJudged.{finds, block-alike, bench-alike, opening-alike, tam2-alike, iam2-alike, iam3-alike, mam2-alike, permitted-present, tam2-slot, tam2-right, iam3-slot, iam3-right, iam3-inside}
+use Rattle.claims.proofs.SilenceJudged.{
+  finds,
+  block-alike,
+  bench-alike,
+  opening-alike,
+  tam2-alike,
+  iam2-alike,
+  iam3-alike,
+  mam2-alike,
+  permitted-present,
+  tam2-slot,
+  tam2-right,
+  iam3-slot,
+  iam3-right,
+  iam3-inside,
+}
 
 -- ---- what is held
 
@@ -87,15 +122,18 @@ carries-long Mam2 m h e = absurd (false≢true h)
 carries-long Unsupported m h e = absurd (false≢true h)
 
 -- a message of two bytes or more names the record of its second
-pub names-second : (m rest : List ℕ) (first : ℕ) (k : Kind) → m ≡ first ∷ rest → kindOf first ≡ k → carriesKeyid k ≡ true → lengthFits k m ≡ true → namedBy m (byte m 1) ≡ true
+pub names-second : (m rest : List ℕ) (first : ℕ) (k : Kind) → m ≡ first ∷ rest → kindOf first ≡ k
+    → carriesKeyid k ≡ true → lengthFits k m ≡ true → namedBy m (byte m 1) ≡ true
 unfolding namedBy
-names-second m rest first k e f h l = subst (λ (z : List ℕ). namedBy z (byte z 1) ≡ true) (sym e) (second rest (subst (λ (z : List ℕ). 2 ≤ length z) e (carries-long k m h l)))
+names-second m rest first k e f h l = subst (λ (z : List ℕ). namedBy z (byte z 1) ≡ true) (sym e)
+    (second rest (subst (λ (z : List ℕ). 2 ≤ length z) e (carries-long k m h l)))
   where
     second : (r : List ℕ) → 2 ≤ length (first ∷ r) → namedBy (first ∷ r) (byte (first ∷ r) 1) ≡ true
     second [] z = absurd (let w : ⊥ = omega arith in w)
     second (x ∷ r) z = rw (f, h) (eq-eqb x x refl)
 
-module _ (named : ℕ → Bool) (s t : Setup) (alike : SetupsAlike named s t) (x y : Memory) (mem : MemoriesAlike named s x y) (sent : Sent)
+module _ (named : ℕ → Bool) (s t : Setup) (alike : SetupsAlike named s t) (x y : Memory)
+    (mem : MemoriesAlike named s x y) (sent : Sent)
     (mine : (keyid : ℕ) → namedBy (sent .message) keyid ≡ true → named keyid ≡ true) where
   abbrev c : Call
   c = callOf sent (x .identity) (x .user)
@@ -110,14 +148,22 @@ module _ (named : ℕ → Bool) (s t : Setup) (alike : SetupsAlike named s t) (x
   refusal : (f : Fault) (held : Session) → HeldNamed named held → Step (refused c f held) (refused d f held)
   unfolding refused
   refusal f held h = record {
-    same = record { outcome = refl; reply = refl; session = refl; identity = unchanged (x .identity) (y .identity); user = unchanged (x .user) (y .user) };
+    same = record {
+      outcome = refl;
+      reply = refl;
+      session = refl;
+      identity =
+          unchanged (x .identity) (y .identity);
+      user = unchanged (x .user) (y .user);
+    };
     holds = h;
   }
 
   to-initial : (f : Fault) → Step (refused c f cleared) (refused d f cleared)
   to-initial f = refusal f cleared (cleared-named named)
 
-  reply-alike : (r q : List ℕ) (held : Session) → r ≡ q → HeldNamed named held → Step (replied c r held) (replied d q held)
+  reply-alike : (r q : List ℕ) (held : Session) → r ≡ q → HeldNamed named held
+      → Step (replied c r held) (replied d q held)
   unfolding replied
   reply-alike r q held e h = record {
     same = record {
@@ -130,9 +176,15 @@ module _ (named : ℕ → Bool) (s t : Setup) (alike : SetupsAlike named s t) (x
     holds = h;
   }
 
-  entry-alike : (p q : ℕ) (i u j v : List ℕ) → p ≡ q → SameChange (x .identity) (y .identity) i j → SameChange (x .user) (y .user) u v → Step (letIn c p i u) (letIn d q j v)
+  entry-alike : (p q : ℕ) (i u j v : List ℕ) → p ≡ q → SameChange (x .identity) (y .identity) i j
+      → SameChange (x .user) (y .user) u v → Step (letIn c p i u) (letIn d q j v)
   unfolding letIn
-  entry-alike p q i u j v e f g = record { same = record { outcome = ap Entered e; reply = refl; session = refl; identity = f; user = g }; holds = entered-named named }
+  entry-alike p q i u j v e f g = record {
+    same =
+        record { outcome = ap Entered e; reply = refl; session = refl; identity = f; user = g };
+    holds =
+        entered-named named;
+  }
 
   fine-alike : (v w : Verdict) (a b : Answer) → v ≡ w → (v ≡ Fine → Step a b) → Step (ifFine c v a) (ifFine d w b)
   unfolding ifFine
@@ -142,7 +194,8 @@ module _ (named : ℕ → Bool) (s t : Setup) (alike : SetupsAlike named s t) (x
       as-judged Fine k = k refl
       as-judged (Wrong f) k = to-initial f
 
-  pick-alike : (b e : Bool) (p q p′ q′ : Answer) → b ≡ e → (b ≡ true → Step p p′) → Step q q′ → Step (pick b p q) (pick e p′ q′)
+  pick-alike : (b e : Bool) (p q p′ q′ : Answer) → b ≡ e → (b ≡ true → Step p p′) → Step q q′
+      → Step (pick b p q) (pick e p′ q′)
   pick-alike b e p q p′ q′ h f g = subst (λ (z : Bool). Step (pick b p q) (pick z p′ q′)) h (as-tested b f)
     where
       as-tested : (z : Bool) → (z ≡ true → Step p p′) → Step (pick z p q) (pick z p′ q′)
@@ -162,13 +215,15 @@ module _ (named : ℕ → Bool) (s t : Setup) (alike : SetupsAlike named s t) (x
     unfolding iam2Answer
     iam2-step =
         fine-alike _ _ _ _ (iam2-alike named s t alike m held same)
-        (λ h. entry-alike _ _ _ _ _ _ (λ j. purposeIn (aesEnc (same j .enc) (iam2Of m .iresponse))) (unchanged (x .identity) (y .identity)) (unchanged (x .user) (y .user)))
+        (λ h. entry-alike _ _ _ _ _ _ (λ j. purposeIn (aesEnc (same j .enc) (iam2Of m .iresponse)))
+        (unchanged (x .identity) (y .identity)) (unchanged (x .user) (y .user)))
 
     mam2-step : Step (mam2Answer c (s .keys) held) (mam2Answer d (t .keys) held)
     unfolding mam2Answer
     mam2-step =
         fine-alike _ _ _ _ (mam2-alike named s t alike m held same)
-        (λ h. entry-alike _ _ _ _ _ _ (λ j. purposeIn (aesEnc (same j .enc) (mam2Of m .iresponse))) (unchanged (x .identity) (y .identity)) (unchanged (x .user) (y .user)))
+        (λ h. entry-alike _ _ _ _ _ _ (λ j. purposeIn (aesEnc (same j .enc) (mam2Of m .iresponse)))
+        (unchanged (x .identity) (y .identity)) (unchanged (x .user) (y .user)))
 
   iam3-step : (held : Session) → named (held .keyid) ≡ true → Step (iam3Answer c s held) (iam3Answer d t held)
   unfolding iam3Answer areaOf
@@ -180,18 +235,23 @@ module _ (named : ℕ → Bool) (s t : Setup) (alike : SetupsAlike named s t) (x
       fine-alike _ _ _ _ (iam3-alike named s t alike m held same)
       (λ h.
       let r = iam3-right s held m h in
-      let o = asked-open named s custom (held .keyid) n (permitted-present (held .keyid) (custom .profile) (s .keys) r) r (iam3-slot s held m h) (iam3-inside s held m h) in
+      let o = asked-open named s custom (held .keyid) n (permitted-present (held .keyid) (custom .profile) (s .keys) r)
+      r (iam3-slot s held m h) (iam3-inside s held m h) in
       let block = block-alike named s t alike custom in
       entry-alike _ _ _ _ _ _ (λ j. purposeIn (aesEnc (same j .enc) (sentBlock m)))
-      (subst (λ (l : List ℕ). SameChange (x .identity) (y .identity) (storedIn Identity b (words (keyWith (held .keyid) (s .keys))) (x .identity)) l)
+      (subst (λ (l : List ℕ). SameChange (x .identity) (y .identity)
+      (storedIn Identity b (words (keyWith (held .keyid) (s .keys))) (x .identity)) l)
       (λ j. storedIn Identity (block j) (words (same j)) (y .identity))
-      (stored-alike Identity b _ (x .identity) (y .identity) (mem .identityLength) (same-in-block named s x y mem Identity b o)))
-      (subst (λ (l : List ℕ). SameChange (x .user) (y .user) (storedIn User b (words (keyWith (held .keyid) (s .keys))) (x .user)) l)
+      (stored-alike Identity b _ (x .identity) (y .identity) (mem .identityLength)
+      (same-in-block named s x y mem Identity b o)))
+      (subst (λ (l : List ℕ). SameChange (x .user) (y .user)
+      (storedIn User b (words (keyWith (held .keyid) (s .keys))) (x .user)) l)
       (λ j. storedIn User (block j) (words (same j)) (y .user))
       (stored-alike User b _ (x .user) (y .user) (mem .userLength) (same-in-block named s x y mem User b o))))
 
   module _ (first : ℕ) (rest : List ℕ) (e : m ≡ first ∷ rest) where
-    second-named : (k : Kind) → kindOf first ≡ k → carriesKeyid k ≡ true → lengthFits k m ≡ true → named (byte m 1) ≡ true
+    second-named : (k : Kind) → kindOf first ≡ k → carriesKeyid k ≡ true → lengthFits k m ≡ true
+        → named (byte m 1) ≡ true
     second-named k f h l = mine (byte m 1) (names-second m rest first k e f h l)
 
     tam1-step : kindOf first ≡ Tam1 → Step (tam1Answer c (s .keys)) (tam1Answer d (t .keys))
@@ -200,7 +260,8 @@ module _ (named : ℕ → Bool) (s t : Setup) (alike : SetupsAlike named s t) (x
         fine-alike _ _ _ _ (opening-alike named s t alike m Tam1 (tam1Of m .rfu) (byte m 1))
         (λ h.
         let n = second-named Tam1 f refl (opening-length Tam1 _ _ (s .keys) m h) in
-        reply-alike _ _ cleared (ap (λ (k : Key). tam1Reply k (tam1Of m) (sent .draws)) (whole (byte m 1) n)) (cleared-named named))
+        reply-alike _ _ cleared (ap (λ (k : Key). tam1Reply k (tam1Of m) (sent .draws)) (whole (byte m 1) n))
+        (cleared-named named))
 
     mam1-step : kindOf first ≡ Mam1 → Step (mam1Answer c (s .keys)) (mam1Answer d (t .keys))
     unfolding mam1Answer mam1Of carriesKeyid
@@ -226,11 +287,15 @@ module _ (named : ℕ → Bool) (s t : Setup) (alike : SetupsAlike named s t) (x
         fine-alike _ _ _ _ (tam2-alike named s t alike m)
         (λ h.
         let n = tam2-named f h in
-        let o = asked-open named s (tam2Of m .custom) (tam2Of m .keyid) n (tam2-key s m h) (tam2-right s m h) (tam2-slot s m h) (tam2-inside s m h) in
-        let shown = window-alike named s x y mem (blockAsked (s .profiles) (tam2Of m .custom)) o ∙ ap (windowOf (y .identity) (y .user)) (block-alike named s t alike (tam2Of m .custom)) in
-        reply-alike _ _ cleared (λ j. tam2Reply (whole (tam2Of m .keyid) n j) (tam2Of m) (shown j) (sent .draws)) (cleared-named named))
+        let o = asked-open named s (tam2Of m .custom) (tam2Of m .keyid) n (tam2-key s m h) (tam2-right s m h)
+        (tam2-slot s m h) (tam2-inside s m h) in
+        let shown = window-alike named s x y mem (blockAsked (s .profiles) (tam2Of m .custom)) o
+        ∙ ap (windowOf (y .identity) (y .user)) (block-alike named s t alike (tam2Of m .custom)) in
+        reply-alike _ _ cleared (λ j. tam2Reply (whole (tam2Of m .keyid) n j) (tam2Of m) (shown j) (sent .draws))
+        (cleared-named named))
 
-    kind-step : (held : Session) → HeldNamed named held → (k : Kind) → kindOf first ≡ k → inTurn (held .state) k ≡ true → Step (byKind c s held k) (byKind d t held k)
+    kind-step : (held : Session) → HeldNamed named held → (k : Kind) → kindOf first ≡ k → inTurn (held .state) k ≡ true
+        → Step (byKind c s held k) (byKind d t held k)
     unfolding byKind inTurn
     kind-step held h Tam1 f i = tam1-step f
     kind-step held h Tam2 f i = tam2-step f
@@ -241,20 +306,24 @@ module _ (named : ℕ → Bool) (s t : Setup) (alike : SetupsAlike named s t) (x
     kind-step held h Mam2 f i = mam2-step held (whole (held .keyid) (h (mam-waits (held .state) i)))
     kind-step held h Unsupported f i = to-initial NotSupported
 
-  message-step : (held : Session) → HeldNamed named held → (l : List ℕ) → m ≡ l → Step (ofMessage c s held l) (ofMessage d t held l)
+  message-step : (held : Session) → HeldNamed named held → (l : List ℕ) → m ≡ l
+      → Step (ofMessage c s held l) (ofMessage d t held l)
   unfolding ofMessage inOrder
   message-step held h [] e = to-initial OtherError
   message-step held h (first ∷ rest) e =
       pick-alike (offered (s .features) (kindOf first)) _ _ _ _ _ (λ j. offered (alike .features j) (kindOf first))
-      (λ o. pick-alike (inTurn (held .state) (kindOf first)) _ _ _ _ _ refl (λ i. kind-step first rest e held h (kindOf first) refl i) (to-initial OutOfTurn))
+      (λ o. pick-alike (inTurn (held .state) (kindOf first)) _ _ _ _ _ refl
+      (λ i. kind-step first rest e held h (kindOf first) refl i) (to-initial OutOfTurn))
       (to-initial NotSupported)
 
   -- one call
-  pub step-alike : (held : Session) → HeldNamed named held → Step (answerOf c (record { setup = s; session = held })) (answerOf d (record { setup = t; session = held }))
+  pub step-alike : (held : Session) → HeldNamed named held
+      → Step (answerOf c (record { setup = s; session = held })) (answerOf d (record { setup = t; session = held }))
   unfolding answerOf
   step-alike held h =
       subst (λ (w : Verdict). Step (ofBench c s held v) (ofBench d t held w))
-      (bench-alike named s t alike (length (sent .draws)) (sent .room) _ _ _ _ (mem .identityLength) (mem .userLength)) (judged-alike v)
+      (bench-alike named s t alike (length (sent .draws)) (sent .room) _ _ _ _ (mem .identityLength) (mem .userLength))
+      (judged-alike v)
     where
       v : Verdict
       v = judged (benchChecks (s .sizes) (length (sent .draws)) (sent .room) (length (x .identity)) (length (x .user)))

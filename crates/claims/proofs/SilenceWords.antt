@@ -1,4 +1,5 @@
--- The words that a message may ask for in a record's name are open, so two memories that are alike show the same window.
+-- The words that a message may ask for in a record's name are open, so two memories that are alike show the same
+-- window.
 use mathlib.Core.Path.{_≡_, refl, sym, _∙_, subst}
 use mathlib.Core.Bool.{Bool, true, false}
 use mathlib.Core.List.{List}
@@ -42,12 +43,27 @@ module _ (named : ℕ → Bool) (setup : Setup) where
   AllOpen block = (w : ℕ) → block .first .0 ≤ w → w < block .first .0 + block .words → Open named setup (block .area) w
 
   -- what a message asks for in the name of a record with the right to it, inside a profile
-  pub asked-open : (c : Custom) (keyid : ℕ) → named keyid ≡ true → hasKey keyid (setup .keys) ≡ true → permitted (keyWith keyid (setup .keys) .mpi) (c .profile) ≡ true
-      → slotNamed (setup .profiles) (c .profile) .present ≡ true → overruns (slotNamed (setup .profiles) (c .profile) .profile) (blockAsked (setup .profiles) c) ≡ false → AllOpen (blockAsked (setup .profiles) c)
+  pub asked-open : (c : Custom) (keyid : ℕ) → named keyid ≡ true → hasKey keyid (setup .keys) ≡ true
+      → permitted (keyWith keyid (setup .keys) .mpi) (c .profile) ≡ true
+      → slotNamed (setup .profiles) (c .profile) .present ≡ true
+      → overruns (slotNamed (setup .profiles) (c .profile) .profile) (blockAsked (setup .profiles) c) ≡ false
+      → AllOpen (blockAsked (setup .profiles) c)
   unfolding blockAsked wordsAsked addressOf
   asked-open c keyid n k r p o w f l =
-      let h = word-inside (slotNamed (setup .profiles) (c .profile) .profile) (c .blocksize) (c .offset) (c .blockcount + 1) w o f l in
-      record { keyid = keyid; name = n; key = k; profile = c .profile; right = r; present = p; its = refl; from = h .0; before = h .1 }
+      let h = word-inside (slotNamed (setup .profiles) (c .profile) .profile) (c .blocksize) (c .offset)
+      (c .blockcount + 1) w o f l in
+      record {
+        keyid = keyid;
+        name = n;
+        key = k;
+        profile = c .profile;
+        right = r;
+        present = p;
+        its = refl;
+        from =
+            h .0;
+        before = h .1;
+      }
 
   module _ (x y : Memory) (m : MemoriesAlike named setup x y) where
     area-long : (a : Area) → length (areaOf a (x .identity) (x .user)) ≡ length (areaOf a (y .identity) (y .user))
@@ -55,15 +71,19 @@ module _ (named : ℕ → Bool) (setup : Setup) where
     area-long Identity = m .identityLength
     area-long User = m .userLength
 
-    area-same : (a : Area) (w : ℕ) → Open named setup a w → wordOf (areaOf a (x .identity) (x .user)) w ≡ wordOf (areaOf a (y .identity) (y .user)) w
+    area-same : (a : Area) (w : ℕ) → Open named setup a w
+        → wordOf (areaOf a (x .identity) (x .user)) w ≡ wordOf (areaOf a (y .identity) (y .user)) w
     unfolding areaOf
     area-same Identity w o = m .identity w o
     area-same User w o = m .user w o
 
-    pub window-alike : (block : Block) → AllOpen block → windowOf (x .identity) (x .user) block ≡ windowOf (y .identity) (y .user) block
+    pub window-alike : (block : Block) → AllOpen block
+        → windowOf (x .identity) (x .user) block ≡ windowOf (y .identity) (y .user) block
     window-alike block o =
         window-agree block (x .identity) (x .user) (y .identity) (y .user) (area-long (block .area))
-        (λ i p q. byte-of-word (areaOf (block .area) (x .identity) (x .user)) (areaOf (block .area) (y .identity) (y .user)) i (area-same (block .area) (i / 2) (o (i / 2) (omega arith) (omega arith))))
+        (λ i p q. byte-of-word (areaOf (block .area) (x .identity) (x .user))
+        (areaOf (block .area) (y .identity) (y .user)) i
+        (area-same (block .area) (i / 2) (o (i / 2) (omega arith) (omega arith))))
 
     named-area : (a b : Area) (w : ℕ) → sameArea a b ≡ true → Open named setup b w → Open named setup a w
     unfolding sameArea areaNumber
@@ -73,12 +93,14 @@ module _ (named : ℕ → Bool) (setup : Setup) where
     named-area User User w e o = o
 
     -- a word of the block, in the area of this name, is the same in both
-    pub same-in-block : (a : Area) (block : Block) → AllOpen block → (w : ℕ) → sameArea a (block .area) ≡ true → block .first .0 ≤ w → w < block .first .0 + block .words
+    pub same-in-block : (a : Area) (block : Block) → AllOpen block → (w : ℕ) → sameArea a (block .area) ≡ true
+        → block .first .0 ≤ w → w < block .first .0 + block .words
         → wordOf (areaOf a (x .identity) (x .user)) w ≡ wordOf (areaOf a (y .identity) (y .user)) w
     same-in-block a block o w e p q = area-same a w (named-area a (block .area) w e (o w p q))
 
     -- what is open is so in what the same change makes of both
-    pub still-alike : (i j u v : List ℕ) → SameChange (x .identity) (y .identity) i j → SameChange (x .user) (y .user) u v
+    pub still-alike : (i j u v : List ℕ) → SameChange (x .identity) (y .identity) i j
+        → SameChange (x .user) (y .user) u v
         → MemoriesAlike named setup (record { identity = i; user = u }) (record { identity = j; user = v })
     still-alike i j u v f g = record {
       identityLength = f .long ∙ m .identityLength ∙ sym (f .long′);

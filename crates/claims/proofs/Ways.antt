@@ -11,5 +11,6 @@ tag-encrypts setup held m = (
   λ h. first-holds _ _ (others-hold _ _ (others-hold _ _ h)),
   λ h. first-holds _ _ (others-hold _ _ (others-hold _ _ h)),
   λ h.
-      both-left _ _ (first-holds _ _ (others-hold _ _ (others-hold _ _ (others-hold _ _ (others-hold _ _ (others-hold _ _ (others-hold _ _ (others-hold _ _ h)))))))),
+      both-left _ _ (first-holds _ _ (others-hold _ _ (others-hold _ _
+      (others-hold _ _ (others-hold _ _ (others-hold _ _ (others-hold _ _ (others-hold _ _ h)))))))),
 )

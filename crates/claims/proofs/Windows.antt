@@ -1,4 +1,5 @@
--- The words that an accepted TAM2 asks for are all there, where the setup is one that a sheet says and the areas have its sizes.
+-- The words that an accepted TAM2 asks for are all there, where the setup is one that a sheet says and the areas have
+-- its sizes.
 use mathlib.Core.Path.{_≡_, refl, sym, ap, _∙_}
 use mathlib.Core.Bool.{true, false, false≢true}
 use mathlib.Core.List.{List, [], _∷_}
@@ -40,13 +41,15 @@ slot-fine z (s ∷ ss) zero h = h .0
 slot-fine z (s ∷ ss) (suc i) h = slot-fine z ss i (h .1)
 
 -- a present profile ends in its area
-ends-in : (z : Sizes) (s : Slot) → SlotFine z s → s .present ≡ true → profileEnd (s .profile) ≤ wordsIn z (areaByte (s .profile .area))
+ends-in : (z : Sizes) (s : Slot) → SlotFine z s → s .present ≡ true
+    → profileEnd (s .profile) ≤ wordsIn z (areaByte (s .profile .area))
 unfolding profileEnd inside noSlot
 ends-in z s (inl e) p = absurd (false≢true (sym (ap (λ (t : Slot). t .present) e) ∙ p))
 ends-in z s (inr h) p =
     let n = s .profile .base .0 + s .profile .words in
     let w = wordsIn z (areaByte (s .profile .area)) in
-    leb-true n w (both-right (leb 1 (s .profile .words)) (leb n w) (both-right (leb (areaByte (s .profile .area)) 1) (both (leb 1 (s .profile .words)) (leb n w)) (h .1)))
+    leb-true n w (both-right (leb 1 (s .profile .words)) (leb n w)
+    (both-right (leb (areaByte (s .profile .area)) 1) (both (leb 1 (s .profile .words)) (leb n w)) (h .1)))
 
 module _ (setup : Setup) (identity user : List ℕ) (draws room : ℕ)
     (h : judged (benchChecks (setup .sizes) draws room (length identity) (length user)) ≡ Fine) where
@@ -63,14 +66,24 @@ module _ (setup : Setup) (identity user : List ℕ) (draws room : ℕ)
   area-long Identity = bench-identity
   area-long User = bench-user
 
-  holds-profile : (c : Custom) → Within keyLimit setup → slotNamed (setup .profiles) (c .profile) .present ≡ true → profileEnd (slotNamed (setup .profiles) (c .profile) .profile) * 2 ≤ length (areaOf (blockAsked (setup .profiles) c .area) identity user)
+  holds-profile : (c : Custom) → Within keyLimit setup → slotNamed (setup .profiles) (c .profile) .present ≡ true
+      → profileEnd (slotNamed (setup .profiles) (c .profile) .profile) * 2 ≤ length
+      (areaOf (blockAsked (setup .profiles) c .area) identity user)
   unfolding blockAsked wordsAsked addressOf slotNamed
   holds-profile c g p =
       let s = getD (setup .profiles) (c .profile) noSlot in
-      omega (arith, area-long (s .profile .area), ends-in (setup .sizes) s (slot-fine (setup .sizes) (setup .profiles) (c .profile) (g .profiles)) p)
+      omega (
+        arith,
+        area-long (s .profile .area),
+        ends-in (setup .sizes) s
+            (slot-fine (setup .sizes) (setup .profiles) (c .profile) (g .profiles)) p,
+      )
 
-  pub words-all : (c : Custom) → Within keyLimit setup → slotNamed (setup .profiles) (c .profile) .present ≡ true → overruns (slotNamed (setup .profiles) (c .profile) .profile) (blockAsked (setup .profiles) c) ≡ false
+  pub words-all : (c : Custom) → Within keyLimit setup → slotNamed (setup .profiles) (c .profile) .present ≡ true
+      → overruns (slotNamed (setup .profiles) (c .profile) .profile) (blockAsked (setup .profiles) c) ≡ false
       → length (windowOf identity user (blockAsked (setup .profiles) c)) ≡ dataLength (c .blocksize) (c .blockcount)
   unfolding windowOf
   words-all c g p o =
-      fitting-length (blockAsked (setup .profiles) c) (slotNamed (setup .profiles) (c .profile) .profile) (areaOf (blockAsked (setup .profiles) c .area) identity user) (holds-profile c g p) o ∙ asked-bytes (setup .profiles) c
+      fitting-length (blockAsked (setup .profiles) c) (slotNamed (setup .profiles) (c .profile) .profile)
+      (areaOf (blockAsked (setup .profiles) c .area) identity user) (holds-profile c g p) o
+      ∙ asked-bytes (setup .profiles) c

@@ -1,5 +1,6 @@
--- Demand 1: every call is answered. That each function takes any input and ends is its own proof, since no contract has a `requires`. Here: each number given
--- is one of the list for that function, and a refusal sends nothing, writes no memory word, and leaves the tag in the state that the list names.
+-- Demand 1: every call is answered. That each function takes any input and ends is its own proof, since no contract has
+-- a `requires`. Here: each number given is one of the list for that function, and a refusal sends nothing, writes no
+-- memory word, and leaves the tag in the state that the list names.
 use mathlib.Core.Path.{_≡_}
 use mathlib.Core.Logic.{_⊎_}
 use mathlib.Core.Bool.{Bool, false}
@@ -42,7 +43,8 @@ FromTo a b n = (a ≤ n) × (n ≤ b)
 
 -- ---- the tag
 
--- A call that was refused: its number, the room and both areas with their bytes, and the tag: in Initial with nothing held (1 to 6), or as it was (7).
+-- A call that was refused: its number, the room and both areas with their bytes, and the tag: in Initial with nothing
+-- held (1 to 6), or as it was (7).
 pub record TagRefused (tag : Tag) (identity user : List ℕ) (b : Brought) (x : Left) (f : TagFault) : Type 0 where
   pub number : FromTo 1 7 (outcomes.numberOf f)
   pub silent : x .room ≡ b .room

@@ -1,5 +1,6 @@
--- The scope paper, "Examples at the edges": (1) to (13), one statement over one table of the definitions. A row is what the definitions make of an example.
--- (8) to (10) go by the size of the block. 9.2 gives the message's bit 0 to 64-bit blocks and 1 to 16-bit blocks, which the scope paper has exchanged; `sizeOf` reads the bit.
+-- The scope paper, "Examples at the edges": (1) to (13), one statement over one table of the definitions. A row is what
+-- the definitions make of an example. (8) to (10) go by the size of the block. 9.2 gives the message's bit 0 to 64-bit
+-- blocks and 1 to 16-bit blocks, which the scope paper has exchanged; `sizeOf` reads the bit.
 use mathlib.Core.Path.{_≡_}
 use mathlib.Core.List.{List, [], _∷_}
 use Prim.Native.Nat.{ℕ}
@@ -25,7 +26,8 @@ use Rattle.offer.specs.Outcomes.{numberOf}
 abbrev pub fieldsOf : Iam3 → List ℕ
 fieldsOf f = f .custom .profile ∷ f .custom .offset .0 ∷ f .custom .blockcount ∷ f .protmode ∷ []
 
--- (8) to (10): base 32, 24 words; one data block at the Offset, of the size that the message's bit says; its first word, its last, and the refusal, 0 for none.
+-- (8) to (10): base 32, 24 words; one data block at the Offset, of the size that the message's bit says; its first
+-- word, its last, and the refusal, 0 for none.
 abbrev pub profile : Profile
 profile = record { area = User; base = record { 0 = 32 }; words = 24 }
 

@@ -1,4 +1,5 @@
--- Entry: a reader that has the keys of the record that the tag holds, and sends back the tag's challenge, is let in, with the Purpose that it sent.
+-- Entry: a reader that has the keys of the record that the tag holds, and sends back the tag's challenge, is let in,
+-- with the Purpose that it sent.
 use mathlib.Core.Path.{_≡_}
 use mathlib.Core.Bool.{true, false}
 use mathlib.Core.List.{List}
@@ -41,7 +42,8 @@ pub record Knows (keys : Keys) (key : Key) : Type 0 where
 
 -- The bench lends what it must, the tag offers the message, and waits for it (Annex A).
 pub record Waits (c : Call) (tag : KeyedTag) (kind : Kind) : Type 0 where
-  pub bench : judged (benchChecks (tag .setup .sizes) (length (c .draws)) (c .room) (length (c .identity)) (length (c .user))) ≡ Fine
+  pub bench : judged (benchChecks (tag .setup .sizes) (length (c .draws)) (c .room) (length (c .identity))
+      (length (c .user))) ≡ Fine
   pub there : offered (tag .setup .features) kind ≡ true
   pub turn : inTurn (tag .session .state) kind ≡ true
 
@@ -76,10 +78,12 @@ pub record Writable (setup : Setup) (key : Key) (custom : Custom) (protmode : �
   pub present : slotNamed (setup .profiles) (custom .profile) .present ≡ true
   pub right : permitted (key .mpi) (custom .profile) ≡ true
   pub size : sizeOffered (setup .features) (custom .blocksize) ≡ true
-  pub inside : overruns (slotNamed (setup .profiles) (custom .profile) .profile) (blockAsked (setup .profiles) custom) ≡ false
+  pub inside : overruns (slotNamed (setup .profiles) (custom .profile) .profile) (blockAsked (setup .profiles) custom) ≡
+      false
   pub unlocked : someLocked (setup .locks .table) (setup .locks .count) (blockAsked (setup .profiles) custom) ≡ false
 
--- 9.5.4, 9.5.8, 9.5.9: IAM3, in each ProtMode; the reader's data become the words of the block, and no other word changes.
+-- 9.5.4, 9.5.8, 9.5.9: IAM3, in each ProtMode; the reader's data become the words of the block, and no other word
+-- changes.
 abbrev pub Iam3Enters : Type 0
 Iam3Enters =
     (c : Call) (tag : KeyedTag) (keys : Keys) (custom : Custom) (protmode purpose : ℕ) (irnd words : List ℕ)
@@ -92,4 +96,5 @@ Iam3Enters =
     → Writable (tag .setup) (keyWith (tag .session .keyid) (tag .setup .keys)) custom protmode
     → c .message ≡ iam3Made keys custom protmode purpose irnd (tag .session .tchallenge) words
     → answerOf c tag
-    ≡ letIn c purpose (storedIn Identity (blockAsked (tag .setup .profiles) custom) words (c .identity)) (storedIn User (blockAsked (tag .setup .profiles) custom) words (c .user))
+    ≡ letIn c purpose (storedIn Identity (blockAsked (tag .setup .profiles) custom) words (c .identity))
+    (storedIn User (blockAsked (tag .setup .profiles) custom) words (c .user))

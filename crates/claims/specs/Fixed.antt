@@ -1,4 +1,5 @@
--- A reply that is accepted fixes its content: the own message, the keys, what the judge handed over and the tag's random bytes make every byte of it.
+-- A reply that is accepted fixes its content: the own message, the keys, what the judge handed over and the tag's
+-- random bytes make every byte of it.
 use mathlib.Core.Path.{_≡_}
 use mathlib.Core.Bool.{Bool, true, false}
 use mathlib.Core.List.{List, []}
@@ -24,7 +25,8 @@ use Rattle.claims.specs.Recovery.{Shares}
 abbrev pub trndIn : Keys → List ℕ → List ℕ
 trndIn keys reply = take 4 (drop 2 (openedBlock keys reply))
 
--- The reply that a tag with this record sends to a message of a kind, with these random bytes, and the data or the challenge that were found.
+-- The reply that a tag with this record sends to a message of a kind, with these random bytes, and the data or the
+-- challenge that were found.
 unfoldable pub remade : Key → List ℕ → List ℕ → Finding → Kind → List ℕ
 remade key m trnd found Tam1 = tam1Reply key (tam1Of m) trnd
 remade key m trnd found Tam2 = tam2Reply key (tam2Of m) (found .bytes) trnd
@@ -56,7 +58,8 @@ hasTrnd Mam1 = false
 hasTrnd Mam2 = false
 hasTrnd Unsupported = false
 
--- So two replies that are accepted for one message with the same finding are the same, but in TAM1 and TAM2 for the tag's random bytes and what follows from them.
+-- So two replies that are accepted for one message with the same finding are the same, but in TAM1 and TAM2 for the
+-- tag's random bytes and what follows from them.
 abbrev pub FixedTwice : Type 0
 FixedTwice =
     (keys : Keys) (key : Key) (m reply other : List ℕ) (room : ℕ)

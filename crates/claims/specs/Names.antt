@@ -27,8 +27,8 @@ carriesKeyid Mam1 = true
 carriesKeyid Mam2 = false
 carriesKeyid Unsupported = false
 
--- "A message names a record when its first byte makes it a TAM1, TAM2, IAM1 or MAM1 and its second byte is that record's KeyID,
--- also where the message is refused; a message of one byte names none."
+-- "A message names a record when its first byte makes it a TAM1, TAM2, IAM1 or MAM1 and its second byte is that
+-- record's KeyID, also where the message is refused; a message of one byte names none."
 unfoldable pub namedBy : List ℕ → ℕ → Bool
 namedBy [] keyid = false
 namedBy (first ∷ []) keyid = false
@@ -40,7 +40,8 @@ namedIn [] keyid = false
 namedIn (Message s ∷ es) keyid = either (namedBy (s .message) keyid) (namedIn es keyid)
 namedIn (PowerUp ∷ es) keyid = namedIn es keyid
 
--- A word of an area is open: it lies inside a profile that is there, and that is permitted to a record of the tag that is named.
+-- A word of an area is open: it lies inside a profile that is there, and that is permitted to a record of the tag that
+-- is named.
 pub record Open (named : ℕ → Bool) (setup : Setup) (area : Area) (w : ℕ) : Type 0 where
   pub keyid : ℕ
   pub name : named keyid ≡ true

@@ -1,5 +1,7 @@
--- Demand 2, recovery: what the reader's side makes of a tag's own answer. Whatever the message, the draws and the areas, where the tag takes the message and the reader has the keys
--- of the record that the tag uses, the judge accepts the reply, hands over exactly the words of the block that the message asks for, and holds the challenge that the tag holds.
+-- Demand 2, recovery: what the reader's side makes of a tag's own answer. Whatever the message, the draws and the
+-- areas, where the tag takes the message and the reader has the keys of the record that the tag uses, the judge accepts
+-- the reply, hands over exactly the words of the block that the message asks for, and holds the challenge that the tag
+-- holds.
 use Prim.Native.Nat.{ℕ, _≤_}
 use mathlib.Core.Path.{_≡_}
 use mathlib.Core.List.{List}
@@ -68,7 +70,8 @@ pub record Fit (c : Call) (tag : KeyedTag) (keys : Keys) : Type 0 where
 -- What the reader is to find, of an answer to a message of a kind.
 unfoldable pub due : Call → KeyedTag → Answer → Kind → Finding
 due c tag a Tam1 = nothingMore
-due c tag a Tam2 = carries (worthOf (tam2Of (c .message) .protmode)) (windowOf (c .identity) (c .user) (blockAsked (tag .setup .profiles) (tam2Of (c .message) .custom)))
+due c tag a Tam2 = carries (worthOf (tam2Of (c .message) .protmode))
+    (windowOf (c .identity) (c .user) (blockAsked (tag .setup .profiles) (tam2Of (c .message) .custom)))
 due c tag a Iam1 = issues (a .session .tchallenge)
 due c tag a Iam2 = nothingMore
 due c tag a Iam3 = nothingMore
@@ -78,8 +81,10 @@ due c tag a Unsupported = nothingMore
 
 abbrev pub Recovery : Type 0
 Recovery =
-    (c : Call) (tag : KeyedTag) (keys : Keys) (room : ℕ) → Fit c tag keys → Shares keys (keyUsed tag (c .message)) → dataRoom ≤ room → Taken (answerOf c tag .outcome)
-    → judgementOf keys (c .message) (answerOf c tag .reply) room ≡ due c tag (answerOf c tag) (kindOf (byte (c .message) 0))
+    (c : Call) (tag : KeyedTag) (keys : Keys) (room : ℕ) → Fit c tag keys → Shares keys (keyUsed tag (c .message))
+    → dataRoom ≤ room → Taken (answerOf c tag .outcome)
+    → judgementOf keys (c .message) (answerOf c tag .reply) room ≡ due c tag (answerOf c tag)
+    (kindOf (byte (c .message) 0))
 
 -- The same of the code: what `tag::step` left in the room, as far as `tag::reply_length` says, given to the judge.
 abbrev pub RecoveryCode : Type 0
@@ -91,6 +96,7 @@ RecoveryCode =
     → Shares keys (keyUsed (keyed tag table) (b .message))
     → dataRoom ≤ length room
     → Taken (x .stepped .outcome)
-    → Judges (judgementOf keys (b .message) (take (replyLength (x .stepped .outcome)) (x .room)) (length room)) room r after
+    → Judges (judgementOf keys (b .message) (take (replyLength (x .stepped .outcome)) (x .room)) (length room)) room r
+    after
     → (let c = lent (b .message) (b .draws) (b .room) identity user in
     Judges (due c (keyed tag table) (answerOf c (keyed tag table)) (kindOf (byte (b .message) 0))) room r after)

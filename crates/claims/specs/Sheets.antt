@@ -5,7 +5,15 @@ use mathlib.Core.List.{List, [], _∷_}
 use Prim.Native.Nat.{ℕ, zero, suc}
 use lib.ListN.{take, drop}
 use Rattle.sheet.specs.declared.Kind.{Kind}
-use Rattle.sheet.specs.declared.Kind.the-variants.{FeatureRecord, SizeRecord, KeyRecord, ProfileRecord, LockRecord, EndRecord, NoRecord}
+use Rattle.sheet.specs.declared.Kind.the-variants.{
+  FeatureRecord,
+  SizeRecord,
+  KeyRecord,
+  ProfileRecord,
+  LockRecord,
+  EndRecord,
+  NoRecord,
+}
 use Rattle.sheet.specs.Kinds.{kindOf, bodyLength}
 use Rattle.ground.specs.Bytes.{byteAt, wordAt, Bytes}
 use Rattle.sheet.specs.Limits.{keyLimit}

@@ -1,5 +1,5 @@
--- Demand 2 shuts out false tags (the scope paper, "What we hold a promise to"). A program is what is left of every run of
--- calls; it is the standard's tag where each run is one of the calls that the contracts of `tag::step` and
+-- Demand 2 shuts out false tags (the scope paper, "What we hold a promise to"). A program is what is left of every run
+-- of calls; it is the standard's tag where each run is one of the calls that the contracts of `tag::step` and
 -- `tag::power_up` allow (`Plays`). There is one such program, and none of the five below is it.
 use mathlib.Core.Path.{_≡_}
 use mathlib.Core.List.{List, [], _∷_}
@@ -50,9 +50,11 @@ RefusesEverything p = Always p (λ identity user x. (n : ℕ) → x .stepped .ou
 
 -- The tag with a single fixed reply: wherever it replies, the room starts with these bytes.
 abbrev pub OneFixedReply : List ℕ → Program → Type 0
-OneFixedReply reply p = Always p (λ identity user x. (n : ℕ) → x .stepped .outcome ≡ Replied n → take n (x .room) ≡ reply)
+OneFixedReply reply p = Always p (λ identity user x. (n : ℕ) → x .stepped .outcome ≡ Replied n
+    → take n (x .room) ≡ reply)
 
--- The tag that answers its first message truly and later ones for show: what the later calls leave takes no notice of what was sent in them.
+-- The tag that answers its first message truly and later ones for show: what the later calls leave takes no notice of
+-- what was sent in them.
 abbrev pub LaterForShow : Program → Type 0
 LaterForShow p =
     (table : List ℕ) (tag : Tag) (identity user : List ℕ) (d : Doing) (ds es : List Doing)
@@ -78,7 +80,8 @@ ShutOut False = (p : Program) → False p → Standard p → ⊥
 -- The layout fixes the length of every reply, so that any other length is no standard's tag's.
 unfoldable pub layoutLength : Kind → List ℕ → ℕ
 layoutLength Tam1 m = tam1ReplyLength
-layoutLength Tam2 m = tam2ReplyLength (tam2Of m .custom .blocksize) (tam2Of m .rev) (tam2Of m .custom .blockcount) (tam2Of m .protmode)
+layoutLength Tam2 m = tam2ReplyLength (tam2Of m .custom .blocksize) (tam2Of m .rev) (tam2Of m .custom .blockcount)
+    (tam2Of m .protmode)
 layoutLength Iam1 m = iam1ReplyLength
 layoutLength Iam2 m = emptyReplyLength
 layoutLength Iam3 m = emptyReplyLength

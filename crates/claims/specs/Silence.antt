@@ -1,4 +1,5 @@
--- Demand 3: one bench carries several clients' keys, and a client's secrets are not shown by what is done in another's name.
+-- Demand 3: one bench carries several clients' keys, and a client's secrets are not shown by what is done in another's
+-- name.
 use mathlib.Core.Path.{_≡_}
 use mathlib.Core.Logic.{_↔_}
 use mathlib.Core.Bool.{Bool, true}
@@ -59,15 +60,17 @@ pub record MemoriesAlike (named : ℕ → Bool) (setup : Setup) (x y : Memory) :
 
 -- ---- the same is seen
 
--- Of an area in two tags, before and now: a word in which they differed is in each as it was, and any other is the same in both.
--- So what changed in one changed in the other, and to the same value.
+-- Of an area in two tags, before and now: a word in which they differed is in each as it was, and any other is the same
+-- in both. So what changed in one changed in the other, and to the same value.
 pub record SameChange (before before′ now now′ : List ℕ) : Type 0 where
-  pub differed : (w : ℕ) → (wordOf before w ≡ wordOf before′ w → ⊥) → (wordOf now w ≡ wordOf before w) × (wordOf now′ w ≡ wordOf before′ w)
+  pub differed : (w : ℕ) → (wordOf before w ≡ wordOf before′ w → ⊥) → (wordOf now w ≡ wordOf before w)
+      × (wordOf now′ w ≡ wordOf before′ w)
   pub agreed : (w : ℕ) → wordOf before w ≡ wordOf before′ w → wordOf now w ≡ wordOf now′ w
   pub long : length now ≡ length before
   pub long′ : length now′ ≡ length before′
 
--- Two answers, of tags whose memories were x and y at power-up: the same number or reply, the same state with all that is held, the same change.
+-- Two answers, of tags whose memories were x and y at power-up: the same number or reply, the same state with all that
+-- is held, the same change.
 pub record SameAnswer (x y : Memory) (a b : Answer) : Type 0 where
   pub outcome : a .outcome ≡ b .outcome
   pub reply : a .reply ≡ b .reply
@@ -96,8 +99,8 @@ Silent =
     → MemoriesAlike (namedIn es) s x y
     → SameAnswers x y (answers s x es) (answers t y es)
 
--- The same of the code, whose calls leave what the contracts of `step` and `power_up` say: of two tags by their terms and
--- key tables, `ls` and `rs` are what is left of the same calls, with the same bytes in each room.
+-- The same of the code, whose calls leave what the contracts of `step` and `power_up` say: of two tags by their terms
+-- and key tables, `ls` and `rs` are what is left of the same calls, with the same bytes in each room.
 pub record SameLeft (x y : Memory) (l r : Left) : Type 0 where
   pub outcome : l .stepped .outcome ≡ r .stepped .outcome
   pub session : l .stepped .tag .session ≡ r .stepped .tag .session
@@ -120,9 +123,11 @@ SilentCode =
     → Plays l (awake q) (y .identity) (y .user) ds rs
     → SameLefts x y ls rs
 
--- What the same change means from one moment to another: of an area that was s and t at power-up, m and n at the one, k and l at the other.
--- A word is the same at both in one tag exactly if it is in the other, and where it is not, it has come to the same value.
+-- What the same change means from one moment to another: of an area that was s and t at power-up, m and n at the one, k
+-- and l at the other. A word is the same at both in one tag exactly if it is in the other, and where it is not, it has
+-- come to the same value.
 abbrev pub ChangeAlike : Type 0
 ChangeAlike =
     (s t m n k l : List ℕ) → SameChange s t m n → SameChange s t k l → (w : ℕ)
-    → ((wordOf m w ≡ wordOf k w) ↔ (wordOf n w ≡ wordOf l w)) × ((wordOf m w ≡ wordOf k w → ⊥) → wordOf k w ≡ wordOf l w)
+    → ((wordOf m w ≡ wordOf k w) ↔ (wordOf n w ≡ wordOf l w))
+    × ((wordOf m w ≡ wordOf k w → ⊥) → wordOf k w ≡ wordOf l w)

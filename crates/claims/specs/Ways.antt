@@ -1,4 +1,5 @@
--- Clause 5: a tag has encryption alone. What the reader sends it, it opens by AES-ENC; the Purpose is read from the block so opened.
+-- Clause 5: a tag has encryption alone. What the reader sends it, it opens by AES-ENC; the Purpose is read from the
+-- block so opened.
 use Prim.Native.Nat.{ℕ}
 use mathlib.Core.Path.{_≡_}
 use mathlib.Core.Bool.{true}
@@ -14,10 +15,14 @@ use Rattle.entry.specs.Judged.{iam2Checks, iam3Checks, mam2Checks}
 use Rattle.keytable.specs.Named.{keyWith}
 use Rattle.entry.specs.Opened.{iamProof, mamProof, sentBlock}
 
--- An IAM2, a MAM2, and an IAM3 that passes its checks proves itself in the block that AES-ENC makes of IResponse's first.
+-- An IAM2, a MAM2, and an IAM3 that passes its checks proves itself in the block that AES-ENC makes of IResponse's
+-- first.
 abbrev pub TagEncrypts : Type 0
 TagEncrypts =
     (setup : Setup) (held : Session) (m : List ℕ)
-    → (judged (iam2Checks (setup .keys) held m) ≡ Fine → iamProof C-IAM2 held (aesEnc (keyWith (held .keyid) (setup .keys) .enc) (iam2Of m .iresponse)) ≡ true)
-    × (judged (mam2Checks (setup .keys) held m) ≡ Fine → mamProof held (aesEnc (keyWith (held .keyid) (setup .keys) .enc) (mam2Of m .iresponse)) ≡ true)
-    × (judged (iam3Checks setup held m) ≡ Fine → iamProof (iam3Constant (iam3Of m .protmode)) held (aesEnc (keyWith (held .keyid) (setup .keys) .enc) (sentBlock m)) ≡ true)
+    → (judged (iam2Checks (setup .keys) held m) ≡ Fine
+    → iamProof C-IAM2 held (aesEnc (keyWith (held .keyid) (setup .keys) .enc) (iam2Of m .iresponse)) ≡ true)
+    × (judged (mam2Checks (setup .keys) held m) ≡ Fine
+    → mamProof held (aesEnc (keyWith (held .keyid) (setup .keys) .enc) (mam2Of m .iresponse)) ≡ true)
+    × (judged (iam3Checks setup held m) ≡ Fine → iamProof (iam3Constant (iam3Of m .protmode)) held
+    (aesEnc (keyWith (held .keyid) (setup .keys) .enc) (sentBlock m)) ≡ true)

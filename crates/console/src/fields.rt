@@ -1,5 +1,5 @@
-// The fields of a line. First they are all looked at, from left to right, and the first that can't be read is answered with
-// its reason; then a command takes those it needs.
+// The fields of a line. First they are all looked at, from left to right, and the first that can't be read is answered
+// with its reason; then a command takes those it needs.
 use crate::words::count;
 use crate::words::word;
 use lines::numbers::sum;
@@ -7,9 +7,9 @@ use lines::print;
 use text::DecimalRead;
 use text::HexRead;
 
-// Are there words for all fields but the last `optional` ones, no word too many, and can each be read? Fields begin at word
-// `from`, and `kinds` has a letter for each: n a number, h bytes, k sixteen bytes, m sixteen bytes or none, a an area, r a room,
-// d draws.
+// Are there words for all fields but the last `optional` ones, no word too many, and can each be read? Fields begin at
+// word `from`, and `kinds` has a letter for each: n a number, h bytes, k sixteen bytes, m sixteen bytes or none, a an
+// area, r a room, d draws.
 pub fn read(line: &[u8], from: usize, kinds: &[u8], optional: usize) -> bool {
     let words = count(line);
     if sum(words, optional) < sum(from, kinds.len()) {

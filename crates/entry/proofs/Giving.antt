@@ -186,4 +186,5 @@ module _ (setup : Setup) (held : Session) (m : List ℕ) (k : Key) (ke : k ≡ k
           → Written r i′ u′
       unfolding iam3Checks judgedTo
       iam3-settled r i′ u′ x h =
-          decides (then-fine ((proof else ProofWrong) ∷ []) (iam3FieldChecks (termsOf setup) named m) (fields-judged ∙ x)) x r i′ u′ h
+          decides (then-fine ((proof else ProofWrong) ∷ []) (iam3FieldChecks (termsOf setup) named m)
+          (fields-judged ∙ x)) x r i′ u′ h

@@ -24,7 +24,8 @@ module _ (terms : Terms) (key : Key) (m : List ℕ) (h : judged (iam3FieldChecks
   pub iam3-mode : modeSupported (terms .features) key (iam3Of m .protmode) ≡ true
   iam3-mode = first-holds _ _ (others-hold _ _ h)
 
-  pub iam3-length : length m ≡ iam3Length (iam3Of m .custom .blocksize) (iam3Of m .custom .blockcount) (iam3Of m .protmode)
+  pub iam3-length : length m ≡ iam3Length (iam3Of m .custom .blocksize) (iam3Of m .custom .blockcount)
+      (iam3Of m .protmode)
   unfolding lengthFits iam3LengthFits
   iam3-length =
       let p = mode-below (terms .features) key (iam3Of m .protmode) iam3-mode in
@@ -36,4 +37,5 @@ module _ (terms : Terms) (key : Key) (m : List ℕ) (h : judged (iam3FieldChecks
       (blockAsked (terms .profiles) (iam3Of m .custom)) ≡ false
   iam3-inside =
       let k = others-hold _ _ (others-hold _ _ (others-hold _ _ h)) in
-      not-true _ (both-second (sizeOffered (terms .features) (iam3Of m .custom .blocksize)) _ (first-holds _ _ (others-hold _ _ (others-hold _ _ k))))
+      not-true _ (both-second (sizeOffered (terms .features) (iam3Of m .custom .blocksize)) _
+      (first-holds _ _ (others-hold _ _ (others-hold _ _ k))))

@@ -102,5 +102,6 @@ pub data-most : (f : Iam3) (m : List ℕ) → Bytes m → f ≡ iam3Of m → (n 
     → n ≡ blocksLength (f .custom .blocksize) true (f .custom .blockcount) → n ≤ 144
 data-most f m h e n q =
     let fit : customFits (f .custom) ≡ true = ap (λ (g : Iam3). customFits (g .custom)) e ∙ iam3-in-range m h in
-    let most = blocks-most (f .custom .blocksize) true (f .custom .blockcount) (custom-range (f .custom) fit .blockcount) in
+    let most = blocks-most (f .custom .blocksize) true (f .custom .blockcount)
+    (custom-range (f .custom) fit .blockcount) in
     omega (arith, q, most)

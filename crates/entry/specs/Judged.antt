@@ -1,5 +1,5 @@
--- What is judged of IAM2, MAM2 and IAM3 before anything is done, in the order of the clauses and of the scope paper. A line
--- is built of its parts, each judged by a function of its own.
+-- What is judged of IAM2, MAM2 and IAM3 before anything is done, in the order of the clauses and of the scope paper. A
+-- line is built of its parts, each judged by a function of its own.
 use Prim.Native.Nat.{ℕ}
 use mathlib.Core.Bool.{Bool, not}
 use mathlib.Core.List.{List, [], _∷_, _++_}
@@ -21,7 +21,13 @@ use Rattle.frames.specs.Constants.{C-IAM2}
 use Rattle.frames.specs.Messages.{iam2Of, iam3Of, mam2Of}
 use Rattle.frames.specs.Lengths.{lengthFits}
 use Rattle.offer.specs.declared.Fault.{Fault}
-use Rattle.offer.specs.declared.Fault.the-variants.{OtherError, NotSupported, MemoryOverrun, MemoryWriteError, ProofWrong}
+use Rattle.offer.specs.declared.Fault.the-variants.{
+  OtherError,
+  NotSupported,
+  MemoryOverrun,
+  MemoryWriteError,
+  ProofWrong,
+}
 use Rattle.keytable.specs.Named.{keyWith}
 use Rattle.offer.specs.Records.{sizeOffered, modeSupported, slotNamed, blockAsked}
 use Rattle.entry.specs.declared.Session.{Session}
@@ -47,8 +53,8 @@ mam2Checks keys held m =
     closingChecks (mamProof held (aesEnc (keyWith (held .keyid) keys .enc) (mam2Of m .iresponse)))
     (mam2Of m .rfu) Mam2 m
 
--- IAM3, with the slot and the block that it names: profile, right, memory, lock. A block size that is not supported is a
--- block that is not supported: Memory Overrun.
+-- IAM3, with the slot and the block that it names: profile, right, memory, lock. A block size that is not supported is
+-- a block that is not supported: Memory Overrun.
 abbrev pub iam3BlockChecks : Terms → Key → Iam3Fields → Slot → Block → List (Check Fault)
 iam3BlockChecks terms key f slot block =
     let offers = sizeOffered (terms .features) (f .custom .blocksize) in

@@ -1,6 +1,5 @@
 // Entry: how a reader is let in by IAM (9.5) and MAM (9.6), and the words that an IAM3 writes. Each message for any
-// input:
-// whether it is offered and in its turn is not judged here.
+// input: whether it is offered and in its turn is not judged here.
 use frames::Kind;
 use frames::fields::iam1_of;
 use frames::fields::iam2_of;
@@ -34,8 +33,7 @@ pub enum State {
 }
 
 /// What the tag holds from one message to the next: its state, the KeyID that was named, its own challenge, and the
-/// last
-/// 32 bits of the reader's.
+/// last 32 bits of the reader's.
 pub struct Session {
     pub state: State,
     pub keyid: u8,
@@ -148,7 +146,8 @@ pub fn iam1(keys: &[u8], message: &[u8], draws: [u8; 10]) -> Challenged
 /// Ruled out: the first 32 bits of the reader's challenge kept; the state of IAM1.
 pub fn mam1(keys: &[u8], message: &[u8], draws: [u8; 10]) -> Challenged
     ensures { λ r. ⌜ Challenges (mam1Verdict (keysIn (now (keys .entry))) (now (message .entry)))
-        (mam1Sent (keysIn (now (keys .entry))) (now (message .entry)) draws) (mam1Held (now (message .entry)) draws) r ⌝ }
+        (mam1Sent (keysIn (now (keys .entry))) (now (message .entry)) draws)
+        (mam1Held (now (message .entry)) draws) r ⌝ }
 {
     let f = mam1_of(message);
     let verdict = offer::judged::opening(keys, Kind::Mam1, f.rfu, f.keyid, message);
@@ -225,7 +224,8 @@ pub fn iam3(
     user: &mut [u8],
 ) -> Reacted
     ensures { λ r. ⌜ Writes (iam3Verdict (setupOf terms (now (keys .entry))) held (now (message .entry)))
-        (iam3Purpose (setupOf terms (now (keys .entry))) held (now (message .entry))) (iam3Stored (setupOf terms (now (keys .entry))) held (now (message .entry)))
+        (iam3Purpose (setupOf terms (now (keys .entry))) held (now (message .entry)))
+        (iam3Stored (setupOf terms (now (keys .entry))) held (now (message .entry)))
         (now (identity .entry)) (now (user .entry)) r (now (identity .exit)) (now (user .exit)) ⌝ }
 {
     let found = keytable::find(keys, held.keyid);

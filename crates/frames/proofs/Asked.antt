@@ -1,5 +1,5 @@
--- The data of a message are the bytes of the block that it asks for, so that frames and memory count by one step; and no message asks for a
--- block of no words.
+-- The data of a message are the bytes of the block that it asks for, so that frames and memory count by one step; and
+-- no message asks for a block of no words.
 use mathlib.Core.Path.{_≡_}
 use Prim.Native.Nat.{ℕ, _+_, _*_, _<_}
 use native.Mathlib.Omega.{arith}

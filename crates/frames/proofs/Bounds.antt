@@ -43,7 +43,8 @@ pub blocks-most : (s : BlockSize) (header : Bool) (n : ℕ) → n < 16 → block
 unfolding blocksLength
 blocks-most s header n h = omega (arith, d-nine s header n h)
 
-pub tam2-reply-fits : (s : BlockSize) (rev : Bool) (n protmode : ℕ) → n < 16 → tam2ReplyLength s rev n protmode ≤ replyRoom
+pub tam2-reply-fits : (s : BlockSize) (rev : Bool) (n protmode : ℕ) → n < 16
+    → tam2ReplyLength s rev n protmode ≤ replyRoom
 unfolding tam2ReplyLength tam2MacAt
 tam2-reply-fits s rev n protmode h = omega (arith, blocks-most s rev n h, mac-bound protmode)
 
@@ -52,7 +53,8 @@ unfolding iam3Length iam3MacAt
 iam3-fits s n protmode h = omega (arith, blocks-most s true n h, mac-bound protmode)
 
 -- the other replies, and the other messages
-pub replies-fit : (tam1ReplyLength ≤ replyRoom) × (iam1ReplyLength ≤ replyRoom) × (mam1ReplyLength ≤ replyRoom) × (emptyReplyLength ≤ replyRoom)
+pub replies-fit : (tam1ReplyLength ≤ replyRoom) × (iam1ReplyLength ≤ replyRoom) × (mam1ReplyLength ≤ replyRoom)
+    × (emptyReplyLength ≤ replyRoom)
 replies-fit = (omega arith, omega arith, omega arith, omega arith)
 
 pub messages-fit : (tam1Length ≤ messageRoom)

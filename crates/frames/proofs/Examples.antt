@@ -17,7 +17,13 @@ use Rattle.frames.specs.declared.Iam3.{Iam3}
 use Rattle.frames.specs.declared.Tam2.{Tam2}
 
 abbrev custom : BlockSize → ℕ → ℕ → ℕ → Custom
-custom s profile offset blockcount = record { blocksize = s; profile = profile; offset = record { 0 = offset }; blockcount = blockcount }
+custom s profile offset blockcount = record {
+  blocksize = s;
+  profile = profile;
+  offset =
+      record { 0 = offset };
+  blockcount = blockcount;
+}
 
 -- example (7) of the scope paper: the head 58 20 05 31, its D and its length
 abbrev seventh : Iam3
@@ -61,7 +67,8 @@ unfolding tam2Message selectBytes blockSizeBit
 f17-message = refl
 
 pub f18-length : tam2ReplyLength Bits16 true 4 3 ≡ 44
-unfolding dOf carried headerPart headerLength dataLength blockBytes blocksLength hasMac macLength tam2MacAt tam2ReplyLength
+unfolding dOf carried headerPart headerLength dataLength blockBytes blocksLength hasMac macLength tam2MacAt
+    tam2ReplyLength
 f18-length = refl
 
 -- Table 1: the first two bytes, by ProtMode

@@ -49,7 +49,8 @@ same b = eqb (place (kindOf b)) (place (tableKind b))
 pub kind-table : (b : ℕ) → b < 256 → kindOf b ≡ tableKind b
 unfolding kindOf tamKind iamKind mamKind tableKind same
 kind-table b h =
-    sym (there-and-back (kindOf b)) ∙ ap at-place (eqb→eq (place (kindOf b)) (place (tableKind b)) (at-bytes same tt b h)) ∙ there-and-back (tableKind b)
+    sym (there-and-back (kindOf b)) ∙ ap at-place (eqb→eq (place (kindOf b)) (place (tableKind b))
+    (at-bytes same tt b h)) ∙ there-and-back (tableKind b)
 
 -- the first bytes of a kind: from the first on, below the second
 abbrev pub low : Kind → ℕ
@@ -79,8 +80,10 @@ pub kind-range : (b : ℕ) (k : Kind) → b < 256 → kindOf b ≡ k → (low k 
 unfolding kindOf tamKind iamKind mamKind within
 kind-range b k h e =
     let t = at-bytes within tt b h in (
-      subst (λ (j : Kind). low j ≤ b) e (leb→le (low (kindOf b)) b (T-left (leb (low (kindOf b)) b) (ltb b (high (kindOf b))) t)),
-      subst (λ (j : Kind). b < high j) e (ltb→lt b (high (kindOf b)) (T-right (leb (low (kindOf b)) b) (ltb b (high (kindOf b))) t)),
+      subst (λ (j : Kind). low j ≤ b) e (leb→le (low (kindOf b)) b
+          (T-left (leb (low (kindOf b)) b) (ltb b (high (kindOf b))) t)),
+      subst (λ (j : Kind). b < high j) e (ltb→lt b (high (kindOf b))
+          (T-right (leb (low (kindOf b)) b) (ltb b (high (kindOf b))) t)),
     )
 
 -- and each byte in that range is of the kind; for every kind but Unsupported, whose bytes are not one range

@@ -1,5 +1,5 @@
--- No second answer fits the contract of an exported function: for a function that answers a value, the value; for a builder, its answer and what the room
--- holds afterwards.
+-- No second answer fits the contract of an exported function: for a function that answers a value, the value; for a
+-- builder, its answer and what the room holds afterwards.
 use mathlib.Core.Path.{_≡_}
 use mathlib.Core.Bool.{Bool}
 use mathlib.Core.List.{List}
@@ -91,7 +91,8 @@ use Rattle.frames.proofs.parts.sixteen.Kinds as sixteen-kinds
 use Rattle.frames.proofs.parts.join.Reads as join
 use Rattle.frames.proofs.parts.join.Kinds as join-kinds
 
-one-built : (fit : Bool) (n : ℕ) (m room : List ℕ) (x y : Bool) (s t : List ℕ) → Built fit n m room x s → Built fit n m room y t
+one-built : (fit : Bool) (n : ℕ) (m room : List ℕ) (x y : Bool) (s t : List ℕ) → Built fit n m room x s
+    → Built fit n m room y t
     → _≡_ {A = Bool × List ℕ} (x, s) (y, t)
 one-built fit n m room x y s t p q i = (one (p .says) (q .says) i, one (p .holds) (q .holds) i)
 
@@ -125,7 +126,8 @@ iam3-length-one κs a x y s t p q = one p q
 pub tam2-mac-at-one : OneAnswer 0 tam2-mac-at-kinds.ps tam2-mac-at-kinds.r tam2-mac-at.Post ℕ (λ κs r s. r)
 tam2-mac-at-one κs a x y s t p q = one p q
 
-pub tam2-reply-length-one : OneAnswer 0 tam2-reply-length-kinds.ps tam2-reply-length-kinds.r tam2-reply-length.Post ℕ (λ κs r s. r)
+pub tam2-reply-length-one : OneAnswer 0 tam2-reply-length-kinds.ps tam2-reply-length-kinds.r tam2-reply-length.Post ℕ
+    (λ κs r s. r)
 tam2-reply-length-one κs a x y s t p q = one p q
 
 pub length-fits-one : OneAnswer 1 length-fits-kinds.ps length-fits-kinds.r length-fits.Post Bool (λ κs r s. r)
@@ -152,46 +154,60 @@ mam1-of-one κs a x y s t p q = one p q
 pub mam2-of-one : OneAnswer 1 mam2-of-kinds.ps mam2-of-kinds.r mam2-of.Post Mam2 (λ κs r s. r)
 mam2-of-one κs a x y s t p q = one p q
 
-pub tam1-constant-one : OneAnswer 0 tam1-constant-kinds.ps tam1-constant-kinds.r tam1-constant.Post (List ℕ) (λ κs r s. r)
+pub tam1-constant-one : OneAnswer 0 tam1-constant-kinds.ps tam1-constant-kinds.r tam1-constant.Post (List ℕ)
+    (λ κs r s. r)
 tam1-constant-one κs a x y s t p q = one p q
 
-pub tam2-constant-one : OneAnswer 0 tam2-constant-kinds.ps tam2-constant-kinds.r tam2-constant.Post (List ℕ) (λ κs r s. r)
+pub tam2-constant-one : OneAnswer 0 tam2-constant-kinds.ps tam2-constant-kinds.r tam2-constant.Post (List ℕ)
+    (λ κs r s. r)
 tam2-constant-one κs a x y s t p q = one p q
 
-pub mam1-constant-one : OneAnswer 0 mam1-constant-kinds.ps mam1-constant-kinds.r mam1-constant.Post (List ℕ) (λ κs r s. r)
+pub mam1-constant-one : OneAnswer 0 mam1-constant-kinds.ps mam1-constant-kinds.r mam1-constant.Post (List ℕ)
+    (λ κs r s. r)
 mam1-constant-one κs a x y s t p q = one p q
 
-pub mam2-constant-one : OneAnswer 0 mam2-constant-kinds.ps mam2-constant-kinds.r mam2-constant.Post (List ℕ) (λ κs r s. r)
+pub mam2-constant-one : OneAnswer 0 mam2-constant-kinds.ps mam2-constant-kinds.r mam2-constant.Post (List ℕ)
+    (λ κs r s. r)
 mam2-constant-one κs a x y s t p q = one p q
 
-pub iam2-constant-one : OneAnswer 0 iam2-constant-kinds.ps iam2-constant-kinds.r iam2-constant.Post (List ℕ) (λ κs r s. r)
+pub iam2-constant-one : OneAnswer 0 iam2-constant-kinds.ps iam2-constant-kinds.r iam2-constant.Post (List ℕ)
+    (λ κs r s. r)
 iam2-constant-one κs a x y s t p q = one p q
 
-pub iam3-constant-one : OneAnswer 0 iam3-constant-kinds.ps iam3-constant-kinds.r iam3-constant.Post (List ℕ) (λ κs r s. r)
+pub iam3-constant-one : OneAnswer 0 iam3-constant-kinds.ps iam3-constant-kinds.r iam3-constant.Post (List ℕ)
+    (λ κs r s. r)
 iam3-constant-one κs a x y s t p q = one p q
 
-pub tam1-into-one : OneAnswer 1 tam1-into-kinds.ps tam1-into-kinds.r tam1-into.Post (Bool × List ℕ) (λ κs r s. (r, now (s .1 .0)))
+pub tam1-into-one : OneAnswer 1 tam1-into-kinds.ps tam1-into-kinds.r tam1-into.Post (Bool × List ℕ)
+    (λ κs r s. (r, now (s .1 .0)))
 tam1-into-one κs a x y s t p q = one-built _ _ _ _ _ _ _ _ p q
 
-pub tam2-into-one : OneAnswer 1 tam2-into-kinds.ps tam2-into-kinds.r tam2-into.Post (Bool × List ℕ) (λ κs r s. (r, now (s .1 .0)))
+pub tam2-into-one : OneAnswer 1 tam2-into-kinds.ps tam2-into-kinds.r tam2-into.Post (Bool × List ℕ)
+    (λ κs r s. (r, now (s .1 .0)))
 tam2-into-one κs a x y s t p q = one-built _ _ _ _ _ _ _ _ p q
 
-pub iam1-into-one : OneAnswer 1 iam1-into-kinds.ps iam1-into-kinds.r iam1-into.Post (Bool × List ℕ) (λ κs r s. (r, now (s .1 .0)))
+pub iam1-into-one : OneAnswer 1 iam1-into-kinds.ps iam1-into-kinds.r iam1-into.Post (Bool × List ℕ)
+    (λ κs r s. (r, now (s .1 .0)))
 iam1-into-one κs a x y s t p q = one-built _ _ _ _ _ _ _ _ p q
 
-pub iam2-into-one : OneAnswer 1 iam2-into-kinds.ps iam2-into-kinds.r iam2-into.Post (Bool × List ℕ) (λ κs r s. (r, now (s .1 .0)))
+pub iam2-into-one : OneAnswer 1 iam2-into-kinds.ps iam2-into-kinds.r iam2-into.Post (Bool × List ℕ)
+    (λ κs r s. (r, now (s .1 .0)))
 iam2-into-one κs a x y s t p q = one-built _ _ _ _ _ _ _ _ p q
 
-pub iam3-into-one : OneAnswer 1 iam3-into-kinds.ps iam3-into-kinds.r iam3-into.Post (Bool × List ℕ) (λ κs r s. (r, now (s .1 .0)))
+pub iam3-into-one : OneAnswer 1 iam3-into-kinds.ps iam3-into-kinds.r iam3-into.Post (Bool × List ℕ)
+    (λ κs r s. (r, now (s .1 .0)))
 iam3-into-one κs a x y s t p q = one-built _ _ _ _ _ _ _ _ p q
 
-pub mam1-into-one : OneAnswer 1 mam1-into-kinds.ps mam1-into-kinds.r mam1-into.Post (Bool × List ℕ) (λ κs r s. (r, now (s .1 .0)))
+pub mam1-into-one : OneAnswer 1 mam1-into-kinds.ps mam1-into-kinds.r mam1-into.Post (Bool × List ℕ)
+    (λ κs r s. (r, now (s .1 .0)))
 mam1-into-one κs a x y s t p q = one-built _ _ _ _ _ _ _ _ p q
 
-pub mam2-into-one : OneAnswer 1 mam2-into-kinds.ps mam2-into-kinds.r mam2-into.Post (Bool × List ℕ) (λ κs r s. (r, now (s .1 .0)))
+pub mam2-into-one : OneAnswer 1 mam2-into-kinds.ps mam2-into-kinds.r mam2-into.Post (Bool × List ℕ)
+    (λ κs r s. (r, now (s .1 .0)))
 mam2-into-one κs a x y s t p q = one-built _ _ _ _ _ _ _ _ p q
 
-pub header-into-one : OneAnswer 1 header-into-kinds.ps header-into-kinds.r header-into.Post (Bool × List ℕ) (λ κs r s. (r, now (s .1 .0)))
+pub header-into-one : OneAnswer 1 header-into-kinds.ps header-into-kinds.r header-into.Post (Bool × List ℕ)
+    (λ κs r s. (r, now (s .1 .0)))
 header-into-one κs a x y s t p q = one-built _ _ _ _ _ _ _ _ p q
 
 -- the crate's own: bytes, and parts into a room

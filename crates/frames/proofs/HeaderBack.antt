@@ -1,4 +1,5 @@
--- The fields come back out of a header, so that no two custom data blocks have one header; and a header comes back out of its fields.
+-- The fields come back out of a header, so that no two custom data blocks have one header; and a header comes back out
+-- of its fields.
 use mathlib.Core.Path.{_≡_, sym, ap, _∙_}
 use mathlib.Core.Bool.{true}
 use mathlib.Core.List.{List, [], _∷_, _++_}
@@ -36,7 +37,8 @@ pub header-one : (c d : Custom) → customFits c ≡ true → customFits d ≡ t
 header-one c d fc fd e = sym (header-taken c fc) ∙ ap headerCustom e ∙ header-taken d fd
 
 -- bytes that end with zeros, as many as a header has
-module _ (h : List ℕ) (bytes : Bytes h) (long : length h ≡ headerLength (sizeOf (byte h 0 / 128))) (three : byte h 2 % 8 ≡ 0) (rest : (i : ℕ) → byte h (3 + i) ≡ 0) where
+module _ (h : List ℕ) (bytes : Bytes h) (long : length h ≡ headerLength (sizeOf (byte h 0 / 128)))
+    (three : byte h 2 % 8 ≡ 0) (rest : (i : ℕ) → byte h (3 + i) ≡ 0) where
   start-built : headerStart (headerCustom h) ≡ byte h 0 ∷ byte h 1 ∷ byte h 2 ∷ []
   unfolding headerStart headerCustom
   start-built =
@@ -45,7 +47,8 @@ module _ (h : List ℕ) (bytes : Bytes h) (long : length h ≡ headerLength (siz
       let z = byte h 2 in
       let o = x % 8 * 512 + y * 2 + z / 128 in
       let s : sizeBit (sizeOf (x / 128)) ≡ x / 128 = bit-of-size (x / 128) (omega (arith, bytes 0)) in
-      let a : sizeBit (sizeOf (x / 128)) * 128 + x / 8 % 16 * 8 + o / 512 ≡ x = omega (arith, bytes 0, bytes 1, bytes 2) in
+      let a : sizeBit (sizeOf (x / 128)) * 128 + x / 8 % 16 * 8 + o / 512 ≡ x =
+      omega (arith, bytes 0, bytes 1, bytes 2) in
       let b : o / 2 % 256 ≡ y = omega (arith, bytes 0, bytes 1, bytes 2) in
       let c : o % 2 * 128 + z / 8 % 16 * 8 ≡ z = omega (arith, bytes 0, bytes 1, bytes 2) in
       λ i. a i ∷ b i ∷ c i ∷ []
@@ -60,5 +63,6 @@ module _ (h : List ℕ) (bytes : Bytes h) (long : length h ≡ headerLength (siz
   pub header-built : headerOf (headerCustom h) ≡ h
   unfolding headerOf bytesFrom headerCustom
   header-built =
-      let t : byte h 0 ∷ byte h 1 ∷ byte h 2 ∷ [] ≡ take 3 h = bytes-taken h 3 (omega (arith, header-least (sizeOf (byte h 0 / 128)))) in
+      let t : byte h 0 ∷ byte h 1 ∷ byte h 2 ∷ [] ≡ take 3 h =
+      bytes-taken h 3 (omega (arith, header-least (sizeOf (byte h 0 / 128)))) in
       (λ i. (start-built ∙ t) i ++ zeros-built i) ∙ take-append-drop 3 h

@@ -1,4 +1,5 @@
--- A message that was taken apart is built of its fields again: of any message of bytes, of the right kind and length, each of the seven.
+-- A message that was taken apart is built of its fields again: of any message of bytes, of the right kind and length,
+-- each of the seven.
 use mathlib.Core.Path.{_≡_, ap, _∙_}
 use mathlib.Core.List.{List, [], _∷_, _++_}
 use Prim.Native.Nat.{ℕ, _+_, _*_, _/_, _%_, _≤_, _<_}
@@ -7,7 +8,15 @@ use lib.ListN.{length, take}
 use Rattle.memory.specs.declared.BlockSize.{BlockSize}
 use Rattle.frames.specs.Fields.{byte, bytesFrom, sizeBit, sizeOf, bit, flag, selectBytes, selectCustom}
 use Rattle.frames.specs.Kinds.{kindOf}
-use Rattle.frames.specs.Lengths.{tam1Length, tam2Length, iam1Length, iam2Length, iam3HeadLength, mam1Length, mam2Length}
+use Rattle.frames.specs.Lengths.{
+  tam1Length,
+  tam2Length,
+  iam1Length,
+  iam2Length,
+  iam3HeadLength,
+  mam1Length,
+  mam2Length,
+}
 use Rattle.frames.specs.Messages.{
   tam1Message,
   tam1Of,
@@ -34,7 +43,8 @@ abbrev pub Bytes : List ℕ → Type 0
 Bytes m = (i : ℕ) → byte m i < 256
 
 -- the three bytes that TAM2 and IAM3 share
-pub select-bytes : (s : BlockSize) (x y z : ℕ) → x < 256 → y < 256 → z < 256 → selectBytes (selectCustom s x y z) (z % 16) ≡ x ∷ y ∷ z ∷ []
+pub select-bytes : (s : BlockSize) (x y z : ℕ) → x < 256 → y < 256 → z < 256
+    → selectBytes (selectCustom s x y z) (z % 16) ≡ x ∷ y ∷ z ∷ []
 unfolding selectBytes selectCustom
 select-bytes s x y z hx hy hz =
     let a : x / 16 * 16 + (x % 16 * 256 + y) / 256 ≡ x = omega arith in

@@ -12,16 +12,19 @@ use Rattle.ground.specs.Choice.{both}
 use Rattle.frames.specs.Built.{Built}
 
 -- what a room holds once a part is put behind the parts p
-put-next : (room r s p d : List ℕ) (n : ℕ) → length p ≡ n → r ≡ p ++ drop n room → s ≡ take n r ++ (d ++ drop (n + length d) r)
+put-next : (room r s p d : List ℕ) (n : ℕ) → length p ≡ n → r ≡ p ++ drop n room
+    → s ≡ take n r ++ (d ++ drop (n + length d) r)
     → s ≡ (p ++ d) ++ drop (n + length d) room
 put-next room r s p d n h e f =
     let t : take n (p ++ drop n room) ≡ p = take-at p (drop n room) n h in
     let u : drop (n + length d) (p ++ drop n room) ≡ drop (n + length d) room =
-    ap (λ (k : ℕ). drop (k + length d) (p ++ drop n room)) (sym h) ∙ drop-append-add p (drop n room) (length d) ∙ drop-drop (length d) n room in
+    ap (λ (k : ℕ). drop (k + length d) (p ++ drop n room)) (sym h) ∙ drop-append-add p (drop n room) (length d)
+    ∙ drop-drop (length d) n room in
     f ∙ (rw (e, t, u, append-assoc))
 
 module _ (room a b c : List ℕ) where
-  pub joined : (r s t : List ℕ) → length a + length b + length c ≤ length room → r ≡ take 0 room ++ (a ++ drop (0 + length a) room)
+  pub joined : (r s t : List ℕ) → length a + length b + length c ≤ length room
+      → r ≡ take 0 room ++ (a ++ drop (0 + length a) room)
       → s ≡ take (length a) r ++ (b ++ drop (length a + length b) r)
       → t ≡ take (length a + length b) s ++ (c ++ drop (length a + length b + length c) s)
       → Built true (length a + length b + length c) (a ++ (b ++ c)) room true t
@@ -49,7 +52,8 @@ pub built : (fit : Bool) (n k : ℕ) (m l room after : List ℕ) (answer : Bool)
 built fit n k m l room after answer e p q h = rw (e, ← p, ← q) h
 
 -- what was built stands in the first bytes of the room
-pub built-front : (fit : Bool) (n : ℕ) (m room after : List ℕ) → length m ≡ n → Built fit n m room true after → take n after ≡ m
+pub built-front : (fit : Bool) (n : ℕ) (m room after : List ℕ) → length m ≡ n → Built fit n m room true after
+    → take n after ≡ m
 built-front fit n m room after e h =
     let p : both fit (leb n (length room)) ≡ true = sym (h .says) in
     let q : after ≡ m ++ drop n room = rw p at (h .holds) in

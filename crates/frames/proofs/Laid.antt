@@ -15,12 +15,14 @@ use Rattle.frames.specs.declared.Custom.{Custom}
 use Rattle.frames.specs.declared.Tam2.{Tam2}
 use Rattle.frames.specs.declared.Iam3.{Iam3}
 
-pub tam2-layout : (f : Tam2) (x : ℕ) (s : List ℕ) → f .rfu ≡ 0 → x ≡ 0x20 + sizeBit (f .custom .blocksize) * 16 + bit (f .rev) * 8
+pub tam2-layout : (f : Tam2) (x : ℕ) (s : List ℕ) → f .rfu ≡ 0
+    → x ≡ 0x20 + sizeBit (f .custom .blocksize) * 16 + bit (f .rev) * 8
     → s ≡ selectBytes (f .custom) (f .protmode) → (x ∷ f .keyid ∷ []) ++ (f .ichallenge ++ s) ≡ tam2Message f
 unfolding tam2Message
 tam2-layout f x s h e q = rw (h, e, q, add-zero)
 
-pub iam3-layout : (f : Iam3) (b : ℕ) (s : List ℕ) → f .rfu ≡ 0 → b ≡ sizeBit (f .custom .blocksize) → s ≡ selectBytes (f .custom) (f .protmode)
+pub iam3-layout : (f : Iam3) (b : ℕ) (s : List ℕ) → f .rfu ≡ 0 → b ≡ sizeBit (f .custom .blocksize)
+    → s ≡ selectBytes (f .custom) (f .protmode)
     → ((0x58 + b * 4) ∷ getD s 0 0 ∷ getD s 1 0 ∷ getD s 2 0 ∷ []) ++ f .iresponse ≡ iam3Head f
 unfolding iam3Head selectBytes
 iam3-layout f b s h e q = rw (h, e, q, add-zero)

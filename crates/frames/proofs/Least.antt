@@ -6,7 +6,17 @@ use Prim.Native.Nat.{ℕ, zero, suc, _+_, _*_, _/_, _≤_, _<_}
 use native.Mathlib.Omega.{arith}
 use Rattle.memory.specs.declared.BlockSize.{BlockSize}
 use Rattle.memory.specs.declared.BlockSize.the-variants.{Bits64, Bits16}
-use Rattle.frames.specs.Blocks.{blockBytes, headerLength, headerPart, dataLength, carried, IsD, dOf, printedD, blocksLength}
+use Rattle.frames.specs.Blocks.{
+  blockBytes,
+  headerLength,
+  headerPart,
+  dataLength,
+  carried,
+  IsD,
+  dOf,
+  printedD,
+  blocksLength,
+}
 
 pub data-bound : (s : BlockSize) (n : ℕ) → dataLength s n ≤ (n + 1) * 8
 unfolding dataLength blockBytes

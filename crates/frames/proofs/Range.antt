@@ -32,7 +32,8 @@ unfolding customFits
 custom-range c e =
     let r = both-right (ltb (c .profile) 16) (both (ltb (c .offset .0) 4096) (ltb (c .blockcount) 16)) e in
     record {
-      profile = ltb-true (c .profile) 16 (both-left (ltb (c .profile) 16) (both (ltb (c .offset .0) 4096) (ltb (c .blockcount) 16)) e);
+      profile = ltb-true (c .profile) 16 (both-left (ltb (c .profile) 16)
+          (both (ltb (c .offset .0) 4096) (ltb (c .blockcount) 16)) e);
       offset = ltb-true (c .offset .0) 4096 (both-left (ltb (c .offset .0) 4096) (ltb (c .blockcount) 16) r);
       blockcount = ltb-true (c .blockcount) 16 (both-right (ltb (c .offset .0) 4096) (ltb (c .blockcount) 16) r);
     }
@@ -54,7 +55,8 @@ select-range rfu c protmode e =
     }
 
 -- RFU of a message that a builder takes does not count
-pub without-rfu : (rfu : ℕ) (c : Custom) (protmode : ℕ) → selectFits rfu c protmode ≡ true → selectFits 0 c protmode ≡ true
+pub without-rfu : (rfu : ℕ) (c : Custom) (protmode : ℕ) → selectFits rfu c protmode ≡ true
+    → selectFits 0 c protmode ≡ true
 without-rfu rfu c protmode e = rw (select-range rfu c protmode e .rfu) at e
 
 -- a bit, and what it stands for

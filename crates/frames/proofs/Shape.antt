@@ -25,7 +25,15 @@ use Rattle.frames.specs.Lengths.{
   iam3Length,
   iam3LengthFits,
 }
-use Rattle.frames.specs.Messages.{tam1Message, tam2Message, iam1Message, iam2Message, iam3Head, mam1Message, mam2Message}
+use Rattle.frames.specs.Messages.{
+  tam1Message,
+  tam2Message,
+  iam1Message,
+  iam2Message,
+  iam3Head,
+  mam1Message,
+  mam2Message,
+}
 use Rattle.frames.specs.declared.Kind.the-variants.{Tam1, Tam2, Iam1, Iam2, Iam3, Mam1, Mam2}
 use Rattle.frames.specs.declared.Custom.{Custom}
 use Rattle.frames.specs.declared.Tam1.{Tam1 as Tam1Fields}
@@ -50,7 +58,8 @@ pub mam1-shape : (f : Mam1Fields) → length (f .ichallenge) ≡ 10 → f .rfu <
 unfolding mam1Message
 mam1-shape f e h = (ap (λ (n : ℕ). suc (suc n)) e, mam1-kind (0x80 + f .rfu) (omega arith) (omega arith))
 
-pub iam1-shape : (f : Iam1Fields) → f .rfu < 16 → (length (iam1Message f) ≡ iam1Length) × (kindOf (byte (iam1Message f) 0) ≡ Iam1)
+pub iam1-shape : (f : Iam1Fields) → f .rfu < 16 → (length (iam1Message f) ≡ iam1Length)
+    × (kindOf (byte (iam1Message f) 0) ≡ Iam1)
 unfolding iam1Message
 iam1-shape f h = (refl, iam1-kind (0x40 + f .rfu) (omega arith) (omega arith))
 
@@ -98,12 +107,15 @@ module _ (f : Iam3Fields) (long : length (f .iresponse) ≡ 16) where
   unfolding iam3LengthFits iam3Length iam3MacAt
   iam3-whole rest h fit mode e =
       let m = iam3Head f ++ rest in
-      let n : length m ≡ 20 + blocksLength (f .custom .blocksize) true (f .custom .blockcount) + macLength (f .protmode) =
+      let n : length m ≡ 20 + blocksLength (f .custom .blocksize) true (f .custom .blockcount) + macLength (f .protmode)
+      =
       omega (arith, length-append (iam3Head f) rest, iam3-head) in
-      rw (le-leb 4 (length m) (omega arith), iam3-taken f rest long h fit mode, eq-eqb _ _ n) (either-true (ltb 3 (f .protmode)))
+      rw (le-leb 4 (length m) (omega arith), iam3-taken f rest long h fit mode, eq-eqb _ _ n)
+      (either-true (ltb 3 (f .protmode)))
 
 pub header-long : (c : Custom) → length (headerOf c) ≡ headerLength (c .blocksize)
 unfolding headerOf headerStart
 header-long c =
-    let z : length {A = ℕ} (replicate (headerLength (c .blocksize) - 3) 0) ≡ headerLength (c .blocksize) - 3 = length-replicate {A = ℕ} (headerLength (c .blocksize) - 3) 0 in
+    let z : length {A = ℕ} (replicate (headerLength (c .blocksize) - 3) 0) ≡ headerLength (c .blocksize) - 3 =
+    length-replicate {A = ℕ} (headerLength (c .blocksize) - 3) 0 in
     omega (arith, z, header-least (c .blocksize))

@@ -1,4 +1,5 @@
--- A message that was built is taken apart into its fields again, where its fields fit their bits: for each of the seven.
+-- A message that was built is taken apart into its fields again, where its fields fit their bits: for each of the
+-- seven.
 use mathlib.Core.Path.{_≡_, ap, _∙_}
 use mathlib.Core.Bool.{true}
 use mathlib.Core.List.{List, _++_}
@@ -35,7 +36,8 @@ use Rattle.frames.proofs.Range.{custom-range, size-bit-lt, size-of-bit,
 
 -- the three bytes that TAM2 and IAM3 share
 module _ (c : Custom) (p : ℕ) (fit : customFits c ≡ true) (lt : p < 16) where
-  select-custom : selectCustom (c .blocksize) (c .profile * 16 + c .offset .0 / 256) (c .offset .0 % 256) (c .blockcount * 16 + p) ≡ c
+  select-custom : selectCustom (c .blocksize) (c .profile * 16 + c .offset .0 / 256) (c .offset .0 % 256)
+      (c .blockcount * 16 + p) ≡ c
   unfolding selectCustom
   select-custom =
       let r = custom-range c fit in
@@ -77,7 +79,8 @@ mam2-taken f e h =
     let r : (0x90 + f .rfu) % 16 ≡ f .rfu = omega arith in
     λ i. record { rfu = r i; iresponse = whole (f .iresponse) 16 e i }
 
-module _ (f : Tam2) (long : length (f .ichallenge) ≡ 10) (rfu : f .rfu < 8) (fit : customFits (f .custom) ≡ true) (mode : f .protmode < 16) where
+module _ (f : Tam2) (long : length (f .ichallenge) ≡ 10) (rfu : f .rfu < 8) (fit : customFits (f .custom) ≡ true)
+    (mode : f .protmode < 16) where
   -- the message behind its first two bytes, and its first byte
   abbrev tam2-rest : List ℕ
   tam2-rest = f .ichallenge ++ selectBytes (f .custom) (f .protmode)
@@ -85,23 +88,33 @@ module _ (f : Tam2) (long : length (f .ichallenge) ≡ 10) (rfu : f .rfu < 8) (f
   abbrev tam2-first : ℕ
   tam2-first = 0x20 + sizeBit (f .custom .blocksize) * 16 + bit (f .rev) * 8 + f .rfu
 
-  tam2-custom : selectCustom (sizeOf (tam2-first / 16 % 2)) (getD tam2-rest 10 0) (getD tam2-rest 11 0) (getD tam2-rest 12 0) ≡ f .custom
+  tam2-custom : selectCustom (sizeOf (tam2-first / 16 % 2)) (getD tam2-rest 10 0) (getD tam2-rest 11 0)
+      (getD tam2-rest 12 0) ≡ f .custom
   unfolding selectBytes
   tam2-custom =
       let s = selectBytes (f .custom) (f .protmode) in
-      let b : tam2-first / 16 % 2 ≡ sizeBit (f .custom .blocksize) = omega (arith, size-bit-lt (f .custom .blocksize), bit-lt (f .rev)) in
-      rw (b, size-of-bit (f .custom .blocksize), behind (f .ichallenge) s 10 0 long, behind (f .ichallenge) s 10 1 long, behind (f .ichallenge) s 10 2 long)
+      let b : tam2-first / 16 % 2 ≡ sizeBit (f .custom .blocksize) =
+      omega (arith, size-bit-lt (f .custom .blocksize), bit-lt (f .rev)) in
+      rw (
+        b,
+        size-of-bit (f .custom .blocksize),
+        behind (f .ichallenge) s 10 0 long,
+        behind (f .ichallenge) s 10 1 long,
+        behind (f .ichallenge) s 10 2 long,
+      )
       (select-custom (f .custom) (f .protmode) fit mode)
 
   tam2-mode : getD tam2-rest 12 0 % 16 ≡ f .protmode
   unfolding selectBytes
-  tam2-mode = rw (behind (f .ichallenge) (selectBytes (f .custom) (f .protmode)) 10 2 long) (select-mode (f .custom) (f .protmode) fit mode)
+  tam2-mode = rw (behind (f .ichallenge) (selectBytes (f .custom) (f .protmode)) 10 2 long)
+      (select-mode (f .custom) (f .protmode) fit mode)
 
   pub tam2-taken : tam2Of (tam2Message f) ≡ f
   unfolding tam2Of tam2Message bytesFrom
   tam2-taken =
       let v : flag (tam2-first / 8 % 2) ≡ f .rev =
-      ap flag (let b : tam2-first / 8 % 2 ≡ bit (f .rev) = omega (arith, size-bit-lt (f .custom .blocksize), bit-lt (f .rev)) in b) ∙ flag-of-bit (f .rev) in
+      ap flag (let b : tam2-first / 8 % 2 ≡ bit (f .rev) =
+      omega (arith, size-bit-lt (f .custom .blocksize), bit-lt (f .rev)) in b) ∙ flag-of-bit (f .rev) in
       let r : tam2-first % 8 ≡ f .rfu = omega arith in
       λ i. record {
         rev = v i;
@@ -113,14 +126,16 @@ module _ (f : Tam2) (long : length (f .ichallenge) ≡ 10) (rfu : f .rfu < 8) (f
       }
 
 -- of IAM3 the head, whatever follows it
-module _ (f : Iam3) (rest : List ℕ) (long : length (f .iresponse) ≡ 16) (rfu : f .rfu < 4) (fit : customFits (f .custom) ≡ true) (mode : f .protmode < 16) where
+module _ (f : Iam3) (rest : List ℕ) (long : length (f .iresponse) ≡ 16) (rfu : f .rfu < 4)
+    (fit : customFits (f .custom) ≡ true) (mode : f .protmode < 16) where
   pub iam3-taken : iam3Of (iam3Head f ++ rest) ≡ f
   unfolding iam3Of iam3Head selectBytes bytesFrom
   iam3-taken =
       let x = 0x58 + sizeBit (f .custom .blocksize) * 4 + f .rfu in
       let b : x / 4 % 2 ≡ sizeBit (f .custom .blocksize) = omega (arith, size-bit-lt (f .custom .blocksize)) in
       let r : x % 4 ≡ f .rfu = omega arith in
-      let c : selectCustom (sizeOf (x / 4 % 2)) (f .custom .profile * 16 + f .custom .offset .0 / 256) (f .custom .offset .0 % 256) (f .custom .blockcount * 16 + f .protmode) ≡ f .custom =
+      let c : selectCustom (sizeOf (x / 4 % 2)) (f .custom .profile * 16 + f .custom .offset .0 / 256)
+      (f .custom .offset .0 % 256) (f .custom .blockcount * 16 + f .protmode) ≡ f .custom =
       rw (b, size-of-bit (f .custom .blocksize)) (select-custom (f .custom) (f .protmode) fit mode) in
       λ i. record {
         rfu = r i;

@@ -45,7 +45,13 @@ selectBytes c protmode =
 
 -- the same three bytes x, y and z taken apart
 unfoldable pub selectCustom : BlockSize → ℕ → ℕ → ℕ → Custom
-selectCustom s x y z = record { blocksize = s; profile = x / 16; offset = record { 0 = x % 16 * 256 + y }; blockcount = z / 16 }
+selectCustom s x y z = record {
+  blocksize = s;
+  profile = x / 16;
+  offset = record { 0 = x % 16 * 256 + y };
+  blockcount =
+      z / 16;
+}
 
 abbrev pub selectProtMode : ℕ → ℕ
 selectProtMode z = z % 16

@@ -51,7 +51,8 @@ iam3MacAt s n = iam3HeadLength + blocksLength s true n
 unfoldable pub iam3Length : BlockSize → ℕ → ℕ → ℕ
 iam3Length s n protmode = iam3MacAt s n + macLength protmode
 
--- the scope paper: IAM3 has its first 4 bytes, and in ProtModes 0 to 3 its length; ProtModes 4 to 15 have no length of their own
+-- the scope paper: IAM3 has its first 4 bytes, and in ProtModes 0 to 3 its length; ProtModes 4 to 15 have no length of
+-- their own
 unfoldable pub iam3LengthFits : List ℕ → Bool
 iam3LengthFits m =
     both (leb iam3FieldsLength (length m))

@@ -5,7 +5,18 @@ use mathlib.Core.Bool.{Bool}
 use mathlib.Core.List.{List, [], _∷_, _++_}
 use lib.Dec.{eqb, ltb}
 use Rattle.ground.specs.Choice.{both}
-use Rattle.frames.specs.Fields.{byte, bytesFrom, bit, flag, sizeBit, sizeOf, customFits, selectBytes, selectCustom, selectProtMode}
+use Rattle.frames.specs.Fields.{
+  byte,
+  bytesFrom,
+  bit,
+  flag,
+  sizeBit,
+  sizeOf,
+  customFits,
+  selectBytes,
+  selectCustom,
+  selectProtMode,
+}
 use Rattle.frames.specs.declared.Custom.{Custom}
 use Rattle.frames.specs.declared.Tam1.{Tam1}
 use Rattle.frames.specs.declared.Tam2.{Tam2}
@@ -54,8 +65,9 @@ iam2Message f = (0x50 + f .rfu) ∷ f .iresponse
 unfoldable pub iam2Of : List ℕ → Iam2
 iam2Of m = record { rfu = byte m 0 % 8; iresponse = bytesFrom m 1 16 }
 
--- Table 18, IAM3: AuthMethod = 01, Step = 01, CustomData = 1, BlockSize[0:0], RFU[1:0]; Profile[3:0], Offset[11:0], BlockCount[3:0], ProtMode[3:0];
--- and of IResponse the AuthenticationBlock (9.5.8.1 a). The D data blocks and the MAC follow.
+-- Table 18, IAM3: AuthMethod = 01, Step = 01, CustomData = 1, BlockSize[0:0], RFU[1:0]; Profile[3:0], Offset[11:0],
+-- BlockCount[3:0], ProtMode[3:0]; and of IResponse the AuthenticationBlock (9.5.8.1 a). The D data blocks and the MAC
+-- follow.
 unfoldable pub iam3Head : Iam3 → List ℕ
 iam3Head f =
     (0x58 + sizeBit (f .custom .blocksize) * 4 + f .rfu) ∷ (selectBytes (f .custom) (f .protmode) ++ f .iresponse)
@@ -75,7 +87,8 @@ mam1Message f = (0x80 + f .rfu) ∷ f .keyid ∷ f .ichallenge
 unfoldable pub mam1Of : List ℕ → Mam1
 mam1Of m = record { rfu = byte m 0 % 16; keyid = byte m 1; ichallenge = bytesFrom m 2 10 }
 
--- Table 25, MAM2: AuthMethod = 10, Step = 01, RFU[3:0]; IResponse[127:0]. 9.6.5 checks RFU[2:0]; the field has four bits, and all four count
+-- Table 25, MAM2: AuthMethod = 10, Step = 01, RFU[3:0]; IResponse[127:0]. 9.6.5 checks RFU[2:0]; the field has four
+-- bits, and all four count
 unfoldable pub mam2Message : Mam2 → List ℕ
 mam2Message f = (0x90 + f .rfu) ∷ f .iresponse
 

@@ -20,8 +20,26 @@ ghost use Rattle.frames.specs.Blocks.{headerLength};
 ghost use Rattle.frames.specs.Built.{Built};
 ghost use Rattle.frames.specs.Fields.{bit, sizeBit, customFits, selectBytes};
 ghost use Rattle.frames.specs.Header.{headerStart, headerOf};
-ghost use Rattle.frames.specs.Lengths.{tam1Length, tam2Length, iam1Length, iam2Length, iam3HeadLength, mam1Length, mam2Length};
-ghost use Rattle.frames.specs.Messages.{rfuFits, selectFits, tam1Message, tam2Message, iam1Message, iam2Message, iam3Head, mam1Message, mam2Message};
+ghost use Rattle.frames.specs.Lengths.{
+  tam1Length,
+  tam2Length,
+  iam1Length,
+  iam2Length,
+  iam3HeadLength,
+  mam1Length,
+  mam2Length,
+};
+ghost use Rattle.frames.specs.Messages.{
+  rfuFits,
+  selectFits,
+  tam1Message,
+  tam2Message,
+  iam1Message,
+  iam2Message,
+  iam3Head,
+  mam1Message,
+  mam2Message,
+};
 
 // BlockSize as its bit.
 fn size_bit(size: BlockSize) -> u8
@@ -76,21 +94,24 @@ fn select(custom: Custom, protmode: u8) -> [u8; 3]
 
 // A message that has a challenge after its first two bytes.
 fn with_challenge(room: &mut [u8], head: [u8; 2], ichallenge: [u8; 10], rest: &[u8]) -> bool
-    ensures { λ r. ⌜ Built true (12 + length (now (rest .entry))) (head ++ (ichallenge ++ now (rest .entry))) (now (room .entry)) r (now (room .exit)) ⌝ }
+    ensures { λ r. ⌜ Built true (12 + length (now (rest .entry))) (head ++ (ichallenge ++ now (rest .entry)))
+        (now (room .entry)) r (now (room .exit)) ⌝ }
 {
     join(room, &head, &ichallenge, rest)
 }
 
 // Two parts, one after the other.
 fn pair(room: &mut [u8], a: &[u8], b: &[u8]) -> bool
-    ensures { λ r. ⌜ Built true (length (now (a .entry)) + length (now (b .entry))) (now (a .entry) ++ now (b .entry)) (now (room .entry)) r (now (room .exit)) ⌝ }
+    ensures { λ r. ⌜ Built true (length (now (a .entry)) + length (now (b .entry))) (now (a .entry) ++ now (b .entry))
+        (now (room .entry)) r (now (room .exit)) ⌝ }
 {
     join(room, a, b, &b[0..0])
 }
 
 // A message that ends with a block of IResponse.
 fn with_response(room: &mut [u8], head: &[u8], iresponse: [u8; 16]) -> bool
-    ensures { λ r. ⌜ Built true (length (now (head .entry)) + 16) (now (head .entry) ++ iresponse) (now (room .entry)) r (now (room .exit)) ⌝ }
+    ensures { λ r. ⌜ Built true (length (now (head .entry)) + 16) (now (head .entry) ++ iresponse) (now (room .entry)) r
+        (now (room .exit)) ⌝ }
 {
     pair(room, head, &iresponse)
 }
@@ -136,7 +157,8 @@ pub fn tam1_into(f: Tam1, room: &mut [u8]) -> bool
 
 // Table 6. Ruled out: BlockSize 1 for 64-bit blocks, and an Offset of 4096 cut to 12 bits.
 pub fn tam2_into(f: Tam2, room: &mut [u8]) -> bool
-    ensures { λ r. ⌜ Built (selectFits (f .rfu) (f .custom) (f .protmode)) tam2Length (tam2Message f) (now (room .entry)) r (now (room .exit)) ⌝ }
+    ensures { λ r. ⌜ Built (selectFits (f .rfu) (f .custom) (f .protmode)) tam2Length (tam2Message f)
+        (now (room .entry)) r (now (room .exit)) ⌝ }
 {
     let custom = f.custom;
     if !select_fits(f.rfu, custom, f.protmode) {
@@ -176,7 +198,8 @@ pub fn iam2_into(f: Iam2, room: &mut [u8]) -> bool
 // Table 18, up to the first block of IResponse; the data blocks and the MAC are the caller's.
 // Ruled out: BlockSize in the place of CustomData, and a room filled past its first 20 bytes.
 pub fn iam3_into(f: Iam3, room: &mut [u8]) -> bool
-    ensures { λ r. ⌜ Built (selectFits (f .rfu) (f .custom) (f .protmode)) iam3HeadLength (iam3Head f) (now (room .entry)) r (now (room .exit)) ⌝ }
+    ensures { λ r. ⌜ Built (selectFits (f .rfu) (f .custom) (f .protmode)) iam3HeadLength (iam3Head f)
+        (now (room .entry)) r (now (room .exit)) ⌝ }
 {
     let custom = f.custom;
     if !select_fits(f.rfu, custom, f.protmode) {
@@ -216,7 +239,8 @@ pub fn mam2_into(f: Mam2, room: &mut [u8]) -> bool
 
 // HEADER (9.2). Ruled out: Offset before Profile, and eight bytes for 16-bit blocks.
 pub fn header_into(custom: Custom, room: &mut [u8]) -> bool
-    ensures { λ r. ⌜ Built (customFits custom) (headerLength (custom .blocksize)) (headerOf custom) (now (room .entry)) r (now (room .exit)) ⌝ }
+    ensures { λ r. ⌜ Built (customFits custom) (headerLength (custom .blocksize)) (headerOf custom) (now (room .entry))
+        r (now (room .exit)) ⌝ }
 {
     if !custom_fits(custom) {
         return false;

@@ -1,7 +1,17 @@
 // The constants of Table 1, as the first two bytes of the block that carries them.
 ghost use mathlib.Core.Path.{_≡_};
 ghost use Prim.Native.Nat.{_<_};
-ghost use Rattle.frames.specs.Constants.{C-TAM1, C-MAM1, C-MAM2, C-IAM2, byMode, tam2Constant, iam3Constant, twoBytes, withPurpose};
+ghost use Rattle.frames.specs.Constants.{
+  C-TAM1,
+  C-MAM1,
+  C-MAM2,
+  C-IAM2,
+  byMode,
+  tam2Constant,
+  iam3Constant,
+  twoBytes,
+  withPurpose,
+};
 
 // A constant of 16 bits.
 fn two_bytes(c: u16) -> [u8; 2]

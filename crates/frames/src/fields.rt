@@ -93,7 +93,8 @@ pub fn iam2_of(m: &[u8]) -> Iam2
     }
 }
 
-// Table 18, up to the first block of IResponse. Ruled out: BlockSize read from a bit of RFU, and BlockCount and ProtMode exchanged.
+// Table 18, up to the first block of IResponse. Ruled out: BlockSize read from a bit of RFU, and BlockCount and
+// ProtMode exchanged.
 pub fn iam3_of(m: &[u8]) -> Iam3
     ensures { λ r. ⌜ r ≡ iam3Of (now (m .entry)) ⌝ }
 {
@@ -122,7 +123,8 @@ pub fn mam1_of(m: &[u8]) -> Mam1
     }
 }
 
-// Table 25: all four bits of RFU. Ruled out: three of them, by which 98 would pass, and an IResponse that starts at the first byte.
+// Table 25: all four bits of RFU. Ruled out: three of them, by which 98 would pass, and an IResponse that starts at the
+// first byte.
 pub fn mam2_of(m: &[u8]) -> Mam2
     ensures { λ r. ⌜ r ≡ mam2Of (now (m .entry)) ⌝ }
 {

@@ -59,7 +59,8 @@ pub fn sixteen(m: &[u8], at: usize) -> [u8; 16]
 // Puts src into a room from place at on.
 fn put(room: &mut [u8], at: usize, src: &[u8])
     requires { ⌜ at + length (now src) ≤ length (now room) ⌝ }
-    ensures { λ _. ⌜ now (room .exit) ≡ take at (now (room .entry)) ++ (now (src .entry) ++ drop (at + length (now (src .entry))) (now (room .entry))) ⌝ }
+    ensures { λ _. ⌜ now (room .exit) ≡ take at (now (room .entry)) ++
+        (now (src .entry) ++ drop (at + length (now (src .entry))) (now (room .entry))) ⌝ }
 {
     let e = at + src.len();
     fill(&mut room[at..e], src);

@@ -9,7 +9,15 @@ use memory::address;
 ghost use mathlib.Core.Path.{_≡_};
 ghost use Rattle.frames.specs.Asked.{blockAsked};
 ghost use Rattle.frames.specs.Blocks.{headerLength, dataLength, dOf, blocksLength};
-ghost use Rattle.frames.specs.Lengths.{macLength, iam3MacAt, iam3Length, tam2MacAt, tam2ReplyLength, iam3LengthFits, lengthFits};
+ghost use Rattle.frames.specs.Lengths.{
+  macLength,
+  iam3MacAt,
+  iam3Length,
+  tam2MacAt,
+  tam2ReplyLength,
+  iam3LengthFits,
+  lengthFits,
+};
 
 // H (9.2). Ruled out: 8 for 16-bit blocks, and H counted in bits.
 pub fn header_length(size: BlockSize) -> usize
@@ -96,7 +104,8 @@ pub fn tam2_mac_at(size: BlockSize, rev: bool, blockcount: u8) -> usize
     16 + blocks_length(size, rev, blockcount)
 }
 
-// The bytes of a TAM2 reply (Tables 7 to 14). Ruled out: the authentication block left out, and Rev 0 and Rev 1 exchanged.
+// The bytes of a TAM2 reply (Tables 7 to 14). Ruled out: the authentication block left out, and Rev 0 and Rev 1
+// exchanged.
 pub fn tam2_reply_length(size: BlockSize, rev: bool, blockcount: u8, protmode: u8) -> usize
     ensures { λ r. ⌜ r ≡ tam2ReplyLength size rev blockcount protmode ⌝ }
 {

@@ -25,7 +25,8 @@ module _ (profile : Profile) (block : Block) where
       let none : block .words ≤ 0 = omega arith in
       simp (le-ltb 0 _ none)
 
-  pub fits-behind : (block .words ≡ 0 → ⊥) → profile .base .0 + profile .words ≤ block .first .0 → false ≡ not (overruns profile block)
+  pub fits-behind : (block .words ≡ 0 → ⊥) → profile .base .0 + profile .words ≤ block .first .0
+      → false ≡ not (overruns profile block)
   unfolding overruns lastWord profileEnd
   fits-behind n h =
       let full : 0 < block .words = omega arith in

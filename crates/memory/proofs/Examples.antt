@@ -1,5 +1,5 @@
--- The scope paper's examples (8) to (10), with the sizes that 9.2 gives the two values of BlockSize: the paper has them exchanged.
--- What 9.2 makes of the paper's own wording stands beside them, and the edges of locks and MPI.
+-- The scope paper's examples (8) to (10), with the sizes that 9.2 gives the two values of BlockSize: the paper has them
+-- exchanged. What 9.2 makes of the paper's own wording stands beside them, and the edges of locks and MPI.
 use mathlib.Core.Path.{_≡_, refl}
 use mathlib.Core.Bool.{true, false}
 use Prim.Native.Nat.{ℕ}
@@ -10,7 +10,16 @@ use Rattle.memory.specs.declared.Profile.{Profile}
 use Rattle.memory.specs.declared.Block.{Block}
 use Rattle.memory.specs.declared.Lock.{Lock}
 use Rattle.memory.specs.Rights.{holds, some, meets, permitted}
-use Rattle.memory.specs.Address.{areaNumber, sameArea, blockSizeBit, stepOf, addressOf, lastWord, profileEnd, overruns}
+use Rattle.memory.specs.Address.{
+  areaNumber,
+  sameArea,
+  blockSizeBit,
+  stepOf,
+  addressOf,
+  lastWord,
+  profileEnd,
+  overruns,
+}
 
 -- base 32, 24 words
 abbrev pub profile : Profile
@@ -50,12 +59,14 @@ abbrev lock : ℕ → Lock
 lock w = record { area = User; first = record { 0 = w }; words = 1 }
 
 -- words 52 to 55 are locked by a lock on the first or the last of them, and by none on the word before or after
-pub locked-edges : (meets (at Bits64 5) (lock 51) ≡ false) × (meets (at Bits64 5) (lock 52) ≡ true) × (meets (at Bits64 5) (lock 55) ≡ true)
+pub locked-edges : (meets (at Bits64 5) (lock 51) ≡ false) × (meets (at Bits64 5) (lock 52) ≡ true)
+    × (meets (at Bits64 5) (lock 55) ≡ true)
     × (meets (at Bits64 5) (lock 56) ≡ false)
 unfolding addressOf stepOf meets some holds sameArea areaNumber
 locked-edges = (refl, refl, refl, refl)
 
 -- MPI 0007 permits profile 2 and not profile 3, and 8000 permits profile 15
-pub permitted-edges : (permitted 0x0007 2 ≡ true) × (permitted 0x0007 3 ≡ false) × (permitted 0x8000 15 ≡ true) × (permitted 0x8000 0 ≡ false)
+pub permitted-edges : (permitted 0x0007 2 ≡ true) × (permitted 0x0007 3 ≡ false) × (permitted 0x8000 15 ≡ true)
+    × (permitted 0x8000 0 ≡ false)
 unfolding permitted
 permitted-edges = (refl, refl, refl, refl)

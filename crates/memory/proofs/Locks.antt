@@ -1,4 +1,5 @@
--- `someLocked` says yes exactly if a word address lies in the block and in a lock in use, in the same area; and the steps of `overlaps` and `locked`.
+-- `someLocked` says yes exactly if a word address lies in the block and in a lock in use, in the same area; and the
+-- steps of `overlaps` and `locked`.
 use mathlib.Core.Path.{_≡_, sym, ap, _∙_}
 use mathlib.Core.Logic.{_⊎_, ⊎-elim, _↔_}
 use mathlib.Core.Bool.{Bool, true, false, or-true, false≢true}
@@ -32,7 +33,8 @@ module _ (test : ℕ → Bool) where
   some-where (suc n) i h =
       ⊎-elim
       (λ (e : test i ≡ true). (i, omega arith, omega arith, e))
-      (λ (l : some test (suc i) n ≡ true). let s = some-where n (suc i) l in (s .0, omega (arith, s .1), omega (arith, s .2), s .3))
+      (λ (l : some test (suc i) n ≡ true). let s = some-where n (suc i) l in
+      (s .0, omega (arith, s .1), omega (arith, s .2), s .3))
       (either (test i) (some test (suc i) n) h)
 
 -- the word `w` lies in the block and in the lock, in one area
@@ -70,7 +72,8 @@ module _ (block : Block) (lock : Lock) where
   pub apart : (areaNumber (lock .area) ≡ areaNumber (block .area) → ⊥) → false ≡ meets block lock
   apart n = sym (never (meets block lock) (λ h. n (meets-where h .1 .area)))
 
-  pub behind : (w : ℕ) → w ≡ max (block .first .0) (lock .first .0) → lock .first .0 + lock .words ≤ w → false ≡ meets block lock
+  pub behind : (w : ℕ) → w ≡ max (block .first .0) (lock .first .0) → lock .first .0 + lock .words ≤ w
+      → false ≡ meets block lock
   behind w e h =
       sym (never (meets block lock) (λ t. let s = meets-where t in let k = s .1 in let z : ⊥ = omega arith in z))
 
@@ -97,13 +100,15 @@ abbrev pub NoneBefore : Block → List Lock → ℕ → Type 0
 NoneBefore block locks i = (k : ℕ) → k < i → meets block (getD locks k noLock) ≡ false
 
 module _ (block : Block) where
-  any-at : (locks : List Lock) (i : ℕ) → i < length locks → meets block (getD locks i noLock) ≡ true → meetsAny block locks ≡ true
+  any-at : (locks : List Lock) (i : ℕ) → i < length locks → meets block (getD locks i noLock) ≡ true
+      → meetsAny block locks ≡ true
   unfolding meetsAny
   any-at [] i p h = let z : ⊥ = omega arith in absurd z
   any-at (lock ∷ locks) zero p h = simp h
   any-at (lock ∷ locks) (suc i) p h = simp (any-at locks i (omega arith) h, or-true)
 
-  any-where : (locks : List Lock) → meetsAny block locks ≡ true → (i : ℕ) × (i < length locks) × (meets block (getD locks i noLock) ≡ true)
+  any-where : (locks : List Lock) → meetsAny block locks ≡ true → (i : ℕ) × (i < length locks)
+      × (meets block (getD locks i noLock) ≡ true)
   unfolding meetsAny
   any-where [] h = absurd (false≢true h)
   any-where (lock ∷ locks) h =
@@ -114,7 +119,8 @@ module _ (block : Block) where
 
   module _ (locks : List Lock) (used : ℕ) where
     -- a lock in use, the i-th, has a word in common with the block
-    pub locked-at : (i : ℕ) → i < used → i < length locks → meets block (getD locks i noLock) ≡ true → someLocked locks used block ≡ true
+    pub locked-at : (i : ℕ) → i < used → i < length locks → meets block (getD locks i noLock) ≡ true
+        → someLocked locks used block ≡ true
     unfolding someLocked
     locked-at i p q h =
         any-at (take used locks) i (omega (arith, length-take used locks)) (simp (getD-take used locks i noLock p) h)
@@ -129,11 +135,13 @@ module _ (block : Block) where
         (s .0, p, omega (arith, s .1), simp (getD-take used locks (s .0) noLock p) at (s .2))
 
     -- the end of `locked`: every lock in use was passed
-    pub locked-none : (i : ℕ) → (used ≤ i) ⊎ (length locks ≤ i) → NoneBefore block locks i → false ≡ someLocked locks used block
+    pub locked-none : (i : ℕ) → (used ≤ i) ⊎ (length locks ≤ i) → NoneBefore block locks i
+        → false ≡ someLocked locks used block
     locked-none i e h =
         sym (never (someLocked locks used block) (λ t.
         let s = locked-where t in
-        let p : s .0 < i = ⊎-elim (λ (u : used ≤ i). omega (arith, s .1)) (λ (l : length locks ≤ i). omega (arith, s .2)) e in
+        let p : s .0 < i = ⊎-elim (λ (u : used ≤ i). omega (arith, s .1))
+        (λ (l : length locks ≤ i). omega (arith, s .2)) e in
         false≢true (sym (h (s .0) p) ∙ s .3)))
 
     -- exactly where some word lies in the block and in a lock in use, in one area

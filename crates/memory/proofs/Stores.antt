@@ -1,4 +1,5 @@
--- What a store leaves in an area: the block's bytes are the ones stored, every other is as it was, and none is added or lost.
+-- What a store leaves in an area: the block's bytes are the ones stored, every other is as it was, and none is added or
+-- lost.
 use mathlib.Core.Path.{_≡_, refl, ap, ap₂, _∙_}
 use mathlib.Core.Logic.{_⊎_, ⊎-elim}
 use mathlib.Core.Bool.{true, false}
@@ -18,16 +19,20 @@ use Rattle.memory.specs.Areas.{firstByte, byteCount, areaOf, within, par
 use Rattle.memory.proofs.Truth.{picked, both}
 
 -- as many bytes copied over a part as it has: they are the part
-pub copied-over : (bytes rest l : List ℕ) (n : ℕ) → length bytes ≡ n → l ≡ take (length bytes) bytes ++ drop (length bytes) (take n rest) → l ≡ bytes
+pub copied-over : (bytes rest l : List ℕ) (n : ℕ) → length bytes ≡ n
+    → l ≡ take (length bytes) bytes ++ drop (length bytes) (take n rest) → l ≡ bytes
 copied-over bytes rest l n e h =
-    let none : drop (length bytes) (take n rest) ≡ [] = drop-of-length-le (take n rest) {i = length bytes} (omega (arith, length-take n rest)) in
+    let none : drop (length bytes) (take n rest) ≡ [] =
+    drop-of-length-le (take n rest) {i = length bytes} (omega (arith, length-take n rest)) in
     h ∙ ap₂ _++_ (take-all (length bytes) bytes (omega arith)) none ∙ append-nil bytes
 
 -- the steps of `put`
 module _ (block : Block) (bytes area : List ℕ) where
   -- the part that was lent came back as `l`, which is `bytes`
-  pub put-in : firstByte block + byteCount block ≤ length area → length bytes ≡ byteCount block → (l : List ℕ) → l ≡ bytes
-      → take (firstByte block) area ++ (l ++ drop (firstByte block + byteCount block - firstByte block) (drop (firstByte block) area))
+  pub put-in : firstByte block + byteCount block ≤ length area → length bytes ≡ byteCount block → (l : List ℕ)
+      → l ≡ bytes
+      → take (firstByte block) area ++ (l ++ drop (firstByte block + byteCount block - firstByte block)
+      (drop (firstByte block) area))
       ≡ written block bytes area
   unfolding written within
   put-in h n l e = simp (le-leb _ _ h, eq-eqb _ _ n, e, add-sub-cancel-left, drop-drop)
@@ -36,7 +41,8 @@ module _ (block : Block) (bytes area : List ℕ) where
   unfolding written within
   put-out h = simp h
 
-  pub put-unlike : firstByte block + byteCount block ≤ length area → (length bytes ≡ byteCount block → ⊥) → area ≡ written block bytes area
+  pub put-unlike : firstByte block + byteCount block ≤ length area → (length bytes ≡ byteCount block → ⊥)
+      → area ≡ written block bytes area
   unfolding written within
   put-unlike h n = simp (le-leb _ _ h, ne-eqb _ _ n)
 
@@ -65,7 +71,8 @@ module _ (s d : List ℕ) (a : ℕ) where
 
 -- what holds of the area as it was, and of it with the bytes in their place, holds after a store
 either-way : (P : List ℕ → Type 0) (block : Block) (bytes area : List ℕ) → P area
-    → (firstByte block + length bytes ≤ length area → length bytes ≡ byteCount block → P (spliced area bytes (firstByte block)))
+    → (firstByte block + length bytes ≤ length area → length bytes ≡ byteCount block
+    → P (spliced area bytes (firstByte block)))
     → P (written block bytes area)
 unfolding written within
 either-way P block bytes area old new =
@@ -89,10 +96,12 @@ module _ (block : Block) (bytes area : List ℕ) where
       either-way (λ (l : List ℕ). getD l i 0 ≡ getD area i 0) block bytes area refl
       (λ h n. ⊎-elim
       (λ (l : i < firstByte block). spliced-before area bytes (firstByte block) i (omega arith) l)
-      (λ (g : firstByte block + byteCount block ≤ i). spliced-after area bytes (firstByte block) i (omega arith) (omega arith))
+      (λ (g : firstByte block + byteCount block ≤ i). spliced-after area bytes (firstByte block) i (omega arith)
+      (omega arith))
       o)
 
-  part-written : within block area ≡ true → length bytes ≡ byteCount block → partOf block (written block bytes area) ≡ bytes
+  part-written : within block area ≡ true → length bytes ≡ byteCount block
+      → partOf block (written block bytes area) ≡ bytes
   unfolding partOf within written
   part-written h n =
       let room = leb-true (firstByte block + byteCount block) (length area) h in
@@ -110,18 +119,21 @@ module _ (name : Area) (block : Block) (bytes area : List ℕ) where
   pub stored-length : length (storedIn name block bytes area) ≡ length area
   unfolding storedIn
   stored-length =
-      picked (λ (l : List ℕ). length l ≡ length area) (sameArea name (block .area)) (written block bytes area) area (λ t. written-length block bytes area) (λ t. refl)
+      picked (λ (l : List ℕ). length l ≡ length area) (sameArea name (block .area)) (written block bytes area) area
+      (λ t. written-length block bytes area) (λ t. refl)
 
   -- every byte outside the block is as it was
   pub stored-outside : (i : ℕ) → (i < firstByte block) ⊎ (firstByte block + byteCount block ≤ i)
       → getD (storedIn name block bytes area) i 0 ≡ getD area i 0
   unfolding storedIn
   stored-outside i o =
-      picked (λ (l : List ℕ). getD l i 0 ≡ getD area i 0) (sameArea name (block .area)) (written block bytes area) area (λ t. written-outside block bytes area i o) (λ t. refl)
+      picked (λ (l : List ℕ). getD l i 0 ≡ getD area i 0) (sameArea name (block .area)) (written block bytes area) area
+      (λ t. written-outside block bytes area i o) (λ t. refl)
 
 -- of the two areas, the block's own is the one that is written
 own-area : (block : Block) (bytes identity user : List ℕ) (a : Area) → block .area ≡ a
-    → areaOf a (storedIn Identity block bytes identity) (storedIn User block bytes user) ≡ written block bytes (areaOf a identity user)
+    → areaOf a (storedIn Identity block bytes identity) (storedIn User block bytes user) ≡ written block bytes
+    (areaOf a identity user)
 unfolding storedIn sameArea areaNumber areaOf
 own-area block bytes identity user Identity e = simp e
 own-area block bytes identity user User e = simp e

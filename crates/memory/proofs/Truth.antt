@@ -22,6 +22,7 @@ both true q h = (refl, h)
 both false q h = absurd (false≢true h)
 
 -- what holds of either is what holds of the one that a test picks
-pub picked : (P : List ℕ → Type 0) (test : Bool) (x y : List ℕ) → (test ≡ true → P x) → (test ≡ false → P y) → P (cond test x y)
+pub picked : (P : List ℕ → Type 0) (test : Bool) (x y : List ℕ) → (test ≡ true → P x) → (test ≡ false → P y)
+    → P (cond test x y)
 picked P true x y f g = f refl
 picked P false x y f g = g refl

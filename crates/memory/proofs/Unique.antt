@@ -34,7 +34,8 @@ pub window-one : OneAnswer 1 window-kinds.ps window-kinds.r window.Post (List �
 window-one κs a x y s t p q = one p q
 
 -- of the two areas: both, as they are left
-pub store-one : OneAnswer 3 store-kinds.ps store-kinds.r store.Post (List ℕ × List ℕ) (λ κs r s. (now (s .0), now (s .1 .0)))
+pub store-one : OneAnswer 3 store-kinds.ps store-kinds.r store.Post (List ℕ × List ℕ)
+    (λ κs r s. (now (s .0), now (s .1 .0)))
 store-one κs a x y s t p q i = (one (p .0) (q .0) i, one (p .1) (q .1) i)
 
 pub locked-one : OneAnswer 0 locked-kinds.ps locked-kinds.r locked.Post Bool (λ κs r s. r)

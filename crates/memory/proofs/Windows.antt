@@ -23,7 +23,8 @@ pub ends-inside : (profile : Profile) (block : Block) → 0 < block .words → o
     → block .first .0 + block .words ≤ profileEnd profile
 unfolding overruns lastWord profileEnd
 ends-inside profile block w h =
-    let n = leb-false (profile .base .0 + profile .words) (block .first .0 + block .words - 1) (simp (lt-ltb _ _ w) at h) in
+    let n = leb-false (profile .base .0 + profile .words) (block .first .0 + block .words - 1)
+    (simp (lt-ltb _ _ w) at h) in
     omega arith
 
 -- each word of an addressed block that fits lies in the profile
@@ -64,10 +65,12 @@ module _ (block : Block) where
   unfolding partOf
   empty-part area z =
       let e : byteCount block ≡ 0 = omega arith in
-      picked (λ (l : List ℕ). l ≡ []) (within block area) (take (byteCount block) (drop (firstByte block) area)) [] (λ t. rw e) (λ t. refl)
+      picked (λ (l : List ℕ). l ≡ []) (within block area) (take (byteCount block) (drop (firstByte block) area)) []
+      (λ t. rw e) (λ t. refl)
 
   -- so is a block that fits a profile in its area, also one of no words
-  pub fitting-length : (profile : Profile) (area : List ℕ) → profileEnd profile * wordBytes ≤ length area → overruns profile block ≡ false
+  pub fitting-length : (profile : Profile) (area : List ℕ) → profileEnd profile * wordBytes ≤ length area
+      → overruns profile block ≡ false
       → length (partOf block area) ≡ byteCount block
   fitting-length profile area p h =
       ⊎-elim
@@ -91,7 +94,8 @@ module _ (block : Block) where
       (simp (length-take, length-drop) (omega arith))
       (λ i q.
       let lt : i < n = omega (arith, simp (length-take, length-drop) at q) in
-      simp (getD-take n (drop a s) i 0 lt, getD-take n (drop a t) i 0 lt, getD-drop) (f (a + i) (omega arith) (omega arith)))))
+      simp (getD-take n (drop a s) i 0 lt, getD-take n (drop a t) i 0 lt, getD-drop)
+      (f (a + i) (omega arith) (omega arith)))))
       (λ h. simp h))
 
   -- and the same window

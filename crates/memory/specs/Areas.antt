@@ -37,13 +37,15 @@ partOf block area = cond (within block area) (take (byteCount block) (drop (firs
 unfoldable pub windowOf : List ℕ → List ℕ → Block → List ℕ
 windowOf identity user block = partOf block (areaOf (block .area) identity user)
 
--- the area with `bytes` in the place of the block's bytes; as it was where `bytes` are not so many, or the block runs past the area
+-- the area with `bytes` in the place of the block's bytes; as it was where `bytes` are not so many, or the block runs
+-- past the area
 unfoldable pub written : Block → List ℕ → List ℕ → List ℕ
 written block bytes area =
     cond (within block area && eqb (length bytes) (byteCount block))
     (take (firstByte block) area ++ (bytes ++ drop (firstByte block + byteCount block) area))
     area
 
--- "Numbers the tag gives": the addressed words are written and no others. Of the two areas, `name` changes only where the block lies in it
+-- "Numbers the tag gives": the addressed words are written and no others. Of the two areas, `name` changes only where
+-- the block lies in it
 unfoldable pub storedIn : Area → Block → List ℕ → List ℕ → List ℕ
 storedIn name block bytes area = cond (sameArea name (block .area)) (written block bytes area) area

@@ -1,4 +1,5 @@
--- Locked words, and the right of a key record to a profile: the scope paper, "Memory" and number 4; ISO/IEC 29167-10, clause 11.
+-- Locked words, and the right of a key record to a profile: the scope paper, "Memory" and number 4; ISO/IEC 29167-10,
+-- clause 11.
 use Prim.Native.Nat.{ℕ, zero, suc, _+_, _/_, _%_, _^_}
 use mathlib.Core.Bool.{Bool, false, _&&_, _||_}
 use mathlib.Core.List.{List, [], _∷_}

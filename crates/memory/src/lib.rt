@@ -81,8 +81,9 @@ pub fn address(profile: Profile, size: BlockSize, offset: Offset, count: u16) ->
     }
 }
 
-/// Whether the block ends at or before the profile's end; a block of no words always does. The two ends are compared and
-/// nothing else: not the areas, and not the block's start with the profile's base. `address` gives both from the profile.
+/// Whether the block ends at or before the profile's end; a block of no words always does. The two ends are compared
+/// and nothing else: not the areas, and not the block's start with the profile's base. `address` gives both from the
+/// profile.
 ///
 /// Ruled out: one word past the end allowed; a block of no words behind the end refused.
 pub fn fits(profile: Profile, block: Block) -> bool

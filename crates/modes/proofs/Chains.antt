@@ -32,11 +32,13 @@ nothing-after k s = drop-of-length-le (drop k s) {i = length s - k} (simp length
 
 -- ---- a step of each form
 
-pub enc-step : (F : List ℕ → List ℕ) (iv i o : List ℕ) → o ≡ F (xor i iv) → (is : List (List ℕ)) → cbcEnc F iv (i ∷ is) ≡ o ∷ cbcEnc F o is
+pub enc-step : (F : List ℕ → List ℕ) (iv i o : List ℕ) → o ≡ F (xor i iv) → (is : List (List ℕ))
+    → cbcEnc F iv (i ∷ is) ≡ o ∷ cbcEnc F o is
 unfolding cbcEnc
 enc-step F iv i o e is = λ k. sym e k ∷ cbcEnc F (sym e k) is
 
-pub dec-step : (F : List ℕ → List ℕ) (iv i j o : List ℕ) → j ≡ i → o ≡ xor (F j) iv → (is : List (List ℕ)) → cbcDec F iv (i ∷ is) ≡ o ∷ cbcDec F j is
+pub dec-step : (F : List ℕ → List ℕ) (iv i j o : List ℕ) → j ≡ i → o ≡ xor (F j) iv → (is : List (List ℕ))
+    → cbcDec F iv (i ∷ is) ≡ o ∷ cbcDec F j is
 unfolding cbcDec
 dec-step F iv i j o p e is = (λ k. xor (F (sym p k)) iv ∷ cbcDec F (sym p k) is) ∙ (λ k. sym e k ∷ cbcDec F j is)
 
@@ -47,23 +49,31 @@ module _ (G : List ℕ → List (List ℕ) → List (List ℕ)) (iv s room : Lis
   unfolding joined
   chain-none e h = sym (ap (λ (bs : List (List ℕ)). over (joined bs) room) (ap (G iv) (no-block s h) ∙ e))
 
-  over-first : (o rest : List ℕ) → length o ≡ 16 → o ++ (rest ++ drop (length rest) (drop 16 room)) ≡ over (o ++ rest) room
+  over-first : (o rest : List ℕ) → length o ≡ 16
+      → o ++ (rest ++ drop (length rest) (drop 16 room)) ≡ over (o ++ rest) room
   over-first o rest e =
       sym (append-assoc o rest (drop (length rest) (drop 16 room)))
-      ∙ ap (λ (l : List ℕ). (o ++ rest) ++ l) (drop-drop (length rest) 16 room ∙ ap (λ (n : ℕ). drop n room) (sym (length-append o rest ∙ ap (λ (n : ℕ). n + length rest) e)))
+      ∙ ap (λ (l : List ℕ). (o ++ rest) ++ l) (drop-drop (length rest) 16 room
+      ∙ ap (λ (n : ℕ). drop n room) (sym (length-append o rest ∙ ap (λ (n : ℕ). n + length rest) e)))
 
   -- the first block is done, and the chain goes on in the rest of the room, which comes back as `last`
-  pub chain-more : (next o room₁ last : List ℕ) → 16 ≤ length s → length o ≡ 16 → ((bs : List (List ℕ)) → G iv (take 16 s ∷ bs) ≡ o ∷ G next bs)
+  pub chain-more : (next o room₁ last : List ℕ) → 16 ≤ length s → length o ≡ 16
+      → ((bs : List (List ℕ)) → G iv (take 16 s ∷ bs) ≡ o ∷ G next bs)
       → room₁ ≡ take (length o) o ++ drop (length o) room
-      → last ≡ over (joined (G next (wholeBlocks (take (length s - 16) (drop 16 s))))) (take (length room₁ - 16) (drop 16 room₁))
+      → last ≡ over (joined (G next (wholeBlocks (take (length s - 16) (drop 16 s)))))
+      (take (length room₁ - 16) (drop 16 room₁))
       → take 16 room₁ ++ (last ++ drop (length room₁ - 16) (drop 16 room₁)) ≡ over (joined (G iv (wholeBlocks s))) room
   unfolding joined
   chain-more next o room₁ last h lo step copied done =
-      let put : room₁ ≡ o ++ drop 16 room = copied ∙ ap₂ _++_ (take-all (length o) o (omega arith)) (ap (λ (n : ℕ). drop n room) lo) in
+      let put : room₁ ≡ o ++ drop 16 room = copied
+      ∙ ap₂ _++_ (take-all (length o) o (omega arith)) (ap (λ (n : ℕ). drop n room) lo) in
       let behind : drop 16 room₁ ≡ drop 16 room = ap (drop 16) put ∙ drop-at o (drop 16 room) 16 lo in
       let rest : List ℕ = joined (G next (wholeBlocks (drop 16 s))) in
       let back : last ≡ rest ++ drop (length rest) (drop 16 room)
-      = done ∙ ap₂ (λ (x y : List ℕ). over (joined (G next (wholeBlocks x))) y) (tail-part 16 s) (tail-part 16 room₁ ∙ behind) in
-      ap₂ _++_ (ap (take 16) put ∙ take-at o (drop 16 room) 16 lo) (ap₂ _++_ back (nothing-after 16 room₁) ∙ append-nil (rest ++ drop (length rest) (drop 16 room)))
+      = done ∙ ap₂ (λ (x y : List ℕ). over (joined (G next (wholeBlocks x))) y) (tail-part 16 s)
+      (tail-part 16 room₁ ∙ behind) in
+      ap₂ _++_ (ap (take 16) put ∙ take-at o (drop 16 room) 16 lo)
+      (ap₂ _++_ back (nothing-after 16 room₁) ∙ append-nil (rest ++ drop (length rest) (drop 16 room)))
       ∙ over-first o rest lo
-      ∙ sym (ap (λ (bs : List (List ℕ)). over (joined bs) room) (ap (G iv) (first-and-rest s h) ∙ step (wholeBlocks (drop 16 s))))
+      ∙ sym (ap (λ (bs : List (List ℕ)). over (joined bs) room)
+      (ap (G iv) (first-and-rest s h) ∙ step (wholeBlocks (drop 16 s))))

@@ -1,4 +1,5 @@
--- No second answer fits the contracts of this crate's exported functions: neither another answer nor another byte in the room.
+-- No second answer fits the contracts of this crate's exported functions: neither another answer nor another byte in
+-- the room.
 use mathlib.Core.Bool.{Bool}
 use mathlib.Core.List.{List}
 use Prim.Native.Nat.{ℕ}
@@ -22,11 +23,14 @@ number-one κs a x y s t p q = one p q
 pub takes-one : OneAnswer 0 takes-kinds.ps takes-kinds.r takes.Post Bool (λ κs r s. r)
 takes-one κs a x y s t p q = one p q
 
-pub cbc-enc-aes-one : OneAnswer 2 cbc-enc-aes-kinds.ps cbc-enc-aes-kinds.r cbc-enc-aes.Post (Chaining × List ℕ) (λ κs r s. (r, now (s .1 .1 .1 .0)))
+pub cbc-enc-aes-one : OneAnswer 2 cbc-enc-aes-kinds.ps cbc-enc-aes-kinds.r cbc-enc-aes.Post (Chaining × List ℕ)
+    (λ κs r s. (r, now (s .1 .1 .1 .0)))
 cbc-enc-aes-one κs a x y s t p q i = (one (p .says) (q .says) i, one (p .leaves) (q .leaves) i)
 
-pub cbc-dec-aes-one : OneAnswer 2 cbc-dec-aes-kinds.ps cbc-dec-aes-kinds.r cbc-dec-aes.Post (Chaining × List ℕ) (λ κs r s. (r, now (s .1 .1 .1 .0)))
+pub cbc-dec-aes-one : OneAnswer 2 cbc-dec-aes-kinds.ps cbc-dec-aes-kinds.r cbc-dec-aes.Post (Chaining × List ℕ)
+    (λ κs r s. (r, now (s .1 .1 .1 .0)))
 cbc-dec-aes-one κs a x y s t p q i = (one (p .says) (q .says) i, one (p .leaves) (q .leaves) i)
 
-pub cmac-96-one : OneAnswer 2 cmac-96-kinds.ps cmac-96-kinds.r cmac-96.Post (Chaining × List ℕ) (λ κs r s. (r, now (s .1 .1 .0)))
+pub cmac-96-one : OneAnswer 2 cmac-96-kinds.ps cmac-96-kinds.r cmac-96.Post (Chaining × List ℕ)
+    (λ κs r s. (r, now (s .1 .1 .0)))
 cmac-96-one κs a x y s t p q i = (one (p .says) (q .says) i, one (p .leaves) (q .leaves) i)

@@ -13,23 +13,29 @@ use Rattle.modes.specs.Blocks.{wholeBlocks}
 use Rattle.modes.specs.Cmac.{lastByte, shiftedLeft, doubled, masked, macChain}
 use Rattle.modes.proofs.Chains.{no-block, first-and-rest}
 
-pub mac-last : (key k1 c s : List ℕ) → 16 ≤ length s → length s < 32 → macChain key c (masked k1 (wholeBlocks s)) ≡ aesEnc key (xor c (xor k1 (take 16 s)))
+pub mac-last : (key k1 c s : List ℕ) → 16 ≤ length s → length s < 32
+    → macChain key c (masked k1 (wholeBlocks s)) ≡ aesEnc key (xor c (xor k1 (take 16 s)))
 unfolding macChain masked
 mac-last key k1 c s h l =
     ap (λ (bs : List (List ℕ)). macChain key c (masked k1 bs))
-    (first-and-rest s h ∙ ap {B = List (List ℕ)} (λ bs. take 16 s ∷ bs) (no-block (drop 16 s) (omega (arith, length-drop 16 s))))
+    (first-and-rest s h ∙ ap {B = List (List ℕ)} (λ bs. take 16 s ∷ bs)
+    (no-block (drop 16 s) (omega (arith, length-drop 16 s))))
 
 -- K1 is not added to a block that another follows
-masked-more : (k1 m : List ℕ) (s : List ℕ) → 16 ≤ length s → masked k1 (m ∷ wholeBlocks s) ≡ m ∷ masked k1 (wholeBlocks s)
+masked-more : (k1 m : List ℕ) (s : List ℕ) → 16 ≤ length s
+    → masked k1 (m ∷ wholeBlocks s) ≡ m ∷ masked k1 (wholeBlocks s)
 unfolding masked
 masked-more k1 m s h =
-    ap (λ (bs : List (List ℕ)). masked k1 (m ∷ bs)) (first-and-rest s h) ∙ ap {B = List (List ℕ)} (λ bs. m ∷ masked k1 bs) (sym (first-and-rest s h))
+    ap (λ (bs : List (List ℕ)). masked k1 (m ∷ bs)) (first-and-rest s h)
+    ∙ ap {B = List (List ℕ)} (λ bs. m ∷ masked k1 bs) (sym (first-and-rest s h))
 
 pub mac-more : (key k1 c s : List ℕ) → 32 ≤ length s
-    → macChain key c (masked k1 (wholeBlocks s)) ≡ macChain key (aesEnc key (xor c (take 16 s))) (masked k1 (wholeBlocks (drop 16 s)))
+    → macChain key c (masked k1 (wholeBlocks s)) ≡ macChain key (aesEnc key (xor c (take 16 s)))
+    (masked k1 (wholeBlocks (drop 16 s)))
 unfolding macChain
 mac-more key k1 c s h =
-    ap (macChain key c) (ap (masked k1) (first-and-rest s (omega arith)) ∙ masked-more k1 (take 16 s) (drop 16 s) (omega (arith, length-drop 16 s)))
+    ap (macChain key c) (ap (masked k1) (first-and-rest s (omega arith))
+    ∙ masked-more k1 (take 16 s) (drop 16 s) (omega (arith, length-drop 16 s)))
 
 -- ---- the doubling
 
@@ -41,12 +47,14 @@ doubledByte l i = bitXor (getD (shiftedLeft l) i 0) (getD (lastByte (getD l 0 0 
 shifted-byte : (a b : ℕ) → b < 256 → bitXor (a * 2 % 256) (b / 128) ≡ a * 2 % 256 + b / 128
 shifted-byte a b h =
     let e : a * 2 % 256 ≡ a % 128 * 2 = omega arith in
-    ap (λ (x : ℕ). bitXor x (b / 128)) e ∙ xor-shifted (a % 128) 1 (b / 128) (omega arith) ∙ sym (ap (λ (x : ℕ). x + b / 128) e)
+    ap (λ (x : ℕ). bitXor x (b / 128)) e ∙ xor-shifted (a % 128) 1 (b / 128) (omega arith)
+    ∙ sym (ap (λ (x : ℕ). x + b / 128) e)
 
 last-byte-else : (q i : ℕ) → i < 15 → getD (lastByte q) i 0 ≡ 0
 last-byte-else q = same-at (λ i. getD (lastByte q) i 0) (λ i. 0) 15 refl
 
-pub doubled-inner : (l : List ℕ) (i : ℕ) → i < 15 → getD l (i + 1) 0 < 256 → bitXor (getD l i 0 * 2 % 256) (getD l (i + 1) 0 / 128) ≡ doubledByte l i
+pub doubled-inner : (l : List ℕ) (i : ℕ) → i < 15 → getD l (i + 1) 0 < 256
+    → bitXor (getD l i 0 * 2 % 256) (getD l (i + 1) 0 / 128) ≡ doubledByte l i
 unfolding shiftedLeft
 doubled-inner l i h b =
     shifted-byte (getD l i 0) (getD l (i + 1) 0) b
@@ -54,15 +62,19 @@ doubled-inner l i h b =
     ∙ sym (xor-zero-r (getD (shiftedLeft l) i 0))
     ∙ ap (bitXor (getD (shiftedLeft l) i 0)) (sym (last-byte-else (getD l 0 0 / 128 * 0x87) i h))
 
-doubled-last : (l : List ℕ) → length l ≡ 16 → bitXor (getD l 15 0 * 2 % 256) (getD l 0 0 / 128 * 0x87) ≡ doubledByte l 15
+doubled-last : (l : List ℕ) → length l ≡ 16 → bitXor (getD l 15 0 * 2 % 256) (getD l 0 0 / 128 * 0x87) ≡ doubledByte l
+    15
 unfolding shiftedLeft
 doubled-last l e =
-    let none : getD l 15 0 * 2 % 256 ≡ getD l 15 0 * 2 % 256 + getD l 16 0 / 128 = omega (arith, List·getD-eq-default l 0 {n = 16} (omega (arith, e))) in
+    let none : getD l 15 0 * 2 % 256 ≡ getD l 15 0 * 2 % 256 + getD l 16 0 / 128 =
+    omega (arith, List·getD-eq-default l 0 {n = 16} (omega (arith, e))) in
     ap (λ (x : ℕ). bitXor x (getD l 0 0 / 128 * 0x87)) none
 
 -- fifteen bytes are filled, and the last is stored
-pub doubled-whole : (l r : List ℕ) (i : ℕ) → length l ≡ 16 → i ≡ 15 → Filled (doubledByte l) 16 r i → set r 15 (bitXor (getD l 15 0 * 2 % 256) (getD l 0 0 / 128 * 0x87)) ≡ doubled l
+pub doubled-whole : (l r : List ℕ) (i : ℕ) → length l ≡ 16 → i ≡ 15 → Filled (doubledByte l) 16 r i
+    → set r 15 (bitXor (getD l 15 0 * 2 % 256) (getD l 0 0 / 128 * 0x87)) ≡ doubled l
 unfolding doubled xor
 doubled-whole l r i e f inv =
     filled (doubledByte l) 16 (set r 15 (bitXor (getD l 15 0 * 2 % 256) (getD l 0 0 / 128 * 0x87))) 16 (omega arith)
-    (one-more (doubledByte l) 16 r 15 (bitXor (getD l 15 0 * 2 % 256) (getD l 0 0 / 128 * 0x87)) (omega arith) (doubled-last l e) (subst (λ (j : ℕ). Filled (doubledByte l) 16 r j) f inv))
+    (one-more (doubledByte l) 16 r 15 (bitXor (getD l 15 0 * 2 % 256) (getD l 0 0 / 128 * 0x87)) (omega arith)
+    (doubled-last l e) (subst (λ (j : ℕ). Filled (doubledByte l) 16 r j) f inv))

@@ -31,7 +31,9 @@ unfolding doubled shiftedLeft
 doubled-block l h =
     let carry : getD l 0 0 / 128 * 0x87 < 256 = omega (arith, h 0) in
     xor-is-block (shiftedLeft l) (lastByte (getD l 0 0 / 128 * 0x87))
-    (block-of (λ i. getD l i 0 * 2 % 256 + getD l (i + 1) 0 / 128) (λ i. (let z : getD l i 0 * 2 % 256 + getD l (i + 1) 0 / 128 < 256 = omega (arith, h i, h (i + 1)) in z)) .bytes)
+    (block-of (λ i. getD l i 0 * 2 % 256 + getD l (i + 1) 0 / 128)
+    (λ i. (let z : getD l i 0 * 2 % 256 + getD l (i + 1) 0 / 128 < 256 = omega (arith, h i, h (i + 1)) in z))
+    .bytes)
     (last-byte-bytes (getD l 0 0 / 128 * 0x87) carry)
 
 masked-blocks : (k1 : List ℕ) (ms : List (List ℕ)) → Bytes k1 → Blocks ms → Blocks (masked k1 ms)
@@ -44,7 +46,8 @@ module _ (key : List ℕ) (hk : Bytes key) where
   chain-block : (ms : List (List ℕ)) (c : List ℕ) → Block c → Blocks ms → Block (macChain key c ms)
   unfolding macChain
   chain-block [] c b h = b
-  chain-block (m ∷ ms) c b (bm, h) = chain-block ms (aesEnc key (xor c m)) (enc-block key (xor c m) hk (xor-is-block c m (b .bytes) (bm .bytes))) h
+  chain-block (m ∷ ms) c b (bm, h) = chain-block ms (aesEnc key (xor c m))
+      (enc-block key (xor c m) hk (xor-is-block c m (b .bytes) (bm .bytes))) h
 
   subkey-block : Block (subkey1 key)
   unfolding subkey1

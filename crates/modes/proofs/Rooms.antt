@@ -19,7 +19,8 @@ refused taken out room e = record {
   leaves = ap (λ (b : Bool). pick b (over out room) room) (sym e);
 }
 
-pub done : (taken : Bool) (out room after : List ℕ) → taken ≡ true → after ≡ over out room → Into taken out room Done after
+pub done : (taken : Bool) (out room after : List ℕ) → taken ≡ true → after ≡ over out room
+    → Into taken out room Done after
 done taken out room after e f = record {
   says = ap (λ (b : Bool). pick b Done Refused) (sym e);
   number = ap (λ (b : Bool). pick b 0 8) (sym e);
@@ -28,7 +29,8 @@ done taken out room after e f = record {
 
 -- what a copy leaves: `out` over the first bytes
 pub copied : (out room after : List ℕ) → after ≡ take (length out) out ++ drop (length out) room → after ≡ over out room
-copied out room after e = e ∙ ap (λ (l : List ℕ). l ++ drop (length out) room) (take-all (length out) out (le-refl (length out)))
+copied out room after e = e ∙ ap (λ (l : List ℕ). l ++ drop (length out) room)
+    (take-all (length out) out (le-refl (length out)))
 
 second : (a b : Bool) → both a b ≡ true → b ≡ true
 second true b e = e

@@ -1,4 +1,5 @@
--- A DEC form of chaining undoes the ENC form over the other way of the cipher: one theorem for the two pairs of ISO/IEC 29167-10 3.1.8 to 3.1.11.
+-- A DEC form of chaining undoes the ENC form over the other way of the cipher: one theorem for the two pairs of ISO/IEC
+-- 29167-10 3.1.8 to 3.1.11.
 use mathlib.Core.Path.{_≡_, refl, ap, ap₂, _∙_}
 use mathlib.Core.List.{List, [], _∷_}
 use Prim.Native.Nat.{ℕ, suc, _*_, _/_, _%_}
@@ -7,7 +8,15 @@ use Rattle.field.specs.Block.{xor}
 use Rattle.field.proofs.Block.{Bytes, Block, xor-is-block, xor-undone}
 use Rattle.modes.specs.Blocks.{wholeBlocks, joined}
 use Rattle.modes.specs.Cbc.{cbcEnc, cbcDec}
-use Rattle.modes.proofs.Whole.{Blocks, whole-are, joined-whole, whole-joined, joined-bytes, joined-length, whole-count}
+use Rattle.modes.proofs.Whole.{
+  Blocks,
+  whole-are,
+  joined-whole,
+  whole-joined,
+  joined-bytes,
+  joined-length,
+  whole-count,
+}
 
 -- F makes blocks of blocks
 abbrev pub Keeps : (List ℕ → List ℕ) → Type 0
@@ -65,8 +74,10 @@ module _ (F G : List ℕ → List ℕ) (f : Keeps F) (undoes : (s : List ℕ) �
       (ap (λ (y : List ℕ). xor y iv) (undoes (xor b iv) x) ∙ xor-undone b iv (hb .sixteen))
       (blocks-undone bs (F (xor b iv)) (f (xor b iv) x .bytes) h)
 
-  pub chain-undone : (iv s : List ℕ) → Bytes iv → Bytes s → length s % 16 ≡ 0 → joined (cbcDec G iv (wholeBlocks (joined (cbcEnc F iv (wholeBlocks s))))) ≡ s
+  pub chain-undone : (iv s : List ℕ) → Bytes iv → Bytes s → length s % 16 ≡ 0
+      → joined (cbcDec G iv (wholeBlocks (joined (cbcEnc F iv (wholeBlocks s))))) ≡ s
   chain-undone iv s v h e =
-      ap (λ (bs : List (List ℕ)). joined (cbcDec G iv bs)) (whole-joined (cbcEnc F iv (wholeBlocks s)) (enc-blocks F f (wholeBlocks s) iv v (whole-are s h)))
+      ap (λ (bs : List (List ℕ)). joined (cbcDec G iv bs))
+      (whole-joined (cbcEnc F iv (wholeBlocks s)) (enc-blocks F f (wholeBlocks s) iv v (whole-are s h)))
       ∙ ap joined (blocks-undone (wholeBlocks s) iv v (whole-are s h))
       ∙ joined-whole s e

@@ -45,7 +45,8 @@ joined-blocks : (n : ℕ) (s : List ℕ) → n * 16 ≡ length s → joined (blo
 unfolding joined blocks
 joined-blocks zero [] e = refl
 joined-blocks zero (x ∷ s) e = absurd (let z : ⊥ = omega arith in z)
-joined-blocks (suc n) s e = ap (λ (l : List ℕ). take 16 s ++ l) (joined-blocks n (drop 16 s) (omega (arith, length-drop 16 s))) ∙ take-append-drop 16 s
+joined-blocks (suc n) s e = ap (λ (l : List ℕ). take 16 s ++ l)
+    (joined-blocks n (drop 16 s) (omega (arith, length-drop 16 s))) ∙ take-append-drop 16 s
 
 pub joined-whole : (s : List ℕ) → length s % 16 ≡ 0 → joined (wholeBlocks s) ≡ s
 unfolding wholeBlocks
@@ -56,7 +57,8 @@ unfolding joined
 whole-joined [] h = no-block [] (lit< tt)
 whole-joined (b ∷ bs) (hb, h) =
     first-and-rest (b ++ joined bs) (omega (arith, length-append b (joined bs), hb .sixteen))
-    ∙ ap₂ {C = List (List ℕ)} (λ x y. x ∷ wholeBlocks y) (take-at b (joined bs) 16 (hb .sixteen)) (drop-at b (joined bs) 16 (hb .sixteen))
+    ∙ ap₂ {C = List (List ℕ)} (λ x y. x ∷ wholeBlocks y) (take-at b (joined bs) 16 (hb .sixteen))
+    (drop-at b (joined bs) 16 (hb .sixteen))
     ∙ ap {B = List (List ℕ)} (λ l. b ∷ l) (whole-joined bs h)
 
 pub joined-bytes : (bs : List (List ℕ)) → Blocks bs → Bytes (joined bs)

@@ -1,5 +1,6 @@
--- Cipher block chaining over one way of a cipher, `F`, as ISO/IEC 29167-10 3.1.8 to 3.1.11 has it (SP 800-38A, section 6.2, with AES-ENC to encrypt and AES-DEC to decrypt).
--- I1, I2 and so on are the input blocks, O1, O2 and so on the output blocks.
+-- Cipher block chaining over one way of a cipher, `F`, as ISO/IEC 29167-10 3.1.8 to 3.1.11 has it (SP 800-38A, section
+-- 6.2, with AES-ENC to encrypt and AES-DEC to decrypt). I1, I2 and so on are the input blocks, O1, O2 and so on the
+-- output blocks.
 use Prim.Native.Nat.{ℕ}
 use mathlib.Core.List.{List, [], _∷_}
 use Rattle.field.specs.Block.{xor}

@@ -1,5 +1,5 @@
--- CMAC, NIST SP 800-38B, over AES-128, for input that is whole blocks, at least one: the last block is complete, so that K1 is added to it and K2 is never used
--- (ISO/IEC 29167-10 3.1.13).
+-- CMAC, NIST SP 800-38B, over AES-128, for input that is whole blocks, at least one: the last block is complete, so
+-- that K1 is added to it and K2 is never used (ISO/IEC 29167-10 3.1.13).
 use Prim.Native.Nat.{ℕ, _+_, _*_, _/_, _%_}
 use mathlib.Core.List.{List, [], _∷_}
 use lib.ListN.{getD, take}

@@ -1,4 +1,5 @@
-// What is built on AES-ENC: chaining (ISO/IEC 29167-10 3.1.8 and 3.1.11; SP 800-38A) and the MAC (3.1.1 and 3.1.13; SP 800-38B).
+// What is built on AES-ENC: chaining (ISO/IEC 29167-10 3.1.8 and 3.1.11; SP 800-38A) and the MAC (3.1.1 and 3.1.13; SP
+// 800-38B).
 ghost use mathlib.Core.Path.{_≡_};
 ghost use Prim.Native.Nat.{_≤_};
 ghost use lib.ListN.{length};
@@ -35,10 +36,11 @@ pub fn takes(input: usize, room: usize) -> bool
     input <= room
 }
 
-// CBC_ENC_AES (IV, key, data) into the first bytes of the room. Refused where the input is no whole number of blocks, or the room is shorter than it.
-// Ruled out: the chain taken from the input block; a byte written past the output.
+// CBC_ENC_AES (IV, key, data) into the first bytes of the room. Refused where the input is no whole number of blocks,
+// or the room is shorter than it. Ruled out: the chain taken from the input block; a byte written past the output.
 pub fn cbc_enc_aes(iv: [u8; 16], key: [u8; 16], input: &[u8], room: &mut [u8]) -> Chaining
-    ensures { λ r. ⌜ Into (chains (length (now (input .entry))) (length (now (room .entry)))) (cbcEncAes iv key (now (input .entry))) (now (room .entry)) r (now (room .exit)) ⌝ }
+    ensures { λ r. ⌜ Into (chains (length (now (input .entry))) (length (now (room .entry))))
+        (cbcEncAes iv key (now (input .entry))) (now (room .entry)) r (now (room .exit)) ⌝ }
 {
     if takes(input.len(), room.len()) {
         enc_chain(iv, key, input, room);
@@ -50,7 +52,8 @@ pub fn cbc_enc_aes(iv: [u8; 16], key: [u8; 16], input: &[u8], room: &mut [u8]) -
 // CBC_DEC_AES (IV, key, data) into the first bytes of the room. Refused as cbc_enc_aes is.
 // Ruled out: the chain taken from the output block; AES-DEC in place of AES-ENC.
 pub fn cbc_dec_aes(iv: [u8; 16], key: [u8; 16], input: &[u8], room: &mut [u8]) -> Chaining
-    ensures { λ r. ⌜ Into (chains (length (now (input .entry))) (length (now (room .entry)))) (cbcDecAes iv key (now (input .entry))) (now (room .entry)) r (now (room .exit)) ⌝ }
+    ensures { λ r. ⌜ Into (chains (length (now (input .entry))) (length (now (room .entry))))
+        (cbcDecAes iv key (now (input .entry))) (now (room .entry)) r (now (room .exit)) ⌝ }
 {
     if takes(input.len(), room.len()) {
         dec_chain(iv, key, input, room);
@@ -59,10 +62,12 @@ pub fn cbc_dec_aes(iv: [u8; 16], key: [u8; 16], input: &[u8], room: &mut [u8]) -
     Chaining::Refused
 }
 
-// AES-CMAC-96 (key, data) into the first 12 bytes of the room. Refused where the input is no whole number of blocks or none, or the room has under 12 bytes.
-// Ruled out: the second subkey; all 16 bytes written; an input of no block accepted.
+// AES-CMAC-96 (key, data) into the first 12 bytes of the room. Refused where the input is no whole number of blocks or
+// none, or the room has under 12 bytes. Ruled out: the second subkey; all 16 bytes written; an input of no block
+// accepted.
 pub fn cmac_96(key: [u8; 16], input: &[u8], room: &mut [u8]) -> Chaining
-    ensures { λ r. ⌜ Into (macs (length (now (input .entry))) (length (now (room .entry)))) (cmac96 key (now (input .entry))) (now (room .entry)) r (now (room .exit)) ⌝ }
+    ensures { λ r. ⌜ Into (macs (length (now (input .entry))) (length (now (room .entry))))
+        (cmac96 key (now (input .entry))) (now (room .entry)) r (now (room .exit)) ⌝ }
 {
     if input.len() < 1 {
         return Chaining::Refused;
@@ -91,7 +96,8 @@ fn enc_chain(iv: [u8; 16], key: [u8; 16], input: &[u8], room: &mut [u8])
     }
 }
 
-// Deciphers, by AES-ENC, the blocks of the input into the room, each chained to the input block before it, until none is left.
+// Deciphers, by AES-ENC, the blocks of the input into the room, each chained to the input block before it, until none
+// is left.
 fn dec_chain(iv: [u8; 16], key: [u8; 16], input: &[u8], room: &mut [u8])
     requires { ⌜ length (now input) ≤ length (now room) ⌝ }
     ensures { λ _. ⌜ now (room .exit) ≡ over (cbcDecAes iv key (now (input .entry))) (now (room .entry)) ⌝ }

@@ -1,5 +1,5 @@
--- Each DEC form of chaining undoes its ENC form, on every key, initialization vector and whole number of blocks; and the results of the forms over AES-DEC
--- are bytes, as many as came in.
+-- Each DEC form of chaining undoes its ENC form, on every key, initialization vector and whole number of blocks; and
+-- the results of the forms over AES-DEC are bytes, as many as came in.
 use mathlib.Core.Path.{_≡_, _∙_}
 use mathlib.Core.List.{List}
 use Prim.Native.Nat.{ℕ, _%_}

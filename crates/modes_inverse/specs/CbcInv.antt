@@ -1,4 +1,5 @@
--- The two forms of chaining over AES-DEC, ISO/IEC 29167-10 3.1.9 and 3.1.10. They differ from those over AES-ENC in the way of the cipher alone.
+-- The two forms of chaining over AES-DEC, ISO/IEC 29167-10 3.1.9 and 3.1.10. They differ from those over AES-ENC in the
+-- way of the cipher alone.
 use Prim.Native.Nat.{ℕ}
 use mathlib.Core.List.{List}
 use Rattle.aes_inverse.specs.AesDec.{aesDec}

@@ -10,7 +10,8 @@ ghost use Rattle.modes_inverse.specs.CbcInv.{cbcDecAesInv, cbcEncAesInv}
 // CBC_DEC_AES_INV (IV, key, data) into the first bytes of the room. Refused as modes::cbc_enc_aes is.
 // Ruled out: the chain taken from the output block; AES-ENC in place of AES-DEC.
 pub fn cbc_dec_aes_inv(iv: [u8; 16], key: [u8; 16], input: &[u8], room: &mut [u8]) -> Chaining
-    ensures { λ r. ⌜ Into (chains (length (now (input .entry))) (length (now (room .entry)))) (cbcDecAesInv iv key (now (input .entry))) (now (room .entry)) r (now (room .exit)) ⌝ }
+    ensures { λ r. ⌜ Into (chains (length (now (input .entry))) (length (now (room .entry))))
+        (cbcDecAesInv iv key (now (input .entry))) (now (room .entry)) r (now (room .exit)) ⌝ }
 {
     if modes::takes(input.len(), room.len()) {
         dec_inv_chain(iv, key, input, room);
@@ -22,7 +23,8 @@ pub fn cbc_dec_aes_inv(iv: [u8; 16], key: [u8; 16], input: &[u8], room: &mut [u8
 // CBC_ENC_AES_INV (IV, key, data) into the first bytes of the room. Refused as modes::cbc_enc_aes is.
 // Ruled out: AES-ENC in place of AES-DEC; the chain taken from the input block.
 pub fn cbc_enc_aes_inv(iv: [u8; 16], key: [u8; 16], input: &[u8], room: &mut [u8]) -> Chaining
-    ensures { λ r. ⌜ Into (chains (length (now (input .entry))) (length (now (room .entry)))) (cbcEncAesInv iv key (now (input .entry))) (now (room .entry)) r (now (room .exit)) ⌝ }
+    ensures { λ r. ⌜ Into (chains (length (now (input .entry))) (length (now (room .entry))))
+        (cbcEncAesInv iv key (now (input .entry))) (now (room .entry)) r (now (room .exit)) ⌝ }
 {
     if modes::takes(input.len(), room.len()) {
         enc_inv_chain(iv, key, input, room);
@@ -44,7 +46,8 @@ fn dec_inv_chain(iv: [u8; 16], key: [u8; 16], input: &[u8], room: &mut [u8])
     }
 }
 
-// Enciphers, by AES-DEC, the blocks of the input into the room, each chained to the output block before it, until none is left.
+// Enciphers, by AES-DEC, the blocks of the input into the room, each chained to the output block before it, until none
+// is left.
 fn enc_inv_chain(iv: [u8; 16], key: [u8; 16], input: &[u8], room: &mut [u8])
     requires { ⌜ length (now input) ≤ length (now room) ⌝ }
     ensures { λ _. ⌜ now (room .exit) ≡ over (cbcEncAesInv iv key (now (input .entry))) (now (room .entry)) ⌝ }

@@ -30,7 +30,13 @@ module _ (f : Features) (key : Key) (p : ℕ) (h : modeSupported f key p ≡ tru
   tested true e = ltb-true p 4 e
   tested false e =
       let n : 4 ≤ p = ltb-false p 4 e in
-      absurd (false≢true (simp (ne-eqb p 0 (λ z. omega arith), ne-eqb p 1 (λ z. omega arith), ne-eqb p 2 (λ z. omega arith), ne-eqb p 3 (λ z. omega arith)) at h))
+      absurd (false≢true (simp (
+        ne-eqb p 0 (λ z. omega arith),
+        ne-eqb p 1 (λ z. omega arith),
+        ne-eqb p 2
+            (λ z. omega arith),
+        ne-eqb p 3 (λ z. omega arith),
+      ) at h))
 
   pub mode-below : p < 4
   mode-below = tested (ltb p 4) refl

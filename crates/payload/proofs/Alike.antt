@@ -24,7 +24,8 @@ same-equal [] [] e = refl
 same-equal [] (y ∷ ys) e = absurd (let z : _≡_ {A = ℕ} 0 1 = cc in let w : ⊥ = omega arith in w)
 same-equal (x ∷ xs) [] e = absurd (let z : _≡_ {A = ℕ} 0 1 = cc in let w : ⊥ = omega arith in w)
 same-equal (x ∷ xs) (y ∷ ys) e =
-    ap₂ {C = List ℕ} (λ z zs. z ∷ zs) (eqb-true x y (both-left (eqb x y) (same xs ys) e)) (same-equal xs ys (both-right (eqb x y) (same xs ys) e))
+    ap₂ {C = List ℕ} (λ z zs. z ∷ zs) (eqb-true x y (both-left (eqb x y) (same xs ys) e))
+    (same-equal xs ys (both-right (eqb x y) (same xs ys) e))
 
 -- lists of different lengths
 pub same-lengths : (a b : List ℕ) → (length a ≡ length b → ⊥) → same a b ≡ false
@@ -40,7 +41,8 @@ same-lengths (x ∷ xs) (y ∷ ys) h = ap (both (eqb x y)) (same-lengths xs ys (
 
 -- a walk along two lists of one length, at place i
 module _ (a b : List ℕ) (i : ℕ) where
-  pub same-on : i < length a → i < length b → getD a i 0 ≡ getD b i 0 → same (drop i a) (drop i b) ≡ same (drop (i + 1) a) (drop (i + 1) b)
+  pub same-on : i < length a → i < length b → getD a i 0 ≡ getD b i 0
+      → same (drop i a) (drop i b) ≡ same (drop (i + 1) a) (drop (i + 1) b)
   unfolding same
   same-on h k e = rw (add-one, drop-cons a i 0 h, drop-cons b i 0 k, eq-eqb (getD a i 0) (getD b i 0) e)
 

@@ -32,7 +32,8 @@ module _ (c : Custom) (answer : Bool) (room hdr : List ℕ) (l : length room ≡
     -- the answer is whether the fields fit their bits
     pub header-told : answer ≡ customFits c
     header-told =
-        b .says ∙ ap (both (customFits c)) (le-leb (headerLength (c .blocksize)) (length room) (omega (arith, header-bound (c .blocksize)))) ∙ both-all (customFits c)
+        b .says ∙ ap (both (customFits c)) (le-leb (headerLength (c .blocksize)) (length room)
+        (omega (arith, header-bound (c .blocksize)))) ∙ both-all (customFits c)
       where
         both-all : (x : Bool) → both x true ≡ x
         both-all true = refl
@@ -44,7 +45,8 @@ module _ (c : Custom) (answer : Bool) (room hdr : List ℕ) (l : length room ≡
         built-front (customFits c) n (headerOf c) room hdr (header-long c) (rw e at b)
 
     -- what the code takes of it: the header in Rev 1, nothing in Rev 0
-    pub header-taken : (rev : Bool) → answer ≡ true → take (headerPart (c .blocksize) rev) hdr ≡ pick rev (headerOf c) []
+    pub header-taken : (rev : Bool) → answer ≡ true
+        → take (headerPart (c .blocksize) rev) hdr ≡ pick rev (headerOf c) []
     unfolding headerPart
     header-taken true e = header-front e
     header-taken false e = refl
@@ -54,16 +56,19 @@ module _ (c : Custom) (answer : Bool) (room hdr : List ℕ) (l : length room ≡
     unfolding headerFits
     header-judged rev p r e =
         ap (same (take (headerLength (c .blocksize)) p)) (header-front e)
-        ∙ ap₂ (λ (x y : Bool). implies x (both y (same (take (headerLength (c .blocksize)) p) (headerOf c)))) (sym r) (sym e ∙ header-told)
+        ∙ ap₂ (λ (x y : Bool). implies x (both y (same (take (headerLength (c .blocksize)) p) (headerOf c)))) (sym r)
+        (sym e ∙ header-told)
 
     pub header-refused : (rev : Bool) (p : List ℕ) → rev ≡ true → answer ≡ false → false ≡ headerFits rev c p
     unfolding headerFits
-    header-refused rev p r e = ap₂ (λ (x y : Bool). implies x (both y (same (take (headerLength (c .blocksize)) p) (headerOf c)))) (sym r) (sym e ∙ header-told)
+    header-refused rev p r e = ap₂ (λ (x y : Bool). implies x
+        (both y (same (take (headerLength (c .blocksize)) p) (headerOf c)))) (sym r) (sym e ∙ header-told)
 
 -- in Rev 0 there is none to judge
 pub no-header : (rev : Bool) (c : Custom) (p : List ℕ) → rev ≡ false → true ≡ headerFits rev c p
 unfolding headerFits
-no-header rev c p r = ap (λ (x : Bool). implies x (both (customFits c) (same (take (headerLength (c .blocksize)) p) (headerOf c)))) (sym r)
+no-header rev c p r = ap (λ (x : Bool). implies x (both (customFits c)
+    (same (take (headerLength (c .blocksize)) p) (headerOf c)))) (sym r)
 
 pub part-bound : (rev : Bool) (c : Custom) → headerPart (c .blocksize) rev ≤ 8
 unfolding headerPart
@@ -78,7 +83,8 @@ part-long false c = refl
 -- ---- header, data and zeros
 
 -- more data than BlockCount says
-pub too-many : (c : Custom) (k : ℕ) → dataLength (c .blocksize) (c .blockcount) < k → both (customFits c) (leb k (dataLength (c .blocksize) (c .blockcount))) ≡ false
+pub too-many : (c : Custom) (k : ℕ) → dataLength (c .blocksize) (c .blockcount) < k
+    → both (customFits c) (leb k (dataLength (c .blocksize) (c .blockcount))) ≡ false
 too-many c k h = ap (both (customFits c)) (lt-leb k (dataLength (c .blocksize) (c .blockcount)) h) ∙ none (customFits c)
   where
     none : (x : Bool) → both x false ≡ false
@@ -89,7 +95,8 @@ pub not-fit : (c : Custom) (b : Bool) → customFits c ≡ false → both (custo
 not-fit c b e = ap (λ (x : Bool). both x b) e
 
 -- D blocks hold header and data
-pub blocks-hold : (rev : Bool) (c : Custom) → headerPart (c .blocksize) rev + dataLength (c .blocksize) (c .blockcount) ≤ blocksLength (c .blocksize) rev (c .blockcount)
+pub blocks-hold : (rev : Bool) (c : Custom) → headerPart (c .blocksize) rev + dataLength (c .blocksize) (c .blockcount)
+    ≤ blocksLength (c .blocksize) rev (c .blockcount)
 unfolding blocksLength carried
 blocks-hold rev c = omega (arith, d-least (c .blocksize) rev (c .blockcount) .holds)
 
@@ -97,23 +104,29 @@ blocks-hold rev c = omega (arith, d-least (c .blocksize) rev (c .blockcount) .ho
 pub blocks-fit : (rev : Bool) (c : Custom) → customFits c ≡ true → blocksLength (c .blocksize) rev (c .blockcount) ≤ 144
 blocks-fit rev c fit = blocks-most (c .blocksize) rev (c .blockcount) (custom-range c fit .blockcount)
 
-module _ (rev : Bool) (c : Custom) (words : List ℕ) (count : length words ≤ dataLength (c .blocksize) (c .blockcount)) where
-  held : length (pick rev (headerOf c) [] ++ words) ≤ blocksLength (c .blocksize) rev (c .blockcount)
-  held = omega (arith, length-append (pick rev (headerOf c) []) words, part-long rev c, blocks-hold rev c)
+module _ (rev : Bool) (c : Custom) (words : List ℕ) (count : length words ≤ dataLength (c .blocksize) (c .blockcount))
+  where
+    held : length (pick rev (headerOf c) [] ++ words) ≤ blocksLength (c .blocksize) rev (c .blockcount)
+    held = omega (arith, length-append (pick rev (headerOf c) []) words, part-long rev c, blocks-hold rev c)
 
-  pub carried-long : length (carriedData rev c words) ≡ blocksLength (c .blocksize) rev (c .blockcount)
-  unfolding carriedData
-  carried-long = filled-long (blocksLength (c .blocksize) rev (c .blockcount)) (pick rev (headerOf c) [] ++ words) held
+    pub carried-long : length (carriedData rev c words) ≡ blocksLength (c .blocksize) rev (c .blockcount)
+    unfolding carriedData
+    carried-long =
+        filled-long (blocksLength (c .blocksize) rev (c .blockcount)) (pick rev (headerOf c) [] ++ words) held
 
-  -- the room's first n bytes became header, data and zeros
-  pub carried-built : (n : ℕ) (h room z : List ℕ) → customFits c ≡ true → n ≡ blocksLength (c .blocksize) rev (c .blockcount) → n ≤ length room
-      → h ≡ pick rev (headerOf c) [] → z ≡ filled (length (take n room)) (h ++ words)
-      → Built (both (customFits c) (leb (length words) (dataLength (c .blocksize) (c .blockcount)))) (blocksLength (c .blocksize) rev (c .blockcount)) (carriedData rev c words) room true (z ++ drop n room)
-  unfolding carriedData
-  carried-built n h room z fit e l p q =
-      let m = blocksLength (c .blocksize) rev (c .blockcount) in
-      let w : z ≡ carriedData rev c words =
-      q ∙ ap₂ {C = List ℕ} (λ (i : ℕ) (x : List ℕ). filled i (x ++ words)) (length-take-le n room l ∙ e) p in
-      over-built (both (customFits c) (leb (length words) (dataLength (c .blocksize) (c .blockcount)))) m (carriedData rev c words) room
-      (ap₂ both fit (le-leb (length words) (dataLength (c .blocksize) (c .blockcount)) count)) (omega (arith, e)) carried-long (z ++ drop n room)
-      (ap₂ {C = List ℕ} (λ (x : List ℕ) (i : ℕ). x ++ drop i room) w (e ∙ sym carried-long))
+    -- the room's first n bytes became header, data and zeros
+    pub carried-built : (n : ℕ) (h room z : List ℕ) → customFits c ≡ true
+        → n ≡ blocksLength (c .blocksize) rev (c .blockcount) → n ≤ length room
+        → h ≡ pick rev (headerOf c) [] → z ≡ filled (length (take n room)) (h ++ words)
+        → Built (both (customFits c) (leb (length words) (dataLength (c .blocksize) (c .blockcount))))
+        (blocksLength (c .blocksize) rev (c .blockcount)) (carriedData rev c words) room true (z ++ drop n room)
+    unfolding carriedData
+    carried-built n h room z fit e l p q =
+        let m = blocksLength (c .blocksize) rev (c .blockcount) in
+        let w : z ≡ carriedData rev c words =
+        q ∙ ap₂ {C = List ℕ} (λ (i : ℕ) (x : List ℕ). filled i (x ++ words)) (length-take-le n room l ∙ e) p in
+        over-built (both (customFits c) (leb (length words) (dataLength (c .blocksize) (c .blockcount)))) m
+        (carriedData rev c words) room
+        (ap₂ both fit (le-leb (length words) (dataLength (c .blocksize) (c .blockcount)) count)) (omega (arith, e))
+        carried-long (z ++ drop n room)
+        (ap₂ {C = List ℕ} (λ (x : List ℕ) (i : ℕ). x ++ drop i room) w (e ∙ sym carried-long))

@@ -1,5 +1,5 @@
--- No second answer fits the contract of an exported function: for a function that answers a value, the value; for one that builds into a room, its answer
--- and what the room holds afterwards.
+-- No second answer fits the contract of an exported function: for a function that answers a value, the value; for one
+-- that builds into a room, its answer and what the room holds afterwards.
 use mathlib.Core.Bool.{Bool}
 use mathlib.Core.List.{List}
 use Prim.Native.Nat.{ℕ}
@@ -43,7 +43,8 @@ encrypts-one κs a x y s t p q = one p q
 pub has-mac-one : OneAnswer 0 has-mac-kinds.ps has-mac-kinds.r has-mac.Post Bool (λ κs r s. r)
 has-mac-one κs a x y s t p q = one p q
 
-pub carried-into-one : OneAnswer 2 carried-into-kinds.ps carried-into-kinds.r carried-into.Post (Bool × List ℕ) (λ κs r s. (r, now (s .1 .1 .1 .0)))
+pub carried-into-one : OneAnswer 2 carried-into-kinds.ps carried-into-kinds.r carried-into.Post (Bool × List ℕ)
+    (λ κs r s. (r, now (s .1 .1 .1 .0)))
 carried-into-one κs a x y s t p q i = (one (p .says) (q .says) i, one (p .holds) (q .holds) i)
 
 pub header-fits-one : OneAnswer 1 header-fits-kinds.ps header-fits-kinds.r header-fits.Post Bool (λ κs r s. r)
@@ -55,7 +56,8 @@ words-in-one κs a x y s t p q = one p q
 pub filler-fits-one : OneAnswer 1 filler-fits-kinds.ps filler-fits-kinds.r filler-fits.Post Bool (λ κs r s. r)
 filler-fits-one κs a x y s t p q = one p q
 
-pub mac-behind-one : OneAnswer 1 mac-behind-kinds.ps mac-behind-kinds.r mac-behind.Post (Bool × List ℕ) (λ κs r s. (r, now (s .1 .1 .1 .0)))
+pub mac-behind-one : OneAnswer 1 mac-behind-kinds.ps mac-behind-kinds.r mac-behind.Post (Bool × List ℕ)
+    (λ κs r s. (r, now (s .1 .1 .1 .0)))
 mac-behind-one κs a x y s t p q i = (one (p .says) (q .says) i, one (p .holds) (q .holds) i)
 
 pub mac-fits-one : OneAnswer 2 mac-fits-kinds.ps mac-fits-kinds.r mac-fits.Post Bool (λ κs r s. r)

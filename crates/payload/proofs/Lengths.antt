@@ -29,13 +29,16 @@ blocks-whole s header n = omega arith
 
 -- ---- chaining, over any cipher of blocks
 
-pub enc-joined : (F : List ℕ → List ℕ) → ((b : List ℕ) → length (F b) ≡ 16) → (bs : List (List ℕ)) (iv : List ℕ) → length (joined (cbcEnc F iv bs)) ≡ length bs * 16
+pub enc-joined : (F : List ℕ → List ℕ) → ((b : List ℕ) → length (F b) ≡ 16) → (bs : List (List ℕ)) (iv : List ℕ)
+    → length (joined (cbcEnc F iv bs)) ≡ length bs * 16
 unfolding joined cbcEnc
 enc-joined F f [] iv = refl
 enc-joined F f (b ∷ bs) iv =
-    length-append (F (xor b iv)) (joined (cbcEnc F (F (xor b iv)) bs)) ∙ omega (arith, f (xor b iv), enc-joined F f bs (F (xor b iv)))
+    length-append (F (xor b iv)) (joined (cbcEnc F (F (xor b iv)) bs))
+    ∙ omega (arith, f (xor b iv), enc-joined F f bs (F (xor b iv)))
 
-pub dec-joined : (F : List ℕ → List ℕ) (bs : List (List ℕ)) (iv : List ℕ) → length (joined (cbcDec F iv bs)) ≡ length bs * 16
+pub dec-joined : (F : List ℕ → List ℕ) (bs : List (List ℕ)) (iv : List ℕ)
+    → length (joined (cbcDec F iv bs)) ≡ length bs * 16
 unfolding joined cbcDec xor
 dec-joined F [] iv = refl
 dec-joined F (b ∷ bs) iv = omega (arith, dec-joined F bs b)
@@ -65,6 +68,7 @@ mac-or-none : (b : Bool) (mackey s : List ℕ) → length (pick b (cmac96 mackey
 mac-or-none true mackey s = mac-twelve mackey s
 mac-or-none false mackey s = refl
 
-pub mac-long : (protmode : ℕ) (mackey s : List ℕ) → length (pick (hasMac protmode) (cmac96 mackey s) []) ≡ macLength protmode
+pub mac-long : (protmode : ℕ) (mackey s : List ℕ)
+    → length (pick (hasMac protmode) (cmac96 mackey s) []) ≡ macLength protmode
 unfolding macLength
 mac-long protmode = mac-or-none (hasMac protmode)

@@ -42,15 +42,18 @@ module _ (b : Bool) (out room after : List ℕ) (answer : Chaining) (i : Into b 
   into-taken e = i .leaves ∙ ap (λ (x : Bool). pick x (over out room) room) e
 
 -- the MAC, in a room of twelve
-pub mac-made : (k : ℕ) (key s fresh mac : List ℕ) (answer : Chaining) → length fresh ≡ 12 → macs k 12 ≡ true → Into (macs k 12) (cmac96 key s) fresh answer mac → mac ≡ cmac96 key s
-mac-made k key s fresh mac answer l t i = into-taken (macs k 12) (cmac96 key s) fresh mac answer i t ∙ over-all (cmac96 key s) fresh (mac-twelve key s ∙ sym l)
+pub mac-made : (k : ℕ) (key s fresh mac : List ℕ) (answer : Chaining) → length fresh ≡ 12 → macs k 12 ≡ true
+    → Into (macs k 12) (cmac96 key s) fresh answer mac → mac ≡ cmac96 key s
+mac-made k key s fresh mac answer l t i = into-taken (macs k 12) (cmac96 key s) fresh mac answer i t
+    ∙ over-all (cmac96 key s) fresh (mac-twelve key s ∙ sym l)
 
 -- ---- the MAC put behind
 
 -- whole blocks, at least one, go out under every ProtMode
 pub whole-taken : (protmode n : ℕ) → 1 ≤ n → n % 16 ≡ 0 → macTakes protmode n ≡ true
 unfolding macTakes
-whole-taken protmode n h e = ap (implies (hasMac protmode)) (room-for-mac n 12 h e (omega arith)) ∙ all (hasMac protmode)
+whole-taken protmode n h e = ap (implies (hasMac protmode)) (room-for-mac n 12 h e (omega arith))
+    ∙ all (hasMac protmode)
   where
     all : (x : Bool) → implies x true ≡ true
     all true = refl
@@ -66,32 +69,41 @@ mac-most protmode = most (hasMac protmode)
 
 module _ (protmode n : ℕ) (mackey room : List ℕ) where
   -- without a MAC all stays
-  pub mac-none : hasMac protmode ≡ false → n ≤ length room → Built (macTakes protmode n) (n + macLength protmode) (withMac mackey protmode (take n room)) room true room
+  pub mac-none : hasMac protmode ≡ false → n ≤ length room
+      → Built (macTakes protmode n) (n + macLength protmode) (withMac mackey protmode (take n room)) room true room
   unfolding macTakes macLength withMac
   mac-none e h =
       let s = take n room in
-      over-built (implies (hasMac protmode) (macs n 12)) (n + pick (hasMac protmode) 12 0) (s ++ pick (hasMac protmode) (cmac96 mackey s) []) room
+      over-built (implies (hasMac protmode) (macs n 12)) (n + pick (hasMac protmode) 12 0)
+      (s ++ pick (hasMac protmode) (cmac96 mackey s) []) room
       (ap (λ (x : Bool). implies x (macs n 12)) e) (rw e (omega arith))
       (rw e (ap length (append-nil s) ∙ length-take-le n room h ∙ (let z : n ≡ n + 0 = omega arith in z))) room
       (over-none n room h ∙ ap (λ (x : Bool). over (s ++ pick x (cmac96 mackey s) []) room) (sym e))
 
-  pub mac-refused : hasMac protmode ≡ true → macs n 12 ≡ false → Built (macTakes protmode n) (n + macLength protmode) (withMac mackey protmode (take n room)) room false room
+  pub mac-refused : hasMac protmode ≡ true → macs n 12 ≡ false
+      → Built (macTakes protmode n) (n + macLength protmode) (withMac mackey protmode (take n room)) room false room
   unfolding macTakes
-  mac-refused e f = refused (implies (hasMac protmode) (macs n 12)) (n + macLength protmode) (withMac mackey protmode (take n room)) room (ap₂ implies e f)
+  mac-refused e f = refused (implies (hasMac protmode) (macs n 12)) (n + macLength protmode)
+      (withMac mackey protmode (take n room)) room (ap₂ implies e f)
 
-  pub mac-put : (mac after : List ℕ) (answer : Bool) → hasMac protmode ≡ true → macs n 12 ≡ true → mac ≡ cmac96 mackey (take n room)
+  pub mac-put : (mac after : List ℕ) (answer : Bool) → hasMac protmode ≡ true → macs n 12 ≡ true
+      → mac ≡ cmac96 mackey (take n room)
       → Built true (n + length mac) (take n room ++ mac) room answer after
       → Built (macTakes protmode n) (n + macLength protmode) (withMac mackey protmode (take n room)) room answer after
   unfolding macTakes macLength withMac
   mac-put mac after answer e t m b =
       let s = take n room in
-      built (implies (hasMac protmode) (macs n 12)) (n + pick (hasMac protmode) 12 0) (n + length mac) (s ++ pick (hasMac protmode) (cmac96 mackey s) []) (s ++ mac) room after answer
-      (ap₂ implies e t) (ap (λ (k : ℕ). n + k) (ap length m ∙ mac-twelve mackey s) ∙ ap (λ (x : Bool). n + pick x 12 0) (sym e))
+      built (implies (hasMac protmode) (macs n 12)) (n + pick (hasMac protmode) 12 0) (n + length mac)
+      (s ++ pick (hasMac protmode) (cmac96 mackey s) []) (s ++ mac) room after answer
+      (ap₂ implies e t) (ap (λ (k : ℕ). n + k) (ap length m ∙ mac-twelve mackey s)
+      ∙ ap (λ (x : Bool). n + pick x 12 0) (sym e))
       (ap (λ (l : List ℕ). s ++ l) m ∙ ap (λ (x : Bool). s ++ pick x (cmac96 mackey s) []) (sym e)) b
 
-pub with-mac-long : (protmode : ℕ) (mackey s : List ℕ) → length (withMac mackey protmode s) ≡ length s + macLength protmode
+pub with-mac-long : (protmode : ℕ) (mackey s : List ℕ)
+    → length (withMac mackey protmode s) ≡ length s + macLength protmode
 unfolding withMac
-with-mac-long protmode mackey s = length-append s (pick (hasMac protmode) (cmac96 mackey s) []) ∙ ap (λ (k : ℕ). length s + k) (mac-long protmode mackey s)
+with-mac-long protmode mackey s = length-append s (pick (hasMac protmode) (cmac96 mackey s) [])
+    ∙ ap (λ (k : ℕ). length s + k) (mac-long protmode mackey s)
 
 -- ---- the MAC judged
 
@@ -104,6 +116,7 @@ module _ (mackey : List ℕ) (protmode : ℕ) (s mac : List ℕ) where
   unfolding macFits
   mac-unfit e f = ap₂ (λ (x y : Bool). implies x (both y (same (cmac96 mackey s) mac))) (sym e) (sym f)
 
-  pub mac-judged : hasMac protmode ≡ true → macs (length s) 12 ≡ true → same (cmac96 mackey s) mac ≡ macFits mackey protmode s mac
+  pub mac-judged : hasMac protmode ≡ true → macs (length s) 12 ≡ true
+      → same (cmac96 mackey s) mac ≡ macFits mackey protmode s mac
   unfolding macFits
   mac-judged e f = ap₂ (λ (x y : Bool). implies x (both y (same (cmac96 mackey s) mac))) (sym e) (sym f)

@@ -1,4 +1,5 @@
--- What was carried is recovered: its header and its filler fit, and its words are those that went in. And nothing else fits.
+-- What was carried is recovered: its header and its filler fit, and its words are those that went in. And nothing else
+-- fits.
 use mathlib.Core.Path.{_≡_, refl, sym, ap, ap₂, _∙_}
 use mathlib.Core.Bool.{Bool, true, false}
 use mathlib.Core.List.{List, [], _++_, append-assoc}
@@ -33,7 +34,8 @@ module _ (c : Custom) (words : List ℕ) where
   unfolding headerFits
   header-carried true fit =
       let n = headerLength (c .blocksize) in
-      let e : take n (carriedData true c words) ≡ headerOf c = ap (take n) (apart true) ∙ take-at (headerOf c) (words ++ filler true) n (header-long c) in
+      let e : take n (carriedData true c words) ≡ headerOf c = ap (take n) (apart true)
+      ∙ take-at (headerOf c) (words ++ filler true) n (header-long c) in
       ap₂ both fit (ap (λ (l : List ℕ). same l (headerOf c)) e ∙ same-self (headerOf c))
   header-carried false fit = refl
 
@@ -43,7 +45,8 @@ module _ (c : Custom) (words : List ℕ) where
     words-carried =
         let h = headerPart (c .blocksize) rev in
         let n = dataLength (c .blocksize) (c .blockcount) in
-        ap (take n) (ap (drop h) (apart rev) ∙ drop-at (pick rev (headerOf c) []) (words ++ filler rev) h (part-long rev c)) ∙ take-at words (filler rev) n all
+        ap (take n) (ap (drop h) (apart rev) ∙ drop-at (pick rev (headerOf c) []) (words ++ filler rev) h
+        (part-long rev c)) ∙ take-at words (filler rev) n all
 
     pub filler-carried : fillerFits rev c (carriedData rev c words) ≡ true
     unfolding fillerFits carried carriedData filled
@@ -51,14 +54,18 @@ module _ (c : Custom) (words : List ℕ) where
         let s = pick rev (headerOf c) [] ++ words in
         let k = blocksLength (c .blocksize) rev (c .blockcount) - length s in
         let e : drop (carried (c .blocksize) rev (c .blockcount)) (s ++ zerosOf k) ≡ zerosOf k =
-        drop-at s (zerosOf k) (carried (c .blocksize) rev (c .blockcount)) (length-append (pick rev (headerOf c) []) words ∙ ap₂ (λ (x y : ℕ). x + y) (part-long rev c) all) in
-        ap (λ (l : List ℕ). same l (zerosOf (length l))) e ∙ ap (λ (i : ℕ). same (zerosOf k) (zerosOf i)) (zeros-long k) ∙ same-self (zerosOf k)
+        drop-at s (zerosOf k) (carried (c .blocksize) rev (c .blockcount))
+        (length-append (pick rev (headerOf c) []) words ∙ ap₂ (λ (x y : ℕ). x + y) (part-long rev c) all) in
+        ap (λ (l : List ℕ). same l (zerosOf (length l))) e ∙ ap (λ (i : ℕ). same (zerosOf k) (zerosOf i)) (zeros-long k)
+        ∙ same-self (zerosOf k)
 
 -- D blocks whose header and filler fit are what their words are carried as
 module _ (c : Custom) (p : List ℕ) where
-  header-is : (rev : Bool) → headerFits rev c p ≡ true → take (headerPart (c .blocksize) rev) p ≡ pick rev (headerOf c) []
+  header-is : (rev : Bool) → headerFits rev c p ≡ true
+      → take (headerPart (c .blocksize) rev) p ≡ pick rev (headerOf c) []
   unfolding headerFits headerPart
-  header-is true e = same-equal (take (headerLength (c .blocksize)) p) (headerOf c) (both-right (customFits c) (same (take (headerLength (c .blocksize)) p) (headerOf c)) e)
+  header-is true e = same-equal (take (headerLength (c .blocksize)) p) (headerOf c)
+      (both-right (customFits c) (same (take (headerLength (c .blocksize)) p) (headerOf c)) e)
   header-is false e = refl
 
   module _ (rev : Bool) (long : length p ≡ blocksLength (c .blocksize) rev (c .blockcount)) where
@@ -66,22 +73,27 @@ module _ (c : Custom) (p : List ℕ) where
     unfolding wordsIn
     words-long =
         let h = headerPart (c .blocksize) rev in
-        length-take-le (dataLength (c .blocksize) (c .blockcount)) (drop h p) (omega (arith, length-drop h p, blocks-hold rev c))
+        length-take-le (dataLength (c .blocksize) (c .blockcount)) (drop h p)
+        (omega (arith, length-drop h p, blocks-hold rev c))
 
-    filler-is : fillerFits rev c p ≡ true → drop (headerPart (c .blocksize) rev + dataLength (c .blocksize) (c .blockcount)) p ≡ filler c (wordsIn rev c p) rev
+    filler-is : fillerFits rev c p ≡ true → drop (headerPart (c .blocksize) rev + dataLength (c .blocksize)
+        (c .blockcount)) p ≡ filler c (wordsIn rev c p) rev
     unfolding fillerFits carried
     filler-is e =
         let k = headerPart (c .blocksize) rev + dataLength (c .blocksize) (c .blockcount) in
         let s = pick rev (headerOf c) [] in
         same-equal (drop k p) (zerosOf (length (drop k p))) e
-        ∙ ap zerosOf (length-drop k p ∙ ap₂ (λ (i j : ℕ). i - j) long (sym (length-append s (wordsIn rev c p) ∙ ap₂ (λ (i j : ℕ). i + j) (part-long rev c) words-long)))
+        ∙ ap zerosOf (length-drop k p ∙ ap₂ (λ (i j : ℕ). i - j) long
+        (sym (length-append s (wordsIn rev c p) ∙ ap₂ (λ (i j : ℕ). i + j) (part-long rev c) words-long)))
 
     pub carried-only : headerFits rev c p ≡ true → fillerFits rev c p ≡ true → p ≡ carriedData rev c (wordsIn rev c p)
     unfolding wordsIn
     carried-only e f =
         let h = headerPart (c .blocksize) rev in
         let n = dataLength (c .blocksize) (c .blockcount) in
-        let rest : drop h p ≡ wordsIn rev c p ++ drop (h + n) p = sym (take-append-drop n (drop h p)) ∙ ap (λ (l : List ℕ). take n (drop h p) ++ l) (drop-drop n h p) in
+        let rest : drop h p ≡ wordsIn rev c p ++ drop (h + n) p = sym (take-append-drop n (drop h p))
+        ∙ ap (λ (l : List ℕ). take n (drop h p) ++ l) (drop-drop n h p) in
         sym (take-append-drop h p)
-        ∙ ap₂ {C = List ℕ} (λ (x y : List ℕ). x ++ y) (header-is rev e) (rest ∙ ap (λ (l : List ℕ). wordsIn rev c p ++ l) (filler-is f))
+        ∙ ap₂ {C = List ℕ} (λ (x y : List ℕ). x ++ y) (header-is rev e)
+        (rest ∙ ap (λ (l : List ℕ). wordsIn rev c p ++ l) (filler-is f))
         ∙ sym (apart c (wordsIn rev c p) rev)

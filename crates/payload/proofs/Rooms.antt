@@ -29,7 +29,8 @@ module _ (fit : Bool) (n : ℕ) (m room : List ℕ) where
     taken = ap₂ both f (le-leb n (length room) h)
 
     pub built-over : (answer : Bool) → Built fit n m room answer after → after ≡ over m room
-    built-over answer b = b .holds ∙ ap (λ (x : Bool). pick x (m ++ drop n room) room) taken ∙ ap (λ (k : ℕ). m ++ drop k room) (sym l)
+    built-over answer b = b .holds ∙ ap (λ (x : Bool). pick x (m ++ drop n room) room) taken
+        ∙ ap (λ (k : ℕ). m ++ drop k room) (sym l)
 
     pub over-built : after ≡ over m room → Built fit n m room true after
     over-built e = record {
@@ -43,10 +44,14 @@ module _ (at : ℕ) (d room : List ℕ) (h : at + length d ≤ length room) wher
   put-long = length-append (take at room) d ∙ ap (λ (k : ℕ). k + length d) (length-take-le at room (omega arith))
 
   pub put-built : (z : List ℕ) → z ≡ take (length d) d ++ drop (length d) (take (length room - at) (drop at room))
-      → Built true (at + length d) (take at room ++ d) room true (take at room ++ (z ++ drop (length room - at) (drop at room)))
+      → Built true (at + length d) (take at room ++ d) room true
+      (take at room ++ (z ++ drop (length room - at) (drop at room)))
   put-built z e =
-      over-built true (at + length d) (take at room ++ d) room refl h put-long (take at room ++ (z ++ drop (length room - at) (drop at room)))
+      over-built true (at + length d) (take at room ++ d) room refl h put-long
+      (take at room ++ (z ++ drop (length room - at) (drop at room)))
       (copied-back at room d z e ∙ over-behind at d room (omega arith))
 
-  pub put-over : (answer : Bool) (after : List ℕ) → Built true (at + length d) (take at room ++ d) room answer after → after ≡ take at room ++ over d (drop at room)
-  put-over answer after b = built-over true (at + length d) (take at room ++ d) room refl h put-long after answer b ∙ sym (over-behind at d room (omega arith))
+  pub put-over : (answer : Bool) (after : List ℕ) → Built true (at + length d) (take at room ++ d) room answer after
+      → after ≡ take at room ++ over d (drop at room)
+  put-over answer after b = built-over true (at + length d) (take at room ++ d) room refl h put-long after answer b
+      ∙ sym (over-behind at d room (omega arith))

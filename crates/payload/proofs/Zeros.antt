@@ -45,14 +45,18 @@ filled-long n s h = omega (arith, zeros-long (n - length s), length-append s (ze
 
 -- zeros over all of a room
 pub cleared : (n k : ℕ) (room r : List ℕ) → n ≡ length room → n ≤ k
-    → r ≡ take (length (take n (zerosOf k))) (take n (zerosOf k)) ++ drop (length (take n (zerosOf k))) room → r ≡ zerosOf n
+    → r ≡ take (length (take n (zerosOf k))) (take n (zerosOf k)) ++ drop (length (take n (zerosOf k))) room
+    → r ≡ zerosOf n
 cleared n k room r e h f =
-    copied (take n (zerosOf k)) room r f ∙ over-all (take n (zerosOf k)) room (length-take-le n (zerosOf k) (omega (arith, zeros-long k)) ∙ e) ∙ take-zeros k n h
+    copied (take n (zerosOf k)) room r f ∙ over-all (take n (zerosOf k)) room
+    (length-take-le n (zerosOf k) (omega (arith, zeros-long k)) ∙ e) ∙ take-zeros k n h
 
 -- two parts over zeros
 pub laid : (a b r s t : List ℕ) (n : ℕ) (x y : Bool) → length a + length b ≤ n → r ≡ zerosOf n
-    → Built true (0 + length a) (take 0 r ++ a) r x s → length s ≡ n → Built true (length a + length b) (take (length a) s ++ b) s y t → t ≡ filled n (a ++ b)
+    → Built true (0 + length a) (take 0 r ++ a) r x s → length s ≡ n
+    → Built true (length a + length b) (take (length a) s ++ b) s y t → t ≡ filled n (a ++ b)
 laid a b r s t n x y h e f l g =
     let k : length r ≡ n = ap length e ∙ zeros-long n in
     let p : s ≡ over a r = put-over 0 a r (omega arith) x s f in
-    put-next a b r s t (length a) refl p (put-over (length a) b s (omega arith) y t g) ∙ ap (over (a ++ b)) e ∙ zeros-filled n (a ++ b)
+    put-next a b r s t (length a) refl p (put-over (length a) b s (omega arith) y t g) ∙ ap (over (a ++ b)) e
+    ∙ zeros-filled n (a ++ b)

@@ -1,4 +1,5 @@
--- Custom data in D blocks of 128 bits (9.2): a header, in TAM2 Rev 1 and in IAM3, the data, and zeros. `rev` says whether there is a header.
+-- Custom data in D blocks of 128 bits (9.2): a header, in TAM2 Rev 1 and in IAM3, the data, and zeros. `rev` says
+-- whether there is a header.
 use Prim.Native.Nat.{ℕ, _-_}
 use mathlib.Core.Bool.{Bool}
 use mathlib.Core.List.{List, [], _++_}

@@ -22,6 +22,8 @@ macTakes protmode n = implies (hasMac protmode) (macs n macBytes)
 unfoldable pub withMac : List ℕ → ℕ → List ℕ → List ℕ
 withMac mackey protmode s = s ++ pick (hasMac protmode) (cmac96 mackey s) []
 
--- 9.4.7, 9.5.8.4, 9.5.8.5: where the ProtMode has a MAC, what came as the MAC is that of the bytes it covers, which are whole blocks, at least one.
+-- 9.4.7, 9.5.8.4, 9.5.8.5: where the ProtMode has a MAC, what came as the MAC is that of the bytes it covers, which are
+-- whole blocks, at least one.
 unfoldable pub macFits : List ℕ → ℕ → List ℕ → List ℕ → Bool
-macFits mackey protmode covered mac = implies (hasMac protmode) (both (macs (length covered) macBytes) (same (cmac96 mackey covered) mac))
+macFits mackey protmode covered mac = implies (hasMac protmode)
+    (both (macs (length covered) macBytes) (same (cmac96 mackey covered) mac))

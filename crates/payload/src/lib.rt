@@ -40,11 +40,13 @@ pub fn same(a: &[u8], b: &[u8]) -> bool
     true
 }
 
-/// Puts src behind the first bytes of a room, from place at on. Where it does not fit, the answer is false and no byte changes.
+/// Puts src behind the first bytes of a room, from place at on. Where it does not fit, the answer is false and no byte
+/// changes.
 ///
 /// Ruled out: a part of src put where there is no room for all; bytes behind src cleared.
 pub fn put(room: &mut [u8], at: usize, src: &[u8]) -> bool
-    ensures { λ r. ⌜ Built true (at + length (now (src .entry))) (take at (now (room .entry)) ++ now (src .entry)) (now (room .entry)) r (now (room .exit)) ⌝ }
+    ensures { λ r. ⌜ Built true (at + length (now (src .entry))) (take at (now (room .entry)) ++ now (src .entry))
+        (now (room .entry)) r (now (room .exit)) ⌝ }
 {
     if room.len() < at {
         return false;
@@ -106,13 +108,16 @@ fn lay(room: &mut [u8], a: &[u8], b: &[u8])
     put(room, i, b);
 }
 
-/// Header (in Rev 1), data and zeros up to D blocks, into the first bytes of a room (9.2). Where a field does not fit its bits, there
-/// are more data than BlockCount says, or the room is too short, the answer is false and no byte changes. Fewer data are filled up with zeros.
+/// Header (in Rev 1), data and zeros up to D blocks, into the first bytes of a room (9.2). Where a field does not fit
+/// its bits, there are more data than BlockCount says, or the room is too short, the answer is false and no byte
+/// changes. Fewer data are filled up with zeros.
 ///
 /// Ruled out: a header in Rev 0; a last block that is filled with what the room held.
 pub fn carried_into(rev: bool, custom: Custom, words: &[u8], room: &mut [u8]) -> bool
-    ensures { λ r. ⌜ Built (both (customFits custom) (leb (length (now (words .entry))) (dataLength (custom .blocksize) (custom .blockcount))))
-        (blocksLength (custom .blocksize) rev (custom .blockcount)) (carriedData rev custom (now (words .entry))) (now (room .entry)) r (now (room .exit)) ⌝ }
+    ensures { λ r. ⌜ Built (both (customFits custom) (leb (length (now (words .entry)))
+        (dataLength (custom .blocksize) (custom .blockcount))))
+        (blocksLength (custom .blocksize) rev (custom .blockcount)) (carriedData rev custom (now (words .entry)))
+        (now (room .entry)) r (now (room .exit)) ⌝ }
 {
     let mut header = [0u8; 8];
     if !header_into(custom, &mut header) {
@@ -173,12 +178,14 @@ pub fn filler_fits(rev: bool, custom: Custom, p: &[u8]) -> bool
     parts::zeros(parts::behind(parts::behind(p, h), n))
 }
 
-/// Where the ProtMode has a MAC, the MAC of the room's first n bytes behind them. Where these are no whole blocks, or there is no room
-/// for it, the answer is false and no byte changes. Without a MAC no byte changes, and the answer is whether the room has n bytes.
+/// Where the ProtMode has a MAC, the MAC of the room's first n bytes behind them. Where these are no whole blocks, or
+/// there is no room for it, the answer is false and no byte changes. Without a MAC no byte changes, and the answer is
+/// whether the room has n bytes.
 ///
 /// Ruled out: a MAC of 16 bytes; a MAC put in ProtMode 1.
 pub fn mac_behind(mackey: [u8; 16], protmode: u8, n: usize, room: &mut [u8]) -> bool
-    ensures { λ r. ⌜ Built (macTakes protmode n) (n + macLength protmode) (withMac mackey protmode (take n (now (room .entry)))) (now (room .entry)) r (now (room .exit)) ⌝ }
+    ensures { λ r. ⌜ Built (macTakes protmode n) (n + macLength protmode)
+        (withMac mackey protmode (take n (now (room .entry)))) (now (room .entry)) r (now (room .exit)) ⌝ }
 {
     if room.len() < n {
         return false;

@@ -1,5 +1,5 @@
-// A message to build: its kind, its fields as they stand in the line, and the call that builds it. A field out of its range is the
-// reader's own refusal.
+// A message to build: its kind, its fields as they stand in the line, and the call that builds it. A field out of its
+// range is the reader's own refusal.
 use console::answer::within;
 use console::fields;
 use console::fields::fill;

@@ -24,8 +24,7 @@ pub fn opened_block(keys: Keys, reply: &[u8]) -> [u8; 16]
 }
 
 /// Does it start with the constant and end with the reader's own challenge? Ruled out: a constant that is not looked
-/// at; a challenge of which
-/// only the first bytes count.
+/// at; a challenge of which only the first bytes count.
 pub fn block_fits(constant: [u8; 2], ichallenge: [u8; 10], b: [u8; 16]) -> bool
     ensures { λ r. ⌜ r ≡ blockFits constant ichallenge b ⌝ }
 {

@@ -34,7 +34,8 @@ module _ (c : Call) (P : Answer → Type 0) (initial : (f : Fault) → P (refuse
   picked true x y h k = h refl
   picked false x y h k = k
 
-  module _ (tag : KeyedTag) (asItWas : (f : Fault) → P (refused c f (tag .session))) (kinds : (first : ℕ) (rest : List ℕ)
+  module _ (tag : KeyedTag) (asItWas : (f : Fault) → P (refused c f (tag .session)))
+      (kinds : (first : ℕ) (rest : List ℕ)
       → c .message ≡ first ∷ rest → offered (tag .setup .features) (kindOf first) ≡ true
       → inTurn (tag .session .state) (kindOf first) ≡ true → P (byKind c (tag .setup) (tag .session) (kindOf first)))
     where

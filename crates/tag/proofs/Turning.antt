@@ -60,7 +60,8 @@ module _ (c : Call) (setup : Setup) (held : Session) (room : List ℕ) (r : Reac
     unfolding byKind
     is-iam1 = apart k Iam1 after (λ e. (let z : _≡_ {A = ℕ} 0 1 = cc in omega arith))
 
-    pub is-iam2 : k ≡ Iam2 → LetsIn (iam2Verdict (setup .keys) held (c .message)) (iam2Purpose (setup .keys) held (c .message)) r
+    pub is-iam2 : k ≡ Iam2 → LetsIn (iam2Verdict (setup .keys) held (c .message))
+        (iam2Purpose (setup .keys) held (c .message)) r
         → OfKind k room
     unfolding byKind iam2Answer
     is-iam2 e h =
@@ -70,7 +71,8 @@ module _ (c : Call) (setup : Setup) (held : Session) (room : List ℕ) (r : Reac
     unfolding byKind
     is-mam1 = apart k Mam1 after (λ e. (let z : _≡_ {A = ℕ} 0 1 = cc in omega arith))
 
-    pub is-mam2 : k ≡ Mam2 → LetsIn (mam2Verdict (setup .keys) held (c .message)) (mam2Purpose (setup .keys) held (c .message)) r
+    pub is-mam2 : k ≡ Mam2 → LetsIn (mam2Verdict (setup .keys) held (c .message))
+        (mam2Purpose (setup .keys) held (c .message)) r
         → OfKind k room
     unfolding byKind mam2Answer
     is-mam2 e h =

@@ -1,5 +1,5 @@
--- A run of the code: each call is lent the key table, given the tag and the areas that the last one left, and leaves what
--- its contract says.
+-- A run of the code: each call is lent the key table, given the tag and the areas that the last one left, and leaves
+-- what its contract says.
 use mathlib.Core.Path.{_≡_}
 use mathlib.Core.List.{List, [], _∷_}
 use Prim.Native.Nat.{ℕ}

@@ -1,5 +1,5 @@
--- What a call leaves behind: the answer's outcome and session in what is returned, its reply over the first bytes of the
--- room, its areas in the areas.
+-- What a call leaves behind: the answer's outcome and session in what is returned, its reply over the first bytes of
+-- the room, its areas in the areas.
 use mathlib.Core.Path.{_≡_}
 use mathlib.Core.List.{List}
 use Prim.Native.Nat.{ℕ}

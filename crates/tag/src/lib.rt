@@ -74,8 +74,8 @@ fn ten(draws: &[u8]) -> [u8; 10]
     r
 }
 
-/// One message: the tag by value; its key table, message, draws, reply room and both areas lent. The outcome and the next tag are
-/// returned, the reply stands in the room's first bytes, and an accepted IAM3 has written its words.
+/// One message: the tag by value; its key table, message, draws, reply room and both areas lent. The outcome and the
+/// next tag are returned, the reply stands in the room's first bytes, and an accepted IAM3 has written its words.
 ///
 /// A refusal changes no byte of room or areas; numbers 1 to 6 leave the tag in Initial, number 7 leaves it as it was.
 ///

@@ -78,8 +78,10 @@ module _ (setup : Setup) (m draws : List ℕ) (v : Verdict) where
         → Gives (tam2Verdict setup m) (tam2Sent setup m draws i u) (record { outcome = Replied n; reply = after })
     tam2-fine f k b words after n x e ke be we ne h =
         let full : k ≡ keyWith (tam2Of m .keyid) (setup .keys) = ke ∙ (λ j. keyWith (e j .keyid) (setup .keys)) in
-        let block : b ≡ blockAsked (setup .profiles) (tam2Of m .custom) = be ∙ (λ j. blockAsked (setup .profiles) (e j .custom)) in
-        let asked : words ≡ windowOf i u (blockAsked (setup .profiles) (tam2Of m .custom)) = we ∙ ap (windowOf i u) block in
+        let block : b ≡ blockAsked (setup .profiles) (tam2Of m .custom) = be
+        ∙ (λ j. blockAsked (setup .profiles) (e j .custom)) in
+        let asked : words ≡ windowOf i u (blockAsked (setup .profiles) (tam2Of m .custom)) = we
+        ∙ ap (windowOf i u) block in
         let made : tam2Reply k f words draws ≡ tam2Sent setup m draws i u =
         λ j. tam2Reply (full j) (e j) (asked j) draws in
         gives _ _ _ (sym w ∙ x) (ap Replied (ne ∙ ap length made)) (h ∙ ap (λ (l : List ℕ). over l zeros) made)

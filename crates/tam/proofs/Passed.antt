@@ -25,7 +25,8 @@ module _ (setup : Setup) (m : List ℕ) (h : judged (tam2Checks setup m) ≡ Fin
   unfolding tam2Checks
   tam2-key = first-holds _ _ (others-hold _ _ (others-hold _ _ (others-hold _ _ (others-hold _ _ h))))
 
-  pub tam2-inside : overruns (slotNamed (setup .profiles) (tam2Of m .custom .profile) .profile) (blockAsked (setup .profiles) (tam2Of m .custom)) ≡ false
+  pub tam2-inside : overruns (slotNamed (setup .profiles) (tam2Of m .custom .profile) .profile)
+      (blockAsked (setup .profiles) (tam2Of m .custom)) ≡ false
   unfolding tam2Checks
   tam2-inside =
       let k = others-hold _ _ (others-hold _ _ (others-hold _ _ (others-hold _ _ h))) in

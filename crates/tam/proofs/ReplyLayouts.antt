@@ -1,6 +1,5 @@
 -- The layout of each reply, by kind, Rev and ProtMode: 9.4.3, Tables 7 to 14. A is the authentication block, P header,
--- data and
--- filler, X is P chained to A, and the MAC covers what goes before it.
+-- data and filler, X is P chained to A, and the MAC covers what goes before it.
 use mathlib.Core.Path.{_≡_, refl}
 use mathlib.Core.Bool.{true, false}
 use mathlib.Core.List.{List, _++_, append-nil}

@@ -24,7 +24,8 @@ use Rattle.offer.proofs.Bytes.{Ten, drop-bytes, challenge-ten, select-custom-fi
 module _ (m : List ℕ) (h : Bytes m) where
   pub tam2-custom-fits : customFits (tam2Of m .custom) ≡ true
   unfolding tam2Of
-  tam2-custom-fits = select-custom-fits (sizeOf (byte m 0 / 16 % 2)) (byte m 12) (byte m 13) (byte m 14) (h 12) (h 13) (h 14)
+  tam2-custom-fits = select-custom-fits (sizeOf (byte m 0 / 16 % 2)) (byte m 12) (byte m 13) (byte m 14) (h 12) (h 13)
+      (h 14)
 
   pub tam1-challenge : Ten (tam1Of m .ichallenge)
   unfolding tam1Of
@@ -48,14 +49,22 @@ window-most : (identity user : List ℕ) (b : Block) → length (windowOf identi
 unfolding windowOf partOf
 window-most identity user b =
     let area = areaOf (b .area) identity user in
-    cond-most (within b area) (take (byteCount b) (drop (firstByte b) area)) (byteCount b) (take-most (byteCount b) (drop (firstByte b) area))
+    cond-most (within b area) (take (byteCount b) (drop (firstByte b) area)) (byteCount b)
+    (take-most (byteCount b) (drop (firstByte b) area))
 
-pub asked-bytes : (profiles : List Slot) (c : Custom) → byteCount (blockAsked profiles c) ≡ dataLength (c .blocksize) (c .blockcount)
+pub asked-bytes : (profiles : List Slot) (c : Custom)
+    → byteCount (blockAsked profiles c) ≡ dataLength (c .blocksize) (c .blockcount)
 unfolding blockAsked
 asked-bytes profiles c = sym (words-bytes-asked (slotNamed profiles (c .profile) .profile) c)
 
-pub words-most : (profiles : List Slot) (c : Custom) (identity user : List ℕ) → length (windowOf identity user (blockAsked profiles c)) ≤ dataLength (c .blocksize) (c .blockcount)
-words-most profiles c identity user = omega (arith, window-most identity user (blockAsked profiles c), asked-bytes profiles c)
+pub words-most : (profiles : List Slot) (c : Custom) (identity user : List ℕ)
+    → length (windowOf identity user (blockAsked profiles c)) ≤ dataLength (c .blocksize) (c .blockcount)
+words-most profiles c identity user = omega (
+  arith,
+  window-most identity user (blockAsked profiles c),
+  asked-bytes
+      profiles c,
+)
 
 cond-bytes : (b : Bool) (s : List ℕ) → Bytes s → Bytes (cond b s [])
 cond-bytes true s h = h
@@ -71,9 +80,12 @@ unfolding windowOf partOf
 words-bytes b identity user h k =
     let area = areaOf (b .area) identity user in
     cond-bytes (within b area) (take (byteCount b) (drop (firstByte b) area))
-    (bytes-take (byteCount b) (drop (firstByte b) area) (drop-bytes (firstByte b) area (area-bytes (b .area) identity user h k)))
+    (bytes-take (byteCount b) (drop (firstByte b) area)
+    (drop-bytes (firstByte b) area (area-bytes (b .area) identity user h k)))
 
 -- the same of the words that the code has
-pub words-fit : (profiles : List Slot) (c : Custom) (identity user : List ℕ) {b : Block} {words : List ℕ} → b ≡ blockAsked profiles c → words ≡ windowOf identity user b
+pub words-fit : (profiles : List Slot) (c : Custom) (identity user : List ℕ) {b : Block} {words : List ℕ}
+    → b ≡ blockAsked profiles c → words ≡ windowOf identity user b
     → length words ≤ dataLength (c .blocksize) (c .blockcount)
-words-fit profiles c identity user e w = subst (λ (l : List ℕ). length l ≤ dataLength (c .blocksize) (c .blockcount)) (sym (w ∙ ap (windowOf identity user) e)) (words-most profiles c identity user)
+words-fit profiles c identity user e w = subst (λ (l : List ℕ). length l ≤ dataLength (c .blocksize) (c .blockcount))
+    (sym (w ∙ ap (windowOf identity user) e)) (words-most profiles c identity user)

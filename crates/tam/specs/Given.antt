@@ -34,7 +34,8 @@ tam2Verdict setup m = judged (tam2Checks setup m)
 abbrev pub tam2Sent : Setup → List ℕ → List ℕ → List ℕ → List ℕ → List ℕ
 tam2Sent setup m draws identity user =
     let f = tam2Of m in
-    tam2Reply (keyWith (f .keyid) (setup .keys)) f (windowOf identity user (blockAsked (setup .profiles) (f .custom))) draws
+    let words = windowOf identity user (blockAsked (setup .profiles) (f .custom)) in
+    tam2Reply (keyWith (f .keyid) (setup .keys)) f words draws
 
 -- What is given: the outcome, and the bytes that are sent over zeros.
 pub record Gives (v : Verdict) (bytes : List ℕ) (g : Given) : Type 0 where

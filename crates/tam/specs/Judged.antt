@@ -1,6 +1,5 @@
 -- What is judged of a TAM2 before anything is done, in the order of 9.4.5 and of the scope paper. The line is built of
--- its
--- parts, each judged by a function of its own; the whole is the last definition. (TAM1's is the opening line.)
+-- its parts, each judged by a function of its own; the whole is the last definition. (TAM1's is the opening line.)
 use Prim.Native.Nat.{ℕ}
 use mathlib.Core.Bool.{not}
 use mathlib.Core.List.{List, [], _∷_}
@@ -38,7 +37,8 @@ tam2FieldChecks setup f =
     ∷ (revOffered (setup .features) (f .rev) else NotSupported)
     ∷ (eqb (f .rfu) 0 else NotSupported)
     ∷ (hasKey (f .keyid) (setup .keys) else NotSupported)
-    ∷ tam2BlockChecks (setup .features) (keyWith (f .keyid) (setup .keys)) f (slotNamed (setup .profiles) (f .custom .profile))
+    ∷ tam2BlockChecks (setup .features) (keyWith (f .keyid) (setup .keys)) f
+    (slotNamed (setup .profiles) (f .custom .profile))
     (blockAsked (setup .profiles) (f .custom))
 
 unfoldable pub tam2Checks : Setup → List ℕ → List (Check Fault)

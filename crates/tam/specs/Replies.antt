@@ -1,6 +1,5 @@
 -- What the tag sends: 9.4.3, 9.4.6. The keys are those of the record that the message named; `draws` are the tag's
--- random
--- bytes.
+-- random bytes.
 use Prim.Native.Nat.{ℕ}
 use mathlib.Core.List.{List, _++_}
 use lib.ListN.{take}

@@ -69,7 +69,8 @@ pub fn tam2<'a>(
     user: &'a [u8],
 ) -> Given
     ensures { λ r. ⌜ Gives (tam2Verdict (setupOf terms (now (keys .entry))) (now (message .entry)))
-        (tam2Sent (setupOf terms (now (keys .entry))) (now (message .entry)) draws (now (identity .entry)) (now (user .entry))) r ⌝ }
+        (tam2Sent (setupOf terms (now (keys .entry))) (now (message .entry)) draws (now (identity .entry))
+        (now (user .entry))) r ⌝ }
 {
     let verdict = judged::tam2(terms, keys, message);
     if let Verdict::Wrong(fault) = verdict {

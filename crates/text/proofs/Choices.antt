@@ -6,7 +6,8 @@ use native.Mathlib.Omega.{arith}
 use Rattle.ground.specs.Choice.{pick, both}
 
 -- what holds of either holds of the one that is picked
-pub picked : {A : Type 0} (P : A → Type 0) (test : Bool) {x y : A} → (test ≡ true → P x) → (test ≡ false → P y) → P (pick test x y)
+pub picked : {A : Type 0} (P : A → Type 0) (test : Bool) {x y : A} → (test ≡ true → P x) → (test ≡ false → P y)
+    → P (pick test x y)
 picked P true f g = f refl
 picked P false f g = g refl
 

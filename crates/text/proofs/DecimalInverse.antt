@@ -11,7 +11,18 @@ use lib.Seq.{append-snoc}
 use borrow.Author.Tests.{lt-ltb, eqb-true, ltb-true, ltb-false, le-leb, not-false}
 use Rattle.ground.specs.Choice.{both}
 use Rattle.text.specs.Digits.{value, glyph, digits, isWord}
-use Rattle.text.specs.Decimal.{behind, numberOf, largest, decimalRead, zeroDigit, stripped, orZero, trimmed, fiveDigits, decimalWord}
+use Rattle.text.specs.Decimal.{
+  behind,
+  numberOf,
+  largest,
+  decimalRead,
+  zeroDigit,
+  stripped,
+  orZero,
+  trimmed,
+  fiveDigits,
+  decimalWord,
+}
 use Rattle.text.specs.Inverse.{DecimalBack, DecimalAgain}
 use Rattle.text.specs.declared.DecimalRead.{DecimalRead}
 use Rattle.text.specs.declared.DecimalRead.the-variants.{Number}
@@ -56,7 +67,8 @@ stripped-digits : (w : List ℕ) → digits 10 w ≡ true → digits 10 (strippe
 unfolding digits stripped
 stripped-digits [] h = refl
 stripped-digits (c ∷ w) h =
-    picked (λ (l : List ℕ). digits 10 l ≡ true) (eqb c zeroDigit) (λ t. stripped-digits w (each (ltb (value c) 10) _ h .1)) (λ t. h)
+    picked (λ (l : List ℕ). digits 10 l ≡ true) (eqb c zeroDigit)
+    (λ t. stripped-digits w (each (ltb (value c) 10) _ h .1)) (λ t. h)
 
 -- nor does the `0` that stands for no digit
 zero-number : (w : List ℕ) → numberOf (orZero w) ≡ numberOf w
@@ -71,7 +83,8 @@ zero-word (c ∷ w) h = ap₂ both (le-leb 1 (length (c ∷ w)) (omega arith)) h
 
 read-written : (n : ℕ) → n ≤ largest → decimalRead (decimalWord n) ≡ Number n
 read-written n h =
-    sym (number (decimalWord n) (zero-word (stripped (fiveDigits n)) (stripped-digits (fiveDigits n) (five-digits n))) n h
+    sym (number (decimalWord n) (zero-word (stripped (fiveDigits n)) (stripped-digits (fiveDigits n) (five-digits n))) n
+    h
     (zero-number (stripped (fiveDigits n)) ∙ stripped-number (fiveDigits n) ∙ five-number n h))
 
 -- ---- what is read, written
@@ -81,7 +94,8 @@ stripped-behind : (w u : List ℕ) → stripped (stripped w ++ u) ≡ stripped (
 unfolding stripped
 stripped-behind [] u = refl
 stripped-behind (c ∷ w) u =
-    picked (λ (l : List ℕ). stripped (l ++ u) ≡ stripped (c ∷ (w ++ u))) (eqb c zeroDigit) (λ t. rw t (stripped-behind w u)) (λ t. refl)
+    picked (λ (l : List ℕ). stripped (l ++ u) ≡ stripped (c ∷ (w ++ u))) (eqb c zeroDigit)
+    (λ t. rw t (stripped-behind w u)) (λ t. refl)
 
 no-digits : stripped [] ≡ stripped (fiveDigits 0)
 unfolding stripped fiveDigits glyph
@@ -115,7 +129,8 @@ number-again (c ∷ w) p n h l e =
     let d : value c < 10 = ltb-true (value c) 10 (first .0) in
     let grown = behind-grows (n * 10 + value c) w in
     let on : stripped (p ++ (c ∷ [])) ≡ stripped (fiveDigits (n * 10 + value c)) =
-    sym (stripped-behind p (c ∷ [])) ∙ ap (λ (l : List ℕ). stripped (l ++ (c ∷ []))) e ∙ stripped-behind (fiveDigits n) (c ∷ [])
+    sym (stripped-behind p (c ∷ [])) ∙ ap (λ (l : List ℕ). stripped (l ++ (c ∷ []))) e
+    ∙ stripped-behind (fiveDigits n) (c ∷ [])
     ∙ ap (λ (x : ℕ). stripped (fiveDigits n ++ (x ∷ []))) (sym (glyph-digit c d))
     ∙ five-behind n (value c) d (omega arith) in
     ap stripped (sym (append-snoc p c w)) ∙ number-again w (p ++ (c ∷ [])) (n * 10 + value c) (first .1) l on
@@ -138,7 +153,8 @@ module _ (w : List ℕ) (n : ℕ) where
 -- ---- the theorems
 
 pub decimal-back : DecimalBack
-decimal-back number room n text b h l = ap decimalRead (stands (decimalWord number) room n text h l) ∙ read-written number b
+decimal-back number room n text b h l = ap decimalRead (stands (decimalWord number) room n text h l)
+    ∙ read-written number b
 
 pub decimal-again : DecimalAgain
 decimal-again word number room n text h k l = stands (decimalWord number) room n text k l ∙ written-read word number h

@@ -11,7 +11,18 @@ use lib.ListN.{length, take, drop, getD, length-drop, drop-of-length-le}
 use lib.Seq.{drop-cons, take-all}
 use borrow.Author.Tests.{eq-eqb, ne-eqb, eqb-true, lt-ltb, le-ltb}
 use Rattle.text.specs.Digits.{value, isWord}
-use Rattle.text.specs.Decimal.{behind, numberOf, largest, decimalRead, zeroDigit, stripped, orZero, trimmed, fiveDigits, decimalWord}
+use Rattle.text.specs.Decimal.{
+  behind,
+  numberOf,
+  largest,
+  decimalRead,
+  zeroDigit,
+  stripped,
+  orZero,
+  trimmed,
+  fiveDigits,
+  decimalWord,
+}
 use Rattle.text.proofs.Choices.{picked}
 use Rattle.text.specs.declared.DecimalRead.the-variants.{Number, NotNumber, Over}
 
@@ -53,7 +64,8 @@ module _ (w : List ℕ) where
 lone-digit : (c : ℕ) → trimmed (c ∷ []) ≡ c ∷ []
 unfolding stripped
 lone-digit c =
-    picked (λ (w : List ℕ). orZero w ≡ c ∷ []) (eqb c zeroDigit) (λ t. ap (λ (d : ℕ). d ∷ []) (sym (eqb-true c zeroDigit t))) (λ t. refl)
+    picked (λ (w : List ℕ). orZero w ≡ c ∷ []) (eqb c zeroDigit)
+    (λ t. ap (λ (d : ℕ). d ∷ []) (sym (eqb-true c zeroDigit t))) (λ t. refl)
 
 -- the steps of `zeros`
 module _ (w : List ℕ) (i : ℕ) where
@@ -75,7 +87,8 @@ module _ (w : List ℕ) (i : ℕ) where
       lone ∙ sym (ap orZero (sym e ∙ ap stripped lone) ∙ lone-digit (getD w i 0))
 
 -- the five digits without the zeros in front, as `write_decimal` takes them
-pub five-word : (n zeros : ℕ) (five : List ℕ) → five ≡ fiveDigits n → drop zeros five ≡ trimmed five → take (5 - zeros) (drop zeros five) ≡ decimalWord n
+pub five-word : (n zeros : ℕ) (five : List ℕ) → five ≡ fiveDigits n → drop zeros five ≡ trimmed five
+    → take (5 - zeros) (drop zeros five) ≡ decimalWord n
 unfolding fiveDigits
 five-word n zeros five e f =
     take-all (5 - zeros) (drop zeros five) (simp length-drop (omega (arith, ap length e))) ∙ f ∙ ap trimmed e

@@ -1,4 +1,5 @@
--- The definitions at words that a person can check. The characters are ASCII: 45 is `-`, 48 `0`, 57 `9`, 65 `A`, 70 `F`, 97 `a`, 102 `f`.
+-- The definitions at words that a person can check. The characters are ASCII: 45 is `-`, 48 `0`, 57 `9`, 65 `A`, 70
+-- `F`, 97 `a`, 102 `f`.
 use mathlib.Core.Path.{_≡_, refl}
 use mathlib.Core.List.{[], _∷_}
 use Rattle.text.specs.Digits.{value, glyph, digits}

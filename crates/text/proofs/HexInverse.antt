@@ -55,9 +55,11 @@ read-written [] room h l = no-bytes (dash ∷ []) room refl
 read-written (b ∷ bs) room h l =
     let all : List ℕ = b ∷ bs in
     let half : length (pairs all) / 2 ≡ length all = omega (arith, pairs-long all) in
-    let word : isWord 16 (pairs all) ≡ true = ap₂ both (le-leb 1 (length (pairs all)) (omega (arith, pairs-long all))) (digits-pairs all h) in
+    let word : isWord 16 (pairs all) ≡ true = ap₂ both (le-leb 1 (length (pairs all)) (omega (arith, pairs-long all)))
+    (digits-pairs all h) in
     rw half at
-    (bytes (pairs all) room (no-dash b bs) word (λ o. omega (arith, pairs-long all)) (omega (arith, pairs-long all)) (all ++ drop (length all) room)
+    (bytes (pairs all) room (no-dash b bs) word (λ o. omega (arith, pairs-long all)) (omega (arith, pairs-long all))
+    (all ++ drop (length all) room)
     (ap (λ (l : List ℕ). l ++ drop (length l) room) (sym (bytes-pairs all h))))
 
 -- ---- what is read, written
@@ -67,7 +69,8 @@ module _ (w : List ℕ) (size n : ℕ) (G : Type 0) where
   abbrev Read : HexRead → Type 0
   Read r = r ≡ Bytes n → G
 
-  accepted : (isDash w ≡ true → n ≡ 0 → G) → (isWord 16 w ≡ true → (length w % 2 ≡ 1 → ⊥) → n ≡ length (bytesOf w) → G) → Read (hexRead w size)
+  accepted : (isDash w ≡ true → n ≡ 0 → G) → (isWord 16 w ≡ true → (length w % 2 ≡ 1 → ⊥) → n ≡ length (bytesOf w) → G)
+      → Read (hexRead w size)
   unfolding hexRead
   accepted none some =
       picked Read (isDash w) (λ d e. none d (cc))
@@ -93,11 +96,14 @@ pairs-again (c ∷ (d ∷ w)) h e =
     let y : value d < 16 = ltb-true (value d) 16 (second .0) in
     let high : (value c * 16 + value d) / 16 ≡ value c = omega arith in
     let low : (value c * 16 + value d) % 16 ≡ value d = omega arith in
-    ap₂ _∷_ (ap glyph high ∙ glyph-value c x) (ap₂ _∷_ (ap glyph low ∙ glyph-value d y) (pairs-again w (second .1) (λ o. e (omega arith))))
+    ap₂ _∷_ (ap glyph high ∙ glyph-value c x) (ap₂ _∷_ (ap glyph low ∙ glyph-value d y)
+    (pairs-again w (second .1) (λ o. e (omega arith))))
 
-written-read : (w room : List ℕ) (n : ℕ) (after : List ℕ) → ReadsHex w room (Bytes n) after → hexWord (take n after) ≡ map lower w
+written-read : (w room : List ℕ) (n : ℕ) (after : List ℕ) → ReadsHex w room (Bytes n) after
+    → hexWord (take n after) ≡ map lower w
 written-read w room n after h =
-    let held : after ≡ bytesOf w ++ drop n room = h .holds ∙ ap (λ (r : HexRead). hexRoom r (bytesOf w) room) (sym (h .says)) in
+    let held : after ≡ bytesOf w ++ drop n room = h .holds
+    ∙ ap (λ (r : HexRead). hexRoom r (bytesOf w) room) (sym (h .says)) in
     accepted w (length room) n (hexWord (take n after) ≡ map lower w)
     (λ d z. rw z (dash-again w d))
     (λ t v e.
@@ -115,4 +121,5 @@ hex-back bytes room other n text r after b h l f k =
     (g .says ∙ sym (w .says), g .holds ∙ sym (w .holds))
 
 pub hex-again : HexAgain
-hex-again word room other n after m text h k l = stands (hexWord (take n after)) other m text k l ∙ written-read word room n after h
+hex-again word room other n after m text h k l = stands (hexWord (take n after)) other m text k l
+    ∙ written-read word room n after h

@@ -1,4 +1,5 @@
--- The premises of the inverse can be met: each theorem, applied to two calls. `AF` is 65, 70; `af` is 97, 102; `007` is 48, 48, 55.
+-- The premises of the inverse can be met: each theorem, applied to two calls. `AF` is 65, 70; `af` is 97, 102; `007` is
+-- 48, 48, 55.
 use mathlib.Core.Path.{_≡_, refl}
 use mathlib.Core.List.{List, [], _∷_, _++_, map}
 use Prim.Native.Nat.{ℕ, zero, suc}
@@ -14,7 +15,8 @@ use Rattle.text.specs.declared.DecimalRead.the-variants.{Number}
 use Rattle.text.proofs.HexInverse.{hex-back, hex-again}
 use Rattle.text.proofs.DecimalInverse.{decimal-back, decimal-again}
 
--- the byte 175; a room of three characters, and what it holds when `af` is written; a room of two bytes, and what it holds when they are read
+-- the byte 175; a room of three characters, and what it holds when `af` is written; a room of two bytes, and what it
+-- holds when they are read
 abbrev byte : List ℕ
 byte = 175 ∷ []
 

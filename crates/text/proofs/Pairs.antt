@@ -26,7 +26,8 @@ first-on i = omega arith
 second-on : (i : ℕ) → suc i * 2 + 1 ≡ suc (suc (i * 2 + 1))
 second-on i = omega arith
 
-pub byte-at : (w : List ℕ) (i : ℕ) → i < length w / 2 → getD (bytesOf w) i 0 ≡ value (getD w (i * 2) 0) * 16 + value (getD w (i * 2 + 1) 0)
+pub byte-at : (w : List ℕ) (i : ℕ) → i < length w / 2
+    → getD (bytesOf w) i 0 ≡ value (getD w (i * 2) 0) * 16 + value (getD w (i * 2 + 1) 0)
 unfolding bytesOf
 byte-at [] i h = absurd (omega arith)
 byte-at (c ∷ []) i h = absurd (omega arith)
@@ -48,22 +49,27 @@ low-at (b ∷ bs) (suc i) h = rw second-on (low-at bs i (omega arith))
 -- ---- the steps of the loops
 
 -- one byte more is read
-pub byte-next : (w room now : List ℕ) (i h l : ℕ) → i < length w / 2 → length w / 2 ≤ length room → now ≡ begun (bytesOf w) room i
-    → h ≡ value (getD w (i * 2) 0) → l ≡ value (getD w (i * 2 + 1) 0) → set now i (h * 16 + l) ≡ begun (bytesOf w) room (i + 1)
+pub byte-next : (w room now : List ℕ) (i h l : ℕ) → i < length w / 2 → length w / 2 ≤ length room
+    → now ≡ begun (bytesOf w) room i
+    → h ≡ value (getD w (i * 2) 0) → l ≡ value (getD w (i * 2 + 1) 0)
+    → set now i (h * 16 + l) ≡ begun (bytesOf w) room (i + 1)
 byte-next w room now i h l b r e p q =
     let long = bytes-long w in
     next (bytesOf w) room i now (h * 16 + l) (omega arith) (omega arith) e
     (ap₂ (λ (x y : ℕ). x * 16 + y) p q ∙ sym (byte-at w i b))
 
 -- two digits more are written
-pub pair-next : (bs room now : List ℕ) (i : ℕ) (two : List ℕ) → i < length bs → length bs * 2 ≤ length room → now ≡ begun (pairs bs) room (i * 2)
+pub pair-next : (bs room now : List ℕ) (i : ℕ) (two : List ℕ) → i < length bs → length bs * 2 ≤ length room
+    → now ≡ begun (pairs bs) room (i * 2)
     → two ≡ glyph (getD bs i 0 / 16) ∷ (glyph (getD bs i 0 % 16) ∷ [])
     → set (set now (i * 2) (getD two 0 0)) (i * 2 + 1) (getD two 1 0) ≡ begun (pairs bs) room ((i + 1) * 2)
 pair-next bs room now i two b r e p =
     let long = pairs-long bs in
-    let high = next (pairs bs) room (i * 2) now (getD two 0 0) (omega arith) (omega arith) e (rw p (sym (high-at bs i b))) in
+    let high = next (pairs bs) room (i * 2) now (getD two 0 0) (omega arith) (omega arith) e
+    (rw p (sym (high-at bs i b))) in
     let on : i * 2 + 1 + 1 ≡ (i + 1) * 2 = omega arith in
-    next (pairs bs) room (i * 2 + 1) (set now (i * 2) (getD two 0 0)) (getD two 1 0) (omega arith) (omega arith) high (rw p (sym (low-at bs i b)))
+    next (pairs bs) room (i * 2 + 1) (set now (i * 2) (getD two 0 0)) (getD two 1 0) (omega arith) (omega arith) high
+    (rw p (sym (low-at bs i b)))
     ∙ ap (begun (pairs bs) room) on
 
 -- the word of bytes, where there are none, and where there are

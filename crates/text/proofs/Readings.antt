@@ -35,7 +35,8 @@ dash-bytes (c ∷ (d ∷ w)) h = absurd (false≢true h)
 
 -- an answer, and what it leaves in the room
 module _ (w room : List ℕ) where
-  answered : (r : HexRead) (after : List ℕ) → hexRead w (length room) ≡ r → after ≡ hexRoom r (bytesOf w) room → ReadsHex w room r after
+  answered : (r : HexRead) (after : List ℕ) → hexRead w (length room) ≡ r → after ≡ hexRoom r (bytesOf w) room
+      → ReadsHex w room r after
   answered r after e f = record { says = sym e; holds = f ∙ ap (λ (a : HexRead). hexRoom a (bytesOf w) room) (sym e) }
 
   pub no-bytes : isDash w ≡ true → ReadsHex w room (Bytes 0) room
@@ -50,11 +51,14 @@ module _ (w room : List ℕ) where
   unfolding hexRead
   odd d t h = answered Odd room (simp (d, t, eq-eqb _ _ h)) refl
 
-  pub over : isDash w ≡ false → isWord 16 w ≡ true → (length w % 2 ≡ 1 → ⊥) → length room < length w / 2 → ReadsHex w room Over room
+  pub over : isDash w ≡ false → isWord 16 w ≡ true → (length w % 2 ≡ 1 → ⊥) → length room < length w / 2
+      → ReadsHex w room Over room
   unfolding hexRead
   over d t h l = answered Over room (simp (d, t, ne-eqb _ _ h, bytes-long, lt-ltb _ _ l)) refl
 
-  pub bytes : isDash w ≡ false → isWord 16 w ≡ true → (length w % 2 ≡ 1 → ⊥) → length w / 2 ≤ length room → (after : List ℕ)
+  pub bytes : isDash w ≡ false → isWord 16 w ≡ true → (length w % 2 ≡ 1 → ⊥) → length w / 2 ≤ length room
+      → (after : List ℕ)
       → after ≡ bytesOf w ++ drop (length (bytesOf w)) room → ReadsHex w room (Bytes (length w / 2)) after
   unfolding hexRead
-  bytes d t h l after e = answered (Bytes (length w / 2)) after (simp (d, t, ne-eqb _ _ h, bytes-long, le-ltb _ _ l)) (e ∙ simp bytes-long)
+  bytes d t h l after e = answered (Bytes (length w / 2)) after (simp (d, t, ne-eqb _ _ h, bytes-long, le-ltb _ _ l))
+      (e ∙ simp bytes-long)

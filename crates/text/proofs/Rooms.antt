@@ -32,7 +32,8 @@ module _ (word room : List ℕ) where
       }
 
   -- what a copy of the word leaves
-  pub copied : (after : List ℕ) → after ≡ take (length word) word ++ drop (length word) room → after ≡ word ++ drop (length word) room
+  pub copied : (after : List ℕ) → after ≡ take (length word) word ++ drop (length word) room
+      → after ≡ word ++ drop (length word) room
   copied after e = e ∙ simp take-length
 
   -- the first n characters of the word over the room, and the next
@@ -47,12 +48,14 @@ module _ (word room : List ℕ) where
   ended n e = rw (e, take-length)
 
 -- the same word, by another name
-pub as-word : (word other room : List ℕ) (n : ℕ) (after : List ℕ) → word ≡ other → Writes word room n after → Writes other room n after
+pub as-word : (word other room : List ℕ) (n : ℕ) (after : List ℕ) → word ≡ other → Writes word room n after
+    → Writes other room n after
 as-word word other room n after e h = rw e at h
 
 -- an answer that is not 0: the word stands in the room's first characters
 module _ (word room : List ℕ) (n : ℕ) (after : List ℕ) where
-  stands-if : (b : Bool) → n ≡ pick b (length word) 0 → after ≡ pick b (word ++ drop (length word) room) room → 0 < n → take n after ≡ word
+  stands-if : (b : Bool) → n ≡ pick b (length word) 0 → after ≡ pick b (word ++ drop (length word) room) room → 0 < n
+      → take n after ≡ word
   stands-if true e f h = ap (take n) f ∙ take-at word (drop (length word) room) n (sym e)
   stands-if false e f h = absurd (omega arith)
 

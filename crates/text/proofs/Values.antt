@@ -39,7 +39,8 @@ module _ (c : ℕ) where
 
 -- what holds in each region holds of the value
 pub value-cases : (P : ℕ → Type 0) (c : ℕ)
-    → (48 ≤ c → c ≤ 57 → P (c - 48)) → (97 ≤ c → c ≤ 102 → P (c - 87)) → (65 ≤ c → c ≤ 70 → P (c - 55)) → P 16 → P (value c)
+    → (48 ≤ c → c ≤ 57 → P (c - 48)) → (97 ≤ c → c ≤ 102 → P (c - 87)) → (65 ≤ c → c ≤ 70 → P (c - 55)) → P 16
+    → P (value c)
 unfolding value
 value-cases P c d l u n =
     picked P (between 48 57 c) (λ t. let e = ends 48 57 c t in d (e .0) (e .1))
@@ -48,7 +49,8 @@ value-cases P c d l u n =
 
 -- a character that is no digit
 pub no-value : (c : ℕ) → (48 ≤ c → c ≤ 57 → ⊥) → (97 ≤ c → c ≤ 102 → ⊥) → (65 ≤ c → c ≤ 70 → ⊥) → 16 ≡ value c
-no-value c d l u = value-cases (λ v. 16 ≡ v) c (λ h k. absurd (d h k)) (λ h k. absurd (l h k)) (λ h k. absurd (u h k)) refl
+no-value c d l u = value-cases (λ v. 16 ≡ v) c (λ h k. absurd (d h k)) (λ h k. absurd (l h k)) (λ h k. absurd (u h k))
+    refl
 
 -- the steps of `glyph`
 module _ (d : ℕ) where

@@ -19,7 +19,8 @@ module _ (base : ℕ) (w : List ℕ) (i : ℕ) where
   unfolding digits
   digit-on h l = rw (add-one, drop-cons w i 0 h) (simp (lt-ltb (value (getD w i 0)) base l))
 
-  pub no-word : digits base (drop i w) ≡ digits base w → i < length w → base ≤ value (getD w i 0) → false ≡ isWord base w
+  pub no-word : digits base (drop i w) ≡ digits base w → i < length w → base ≤ value (getD w i 0)
+      → false ≡ isWord base w
   unfolding digits
   no-word e h l =
       let off : digits base (drop i w) ≡ false = rw (drop-cons w i 0 h) (simp (le-ltb (value (getD w i 0)) base l)) in
@@ -38,7 +39,8 @@ digit-at base [] i h l = absurd (omega arith)
 digit-at base (c ∷ w) zero h l = ltb-true (value c) base (each _ (digits base w) h .0)
 digit-at base (c ∷ w) (suc i) h l = digit-at base w i (each (ltb (value c) base) _ h .1) (omega arith)
 
-pub digit-below : (base : ℕ) (w : List ℕ) (i v : ℕ) → digits base w ≡ true → i < length w → v ≡ value (getD w i 0) → v < base
+pub digit-below : (base : ℕ) (w : List ℕ) (i v : ℕ) → digits base w ≡ true → i < length w → v ≡ value (getD w i 0)
+    → v < base
 digit-below base w i v h l e = rw e (digit-at base w i h l)
 
 pub all-digits : (base : ℕ) (w : List ℕ) → isWord base w ≡ true → digits base w ≡ true

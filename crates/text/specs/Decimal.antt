@@ -46,7 +46,8 @@ trimmed w = orZero (stripped w)
 
 -- The last five digits of a number.
 unfoldable pub fiveDigits : ℕ → List ℕ
-fiveDigits n = glyph (n / 10000 % 10) ∷ (glyph (n / 1000 % 10) ∷ (glyph (n / 100 % 10) ∷ (glyph (n / 10 % 10) ∷ (glyph (n % 10) ∷ []))))
+fiveDigits n = glyph (n / 10000 % 10) ∷ (glyph (n / 1000 % 10) ∷
+    (glyph (n / 100 % 10) ∷ (glyph (n / 10 % 10) ∷ (glyph (n % 10) ∷ []))))
 
 -- A number up to 65,535 as a word.
 abbrev pub decimalWord : ℕ → List ℕ

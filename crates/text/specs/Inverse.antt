@@ -1,5 +1,6 @@
--- Reading and writing are each other's inverse. The claims speak of what the contracts say of a call: `Writes` of a word, its room, the answer and the room
--- afterwards; `ReadsHex` likewise. An answer that is not 0 says that the room had the characters, and `take n text` is what was written into it.
+-- Reading and writing are each other's inverse. The claims speak of what the contracts say of a call: `Writes` of a
+-- word, its room, the answer and the room afterwards; `ReadsHex` likewise. An answer that is not 0 says that the room
+-- had the characters, and `take n text` is what was written into it.
 use Prim.Native.Nat.{ℕ, _+_, _≤_, _<_}
 use mathlib.Core.Path.{_≡_}
 use mathlib.Core.List.{List, map, _++_}

@@ -39,7 +39,8 @@ pub(crate) fn five(n: u16) -> [u8; 5]
 // How many zeros stand in front, the last digit not counted.
 pub(crate) fn zeros(digits: &[u8]) -> usize
     requires { ⌜ 0 < length (now digits) ⌝ }
-    ensures { λ r. ⌜ (r < length (now (digits .entry))) × (drop r (now (digits .entry)) ≡ trimmed (now (digits .entry))) ⌝ }
+    ensures { λ r. ⌜ (r < length (now (digits .entry)))
+        × (drop r (now (digits .entry)) ≡ trimmed (now (digits .entry))) ⌝ }
 {
     let last = digits.len() - 1;
     let mut i = 0;

@@ -22,7 +22,8 @@ pub(crate) fn is_dash(word: &[u8]) -> bool
 // The bytes of a word of hex digits over the first of a room.
 pub(crate) fn read_pairs(word: &[u8], room: &mut [u8])
     requires { ⌜ (digits 16 (now word) ≡ true) × (length (now word) / 2 ≤ length (now room)) ⌝ }
-    ensures { λ _. ⌜ now (room .exit) ≡ bytesOf (now (word .entry)) ++ drop (length (bytesOf (now (word .entry)))) (now (room .entry)) ⌝ }
+    ensures { λ _. ⌜ now (room .exit) ≡ bytesOf (now (word .entry)) ++ drop (length (bytesOf (now (word .entry))))
+        (now (room .entry)) ⌝ }
 {
     let n = word.len() / 2;
     let mut i = 0;
@@ -44,7 +45,8 @@ fn pair(b: u8) -> [u8; 2]
 // Two digits for each byte over the first characters of a room.
 pub(crate) fn write_pairs(bytes: &[u8], room: &mut [u8])
     requires { ⌜ length (now bytes) * 2 ≤ length (now room) ⌝ }
-    ensures { λ _. ⌜ now (room .exit) ≡ pairs (now (bytes .entry)) ++ drop (length (pairs (now (bytes .entry)))) (now (room .entry)) ⌝ }
+    ensures { λ _. ⌜ now (room .exit) ≡ pairs (now (bytes .entry)) ++ drop (length (pairs (now (bytes .entry))))
+        (now (room .entry)) ⌝ }
 {
     let mut i = 0;
     while i < bytes.len() {

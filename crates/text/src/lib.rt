@@ -23,8 +23,8 @@ pub enum DecimalRead {
     Over,
 }
 
-/// Reads a word of hex digits of either case into the first bytes of a room, and answers how many bytes; `-` is no bytes. Where the word is refused,
-/// no byte of the room changes.
+/// Reads a word of hex digits of either case into the first bytes of a room, and answers how many bytes; `-` is no
+/// bytes. Where the word is refused, no byte of the room changes.
 ///
 /// Ruled out: `A` read as another value than `a`; a word of which the first digits are read and the rest is left.
 pub fn read_hex(word: &[u8], room: &mut [u8]) -> HexRead
@@ -47,8 +47,8 @@ pub fn read_hex(word: &[u8], room: &mut [u8]) -> HexRead
     HexRead::Bytes(n)
 }
 
-/// Writes bytes as hex digits in lower case over the first characters of a room, `-` for no bytes, and answers how many characters. Where the room is
-/// shorter, the answer is 0 and no byte changes.
+/// Writes bytes as hex digits in lower case over the first characters of a room, `-` for no bytes, and answers how many
+/// characters. Where the room is shorter, the answer is 0 and no byte changes.
 ///
 /// Ruled out: a byte's low digit before its high one; a part of the digits written where there is no room for all.
 pub fn write_hex(bytes: &[u8], room: &mut [u8]) -> usize
@@ -86,8 +86,8 @@ pub fn read_decimal(word: &[u8]) -> DecimalRead
     DecimalRead::Number(n as u16)
 }
 
-/// Writes a number in the fewest decimal digits over the first characters of a room, and answers how many. Where the room is shorter, the answer is 0
-/// and no byte changes.
+/// Writes a number in the fewest decimal digits over the first characters of a room, and answers how many. Where the
+/// room is shorter, the answer is 0 and no byte changes.
 ///
 /// Ruled out: zeros in front; 0 written as no digits.
 pub fn write_decimal(number: u16, room: &mut [u8]) -> usize

@@ -24,7 +24,8 @@ returns c =
     let c6 = c4 .before .before in
     let c11 = c6 .before .before .before .before .before in
     let a = c11 .args in
-    iam3-refused (setupOf (a .terms) (a .keys .now)) (a .held) (a .message .now) _ (c6 .find .ensures .1) _ (c4 .iam3-fields .ensures)
+    iam3-refused (setupOf (a .terms) (a .keys .now)) (a .held) (a .message .now) _ (c6 .find .ensures .1) _
+    (c4 .iam3-fields .ensures)
     (a .identity .now) (a .user .now) _ _ (c2 .verdict .given .1) (c .refused .ensures)
 
 enum-told : tie.Need-enum-told
@@ -63,7 +64,8 @@ returns-2 c =
     let c15 = c13 .before .before in
     let c20 = c15 .before .before .before .before .before in
     let a = c20 .args in
-    iam3-settled (setupOf (a .terms) (a .keys .now)) (a .held) (a .message .now) _ (c15 .find .ensures .1) _ (c13 .iam3-fields .ensures)
+    iam3-settled (setupOf (a .terms) (a .keys .now)) (a .held) (a .message .now) _ (c15 .find .ensures .1) _
+    (c13 .iam3-fields .ensures)
     (a .identity .now) (a .user .now) _ (c10 .iam3-of .ensures) _ (c7 .words-asked .ensures) _ _ _
     (c11 .enum-told .given .1) (c4 .iam3 .ensures)
 

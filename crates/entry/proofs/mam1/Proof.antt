@@ -25,7 +25,8 @@ returns c =
     let c5 = c4 .before in
     let c7 = c5 .before .before in
     let a = c7 .before .args in
-    mam1-wrong (keysIn (a .keys .now)) (a .message .now) (a .draws) _ _ (c5 .mam1-of .ensures) (c4 .opening .ensures) _ _
+    mam1-wrong (keysIn (a .keys .now)) (a .message .now) (a .draws) _ _ (c5 .mam1-of .ensures) (c4 .opening .ensures) _
+    _
     (c2 .verdict .given .1) (c .unchallenged .ensures)
 
 enum-told : tie.Need-enum-told

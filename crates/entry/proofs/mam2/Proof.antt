@@ -36,8 +36,10 @@ returns c =
     let c11 = c10 .before in
     let c13 = c11 .before .before in
     let a = c13 .before .args in
-    mam2-wrong (keysIn (a .keys .now)) (a .held) (a .message .now) _ (c10 .find .ensures .1) _ _ _ _ (c11 .mam2-of .ensures)
-    (c6 .encrypt .ensures) (c5 .mam-proof .ensures) (c4 .closing .ensures) _ _ (c2 .verdict .given .1) (c .refused .ensures)
+    mam2-wrong (keysIn (a .keys .now)) (a .held) (a .message .now) _ (c10 .find .ensures .1) _ _ _ _
+    (c11 .mam2-of .ensures)
+    (c6 .encrypt .ensures) (c5 .mam-proof .ensures) (c4 .closing .ensures) _ _ (c2 .verdict .given .1)
+    (c .refused .ensures)
 
 enum-told : tie.Need-enum-told
 enum-told c = search needs
@@ -59,7 +61,8 @@ returns-2 c =
     let c11 = c10 .before in
     let c13 = c11 .before .before in
     let a = c13 .before .args in
-    mam2-fine (keysIn (a .keys .now)) (a .held) (a .message .now) _ (c10 .find .ensures .1) _ _ _ _ (c11 .mam2-of .ensures)
+    mam2-fine (keysIn (a .keys .now)) (a .held) (a .message .now) _ (c10 .find .ensures .1) _ _ _ _
+    (c11 .mam2-of .ensures)
     (c6 .encrypt .ensures) (c5 .mam-proof .ensures) (c4 .closing .ensures) _ _ (c2 .enum-told .given .1)
     (c1 .purpose .ensures) (c .let-in .ensures)
 

@@ -16,13 +16,16 @@ step-requires : tie.Need-step-requires
 step-requires c κs = search needs
 
 mul-t9 : tie.Need-mul-t9
-mul-t9 c = let a = c .before .before .before .args in omega (arith, steps-bound (a .size) (a .offset .0) _ (c .step .ensures))
+mul-t9 c = let a = c .before .before .before .args in
+    omega (arith, steps-bound (a .size) (a .offset .0) _ (c .step .ensures))
 
 add-t10 : tie.Need-add-t10
-add-t10 c = let a = c .before .before .before .args in omega (arith, steps-bound (a .size) (a .offset .0) _ (c .step .ensures))
+add-t10 c = let a = c .before .before .before .args in
+    omega (arith, steps-bound (a .size) (a .offset .0) _ (c .step .ensures))
 
 mul-t13 : tie.Need-mul-t13
-mul-t13 c = let a = c .before .before .before .args in omega (arith, steps-bound (a .size) (a .count) _ (c .step .ensures))
+mul-t13 c = let a = c .before .before .before .args in
+    omega (arith, steps-bound (a .size) (a .count) _ (c .step .ensures))
 
 returns : tie.Need-returns
 unfolding addressOf

@@ -17,7 +17,8 @@ returns : tie.Need-returns
 returns c = let a = c .before .before .before .args in fits-empty (a .profile) (a .block) (c .if1 .taken)
 
 returns-2 : tie.Need-returns-2
-returns-2 c = let a = c .before .before .before .before .args in fits-behind (a .profile) (a .block) (c .before .if1 .left) (c .if2 .taken)
+returns-2 c = let a = c .before .before .before .before .args in
+    fits-behind (a .profile) (a .block) (c .before .if1 .left) (c .if2 .taken)
 
 sub-result : tie.Need-sub-result
 sub-result c = search needs
@@ -26,7 +27,8 @@ sub-result-2 : tie.Need-sub-result-2
 sub-result-2 c = search needs
 
 returns-3 : tie.Need-returns-3
-returns-3 c = let a = c .before .before .before .before .args in fits-tested (a .profile) (a .block) (c .before .if1 .left) (c .if2 .left)
+returns-3 c = let a = c .before .before .before .before .args in
+    fits-tested (a .profile) (a .block) (c .before .if1 .left) (c .if2 .left)
 
 pub fits-spec : {M : Type 1} → statement M
 fits-spec =

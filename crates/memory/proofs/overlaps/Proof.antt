@@ -12,7 +12,9 @@ number-requires-2 : tie.Need-number-requires-2
 number-requires-2 c κs = search needs
 
 returns : tie.Need-returns
-returns c = let a = c .before .before .before .args in apart (a .block) (a .lock) (λ e. c .if1 .taken (c .before .before .number .ensures ∙ e ∙ sym (c .before .number2 .ensures)))
+returns c = let a = c .before .before .before .args in
+    apart (a .block) (a .lock) (λ e. c .if1 .taken (c .before .before .number .ensures ∙ e
+    ∙ sym (c .before .number2 .ensures)))
 
 cast-from : tie.Need-cast-from
 cast-from c = search needs
@@ -27,13 +29,18 @@ larger-requires : tie.Need-larger-requires
 larger-requires c κs = search needs
 
 returns-2 : tie.Need-returns-2
-returns-2 c = let a = c .before .before .before .before .before .before .before .args in behind (a .block) (a .lock) _ (c .before .larger .ensures) (c .if2 .taken)
+returns-2 c = let a = c .before .before .before .before .before .before .before .args in
+    behind (a .block) (a .lock) _ (c .before .larger .ensures) (c .if2 .taken)
 
 sub-result : tie.Need-sub-result
 sub-result c = search needs
 
 returns-3 : tie.Need-returns-3
-returns-3 c = let a = c .before .before .before .before .before .before .before .before .args in tested (a .block) (a .lock) (sym (c .before .before .before .before .before .before .before .number .ensures) ∙ c .before .before .before .before .before .if1 .left ∙ c .before .before .before .before .before .before .number2 .ensures) _ (c .before .before .larger .ensures) (c .before .if2 .left)
+returns-3 c = let a = c .before .before .before .before .before .before .before .before .args in
+    tested (a .block) (a .lock) (sym (c .before .before .before .before .before .before .before .number .ensures)
+    ∙ c .before .before .before .before .before .if1 .left
+    ∙ c .before .before .before .before .before .before .number2 .ensures) _ (c .before .before .larger .ensures)
+    (c .before .if2 .left)
 
 pub overlaps-spec : {M : Type 1} → statement M
 overlaps-spec =

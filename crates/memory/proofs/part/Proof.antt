@@ -11,13 +11,28 @@ inside-requires : tie.Need-inside-requires
 inside-requires c κs = search needs
 
 mul-start : tie.Need-mul-start
-mul-start c = let a = c .before .before .before .before .args in omega (arith, room (a .block) (length (a .area .now)) _ (c .before .before .inside .ensures) (c .before .if1 .taken))
+mul-start c = let a = c .before .before .before .before .args in
+    omega (
+      arith,
+      room (a .block) (length (a .area .now)) _ (c .before .before .inside .ensures)
+          (c .before .if1 .taken),
+    )
 
 mul-end : tie.Need-mul-end
-mul-end c = let a = c .before .before .before .before .before .args in omega (arith, room (a .block) (length (a .area .now)) _ (c .before .before .before .inside .ensures) (c .before .before .if1 .taken))
+mul-end c = let a = c .before .before .before .before .before .args in
+    omega (
+      arith,
+      room (a .block) (length (a .area .now)) _ (c .before .before .before .inside .ensures)
+          (c .before .before .if1 .taken),
+    )
 
 add-end : tie.Need-add-end
-add-end c = let a = c .before .before .before .before .before .args in omega (arith, room (a .block) (length (a .area .now)) _ (c .before .before .before .inside .ensures) (c .before .before .if1 .taken))
+add-end c = let a = c .before .before .before .before .before .args in
+    omega (
+      arith,
+      room (a .block) (length (a .area .now)) _ (c .before .before .before .inside .ensures)
+          (c .before .before .if1 .taken),
+    )
 
 sub-result : tie.Need-sub-result
 sub-result c = search needs
@@ -26,10 +41,17 @@ part-result-start : tie.Need-part-result-start
 part-result-start c = search needs
 
 part-result-end : tie.Need-part-result-end
-part-result-end c = let a = c .before .before .before .before .before .args in omega (arith, room (a .block) (length (a .area .now)) _ (c .before .before .before .inside .ensures) (c .before .before .if1 .taken))
+part-result-end c = let a = c .before .before .before .before .before .args in
+    omega (
+      arith,
+      room (a .block) (length (a .area .now)) _ (c .before .before .before .inside .ensures)
+          (c .before .before .if1 .taken),
+    )
 
 returns : tie.Need-returns
-returns c = let a = c .before .before .before .before .before .before .args in part-in (a .block) (a .area .now) (room (a .block) (length (a .area .now)) _ (c .before .before .before .before .inside .ensures) (c .before .before .before .if1 .taken))
+returns c = let a = c .before .before .before .before .before .before .args in
+    part-in (a .block) (a .area .now) (room (a .block) (length (a .area .now)) _
+    (c .before .before .before .before .inside .ensures) (c .before .before .before .if1 .taken))
 
 sub-result-2 : tie.Need-sub-result-2
 sub-result-2 c = search needs
@@ -41,7 +63,8 @@ part-result-end-2 : tie.Need-part-result-end-2
 part-result-end-2 c = search needs
 
 returns-2 : tie.Need-returns-2
-returns-2 c = let a = c .before .before .before .before .args in part-out (a .block) (a .area .now) (sym (c .before .before .inside .ensures) ∙ c .before .if1 .left)
+returns-2 c = let a = c .before .before .before .before .args in
+    part-out (a .block) (a .area .now) (sym (c .before .before .inside .ensures) ∙ c .before .if1 .left)
 
 pub part-spec : {M : Type 1} → statement M
 part-spec =

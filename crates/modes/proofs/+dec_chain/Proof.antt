@@ -35,9 +35,21 @@ dec-chain-below t =
 
 -- what is asked and learnt at each call
 abbrev calls : ℕ → dec-chain-lts.Claims
-calls t = (first-block-reads.Asked, first-block-reads.Learnt, encrypt-reads.Asked, encrypt-reads.Learnt, xor-reads.Asked, xor-reads.Learnt, copy-reads.Asked, copy-reads.Learnt, dec-chain-below t, dec-chain.Post)
+calls t = (
+  first-block-reads.Asked,
+  first-block-reads.Learnt,
+  encrypt-reads.Asked,
+  encrypt-reads.Learnt,
+  xor-reads.Asked,
+  xor-reads.Learnt,
+  copy-reads.Asked,
+  copy-reads.Learnt,
+  dec-chain-below t,
+  dec-chain.Post,
+)
 
-dec-chain-first-block-requires : (t : ℕ) → dec-chain-lts.Need-first-block-requires (calls t) (dec-chain-at t) dec-chain.Post
+dec-chain-first-block-requires : (t : ℕ) → dec-chain-lts.Need-first-block-requires (calls t) (dec-chain-at t)
+    dec-chain.Post
 dec-chain-first-block-requires t c κs = search needs
 
 dec-chain-encrypt-requires : (t : ℕ) → dec-chain-lts.Need-encrypt-requires (calls t) (dec-chain-at t) dec-chain.Post
@@ -46,7 +58,8 @@ dec-chain-encrypt-requires t c κs = search needs
 dec-chain-xor-requires : (t : ℕ) → dec-chain-lts.Need-xor-requires (calls t) (dec-chain-at t) dec-chain.Post
 dec-chain-xor-requires t c κs = search needs
 
-dec-chain-slice-aggregate-copy : (t : ℕ) → dec-chain-lts.Need-slice-aggregate-copy (calls t) (dec-chain-at t) dec-chain.Post
+dec-chain-slice-aggregate-copy : (t : ℕ) → dec-chain-lts.Need-slice-aggregate-copy (calls t) (dec-chain-at t)
+    dec-chain.Post
 dec-chain-slice-aggregate-copy t c = search needs
 
 dec-chain-copy-requires : (t : ℕ) → dec-chain-lts.Need-copy-requires (calls t) (dec-chain-at t) dec-chain.Post
@@ -55,7 +68,8 @@ dec-chain-copy-requires t c κs = search needs
 dec-chain-sub-dec-chain : (t : ℕ) → dec-chain-lts.Need-sub-dec-chain (calls t) (dec-chain-at t) dec-chain.Post
 dec-chain-sub-dec-chain t c = search needs
 
-dec-chain-part-dec-chain-start : (t : ℕ) → dec-chain-lts.Need-part-dec-chain-start (calls t) (dec-chain-at t) dec-chain.Post
+dec-chain-part-dec-chain-start : (t : ℕ) → dec-chain-lts.Need-part-dec-chain-start (calls t) (dec-chain-at t)
+    dec-chain.Post
 dec-chain-part-dec-chain-start t c = search needs
 
 dec-chain-part-dec-chain-end : (t : ℕ) → dec-chain-lts.Need-part-dec-chain-end (calls t) (dec-chain-at t) dec-chain.Post
@@ -64,10 +78,12 @@ dec-chain-part-dec-chain-end t c = search needs
 dec-chain-sub-dec-chain-2 : (t : ℕ) → dec-chain-lts.Need-sub-dec-chain-2 (calls t) (dec-chain-at t) dec-chain.Post
 dec-chain-sub-dec-chain-2 t c = search needs
 
-dec-chain-part-dec-chain-start-2 : (t : ℕ) → dec-chain-lts.Need-part-dec-chain-start-2 (calls t) (dec-chain-at t) dec-chain.Post
+dec-chain-part-dec-chain-start-2 : (t : ℕ) → dec-chain-lts.Need-part-dec-chain-start-2 (calls t) (dec-chain-at t)
+    dec-chain.Post
 dec-chain-part-dec-chain-start-2 t c = search needs
 
-dec-chain-part-dec-chain-end-2 : (t : ℕ) → dec-chain-lts.Need-part-dec-chain-end-2 (calls t) (dec-chain-at t) dec-chain.Post
+dec-chain-part-dec-chain-end-2 : (t : ℕ) → dec-chain-lts.Need-part-dec-chain-end-2 (calls t) (dec-chain-at t)
+    dec-chain.Post
 dec-chain-part-dec-chain-end-2 t c = search needs
 
 dec-chain-dec-chain-requires : (t : ℕ) → dec-chain-lts.Need-dec-chain-requires (calls t) (dec-chain-at t) dec-chain.Post
@@ -79,15 +95,23 @@ dec-chain-same-length t c = search needs
 dec-chain-returns : (t : ℕ) → dec-chain-lts.Need-returns (calls t) (dec-chain-at t) dec-chain.Post
 unfolding cbcDecAes
 dec-chain-returns t c =
-    let a = c .before .before .before .before .before .before .before .before .before .before .before .before .before .before .before .before .args in
-    let h = c .before .before .before .before .before .before .before .before .before .before .before .before .before .if1 .taken in
+    let a = c .before .before .before .before .before .before .before .before .before .before .before .before .before
+    .before .before .before .args in
+    let h = c .before .before .before .before .before .before .before .before .before .before .before .before .before
+    .if1 .taken in
     let o = c .before .before .before .before .before .before .before .before .before .before .xor in
     let k = c .before .before .before .before .before .before .before .copy in
     let r = c .before .before .dec-chain in
-    let i : c .before .before .before .before .before .before .before .before .before .before .before .before .first-block .result ≡ take 16 (a .input .now) = cc (first-block-is (a .input .now) h) in
-    let e : o .result ≡ xor (aesEnc (a .key) (c .before .before .before .before .before .before .before .before .before .before .before .before .first-block .result)) (a .iv) = cc in
-    chain-more (cbcDec (aesEnc (a .key))) (a .iv) (a .input .now) (a .room .now) (c .before .before .before .before .before .before .before .before .before .before .before .before .first-block .result) (o .result) (k .last .1 .0) (r .last .1 .1 .1 .0)
-    h (array-length 16 (o .result) _ (o .ok)) (dec-step (aesEnc (a .key)) (a .iv) (take 16 (a .input .now)) (c .before .before .before .before .before .before .before .before .before .before .before .before .first-block .result) (o .result) i e) (k .ensures .1) (r .ensures)
+    let i : c .before .before .before .before .before .before .before .before .before .before .before .before
+    .first-block .result ≡ take 16 (a .input .now) = cc (first-block-is (a .input .now) h) in
+    let e : o .result ≡ xor (aesEnc (a .key) (c .before .before .before .before .before .before .before .before .before
+    .before .before .before .first-block .result)) (a .iv) = cc in
+    chain-more (cbcDec (aesEnc (a .key))) (a .iv) (a .input .now) (a .room .now)
+    (c .before .before .before .before .before .before .before .before .before .before .before .before .first-block
+    .result) (o .result) (k .last .1 .0) (r .last .1 .1 .1 .0)
+    h (array-length 16 (o .result) _ (o .ok)) (dec-step (aesEnc (a .key)) (a .iv) (take 16 (a .input .now))
+    (c .before .before .before .before .before .before .before .before .before .before .before .before .first-block
+    .result) (o .result) i e) (k .ensures .1) (r .ensures)
 
 dec-chain-returns-2 : (t : ℕ) → dec-chain-lts.Need-returns-2 (calls t) (dec-chain-at t) dec-chain.Post
 unfolding cbcDecAes cbcDec

@@ -35,9 +35,21 @@ enc-chain-below t =
 
 -- what is asked and learnt at each call
 abbrev calls : ℕ → enc-chain-lts.Claims
-calls t = (first-block-reads.Asked, first-block-reads.Learnt, xor-reads.Asked, xor-reads.Learnt, encrypt-reads.Asked, encrypt-reads.Learnt, copy-reads.Asked, copy-reads.Learnt, enc-chain-below t, enc-chain.Post)
+calls t = (
+  first-block-reads.Asked,
+  first-block-reads.Learnt,
+  xor-reads.Asked,
+  xor-reads.Learnt,
+  encrypt-reads.Asked,
+  encrypt-reads.Learnt,
+  copy-reads.Asked,
+  copy-reads.Learnt,
+  enc-chain-below t,
+  enc-chain.Post,
+)
 
-enc-chain-first-block-requires : (t : ℕ) → enc-chain-lts.Need-first-block-requires (calls t) (enc-chain-at t) enc-chain.Post
+enc-chain-first-block-requires : (t : ℕ) → enc-chain-lts.Need-first-block-requires (calls t) (enc-chain-at t)
+    enc-chain.Post
 enc-chain-first-block-requires t c κs = search needs
 
 enc-chain-xor-requires : (t : ℕ) → enc-chain-lts.Need-xor-requires (calls t) (enc-chain-at t) enc-chain.Post
@@ -46,7 +58,8 @@ enc-chain-xor-requires t c κs = search needs
 enc-chain-encrypt-requires : (t : ℕ) → enc-chain-lts.Need-encrypt-requires (calls t) (enc-chain-at t) enc-chain.Post
 enc-chain-encrypt-requires t c κs = search needs
 
-enc-chain-slice-aggregate-copy : (t : ℕ) → enc-chain-lts.Need-slice-aggregate-copy (calls t) (enc-chain-at t) enc-chain.Post
+enc-chain-slice-aggregate-copy : (t : ℕ) → enc-chain-lts.Need-slice-aggregate-copy (calls t) (enc-chain-at t)
+    enc-chain.Post
 enc-chain-slice-aggregate-copy t c = search needs
 
 enc-chain-copy-requires : (t : ℕ) → enc-chain-lts.Need-copy-requires (calls t) (enc-chain-at t) enc-chain.Post
@@ -55,7 +68,8 @@ enc-chain-copy-requires t c κs = search needs
 enc-chain-sub-enc-chain : (t : ℕ) → enc-chain-lts.Need-sub-enc-chain (calls t) (enc-chain-at t) enc-chain.Post
 enc-chain-sub-enc-chain t c = search needs
 
-enc-chain-part-enc-chain-start : (t : ℕ) → enc-chain-lts.Need-part-enc-chain-start (calls t) (enc-chain-at t) enc-chain.Post
+enc-chain-part-enc-chain-start : (t : ℕ) → enc-chain-lts.Need-part-enc-chain-start (calls t) (enc-chain-at t)
+    enc-chain.Post
 enc-chain-part-enc-chain-start t c = search needs
 
 enc-chain-part-enc-chain-end : (t : ℕ) → enc-chain-lts.Need-part-enc-chain-end (calls t) (enc-chain-at t) enc-chain.Post
@@ -64,10 +78,12 @@ enc-chain-part-enc-chain-end t c = search needs
 enc-chain-sub-enc-chain-2 : (t : ℕ) → enc-chain-lts.Need-sub-enc-chain-2 (calls t) (enc-chain-at t) enc-chain.Post
 enc-chain-sub-enc-chain-2 t c = search needs
 
-enc-chain-part-enc-chain-start-2 : (t : ℕ) → enc-chain-lts.Need-part-enc-chain-start-2 (calls t) (enc-chain-at t) enc-chain.Post
+enc-chain-part-enc-chain-start-2 : (t : ℕ) → enc-chain-lts.Need-part-enc-chain-start-2 (calls t) (enc-chain-at t)
+    enc-chain.Post
 enc-chain-part-enc-chain-start-2 t c = search needs
 
-enc-chain-part-enc-chain-end-2 : (t : ℕ) → enc-chain-lts.Need-part-enc-chain-end-2 (calls t) (enc-chain-at t) enc-chain.Post
+enc-chain-part-enc-chain-end-2 : (t : ℕ) → enc-chain-lts.Need-part-enc-chain-end-2 (calls t) (enc-chain-at t)
+    enc-chain.Post
 enc-chain-part-enc-chain-end-2 t c = search needs
 
 enc-chain-enc-chain-requires : (t : ℕ) → enc-chain-lts.Need-enc-chain-requires (calls t) (enc-chain-at t) enc-chain.Post
@@ -79,14 +95,19 @@ enc-chain-same-length t c = search needs
 enc-chain-returns : (t : ℕ) → enc-chain-lts.Need-returns (calls t) (enc-chain-at t) enc-chain.Post
 unfolding cbcEncAes
 enc-chain-returns t c =
-    let a = c .before .before .before .before .before .before .before .before .before .before .before .before .before .before .before .before .args in
-    let h = c .before .before .before .before .before .before .before .before .before .before .before .before .before .if1 .taken in
+    let a = c .before .before .before .before .before .before .before .before .before .before .before .before .before
+    .before .before .before .args in
+    let h = c .before .before .before .before .before .before .before .before .before .before .before .before .before
+    .if1 .taken in
     let o = c .before .before .before .before .before .before .before .before .before .before .encrypt in
     let k = c .before .before .before .before .before .before .before .copy in
     let r = c .before .before .enc-chain in
-    let e : o .result ≡ aesEnc (a .key) (xor (take 16 (a .input .now)) (a .iv)) = cc (first-block-is (a .input .now) h) in
-    chain-more (cbcEnc (aesEnc (a .key))) (a .iv) (a .input .now) (a .room .now) (o .result) (o .result) (k .last .1 .0) (r .last .1 .1 .1 .0)
-    h (array-length 16 (o .result) _ (o .ok)) (enc-step (aesEnc (a .key)) (a .iv) (take 16 (a .input .now)) (o .result) e) (k .ensures .1) (r .ensures)
+    let e : o .result ≡ aesEnc (a .key) (xor (take 16 (a .input .now)) (a .iv)) =
+    cc (first-block-is (a .input .now) h) in
+    chain-more (cbcEnc (aesEnc (a .key))) (a .iv) (a .input .now) (a .room .now) (o .result) (o .result) (k .last .1 .0)
+    (r .last .1 .1 .1 .0)
+    h (array-length 16 (o .result) _ (o .ok)) (enc-step (aesEnc (a .key)) (a .iv) (take 16 (a .input .now)) (o .result)
+    e) (k .ensures .1) (r .ensures)
 
 enc-chain-returns-2 : (t : ℕ) → enc-chain-lts.Need-returns-2 (calls t) (enc-chain-at t) enc-chain.Post
 unfolding cbcEncAes cbcEnc

@@ -29,9 +29,19 @@ mac-chain-below t =
 
 -- what is asked and learnt at each call
 abbrev calls : ℕ → mac-chain-lts.Claims
-calls t = (first-block-reads.Asked, first-block-reads.Learnt, xor-reads.Asked, xor-reads.Learnt, encrypt-reads.Asked, encrypt-reads.Learnt, mac-chain-below t, mac-chain.Post)
+calls t = (
+  first-block-reads.Asked,
+  first-block-reads.Learnt,
+  xor-reads.Asked,
+  xor-reads.Learnt,
+  encrypt-reads.Asked,
+  encrypt-reads.Learnt,
+  mac-chain-below t,
+  mac-chain.Post,
+)
 
-mac-chain-first-block-requires : (t : ℕ) → mac-chain-lts.Need-first-block-requires (calls t) (mac-chain-at t) mac-chain.Post
+mac-chain-first-block-requires : (t : ℕ) → mac-chain-lts.Need-first-block-requires (calls t) (mac-chain-at t)
+    mac-chain.Post
 mac-chain-first-block-requires t c κs = search needs
 
 mac-chain-xor-requires : (t : ℕ) → mac-chain-lts.Need-xor-requires (calls t) (mac-chain-at t) mac-chain.Post
@@ -47,7 +57,11 @@ mac-chain-returns : (t : ℕ) → mac-chain-lts.Need-returns (calls t) (mac-chai
 mac-chain-returns t c =
     let a = c .before .before .before .before .before .before .args in
     let h = c .before .before .before .before .before .before .pre .1 in
-    cc (first-block-is (a .input .now) h, mac-last (a .key) (a .k1) (a .c) (a .input .now) h (c .before .before .before .if1 .taken))
+    cc (
+      first-block-is (a .input .now) h,
+      mac-last (a .key) (a .k1) (a .c) (a .input .now) h
+          (c .before .before .before .if1 .taken),
+    )
 
 mac-chain-xor-requires-3 : (t : ℕ) → mac-chain-lts.Need-xor-requires-3 (calls t) (mac-chain-at t) mac-chain.Post
 mac-chain-xor-requires-3 t c κs = search needs
@@ -58,7 +72,8 @@ mac-chain-encrypt-requires-2 t c κs = search needs
 mac-chain-sub-mac-chain : (t : ℕ) → mac-chain-lts.Need-sub-mac-chain (calls t) (mac-chain-at t) mac-chain.Post
 mac-chain-sub-mac-chain t c = search needs
 
-mac-chain-part-mac-chain-start : (t : ℕ) → mac-chain-lts.Need-part-mac-chain-start (calls t) (mac-chain-at t) mac-chain.Post
+mac-chain-part-mac-chain-start : (t : ℕ) → mac-chain-lts.Need-part-mac-chain-start (calls t) (mac-chain-at t)
+    mac-chain.Post
 mac-chain-part-mac-chain-start t c = search needs
 
 mac-chain-part-mac-chain-end : (t : ℕ) → mac-chain-lts.Need-part-mac-chain-end (calls t) (mac-chain-at t) mac-chain.Post
@@ -70,7 +85,12 @@ mac-chain-mac-chain-requires t c κs = search needs
 mac-chain-returns-2 : (t : ℕ) → mac-chain-lts.Need-returns-2 (calls t) (mac-chain-at t) mac-chain.Post
 mac-chain-returns-2 t c =
     let a = c .before .before .before .before .before .before .before .args in
-    cc (first-block-is (a .input .now) (c .before .before .before .before .before .before .before .pre .1), mac-more (a .key) (a .k1) (a .c) (a .input .now) (omega arith), tail-part 16 (a .input .now))
+    cc (
+      first-block-is (a .input .now) (c .before .before .before .before .before .before .before .pre .1),
+      mac-more
+          (a .key) (a .k1) (a .c) (a .input .now) (omega arith),
+      tail-part 16 (a .input .now),
+    )
 
 pub +mac-chain-spec : {M : Type 1} → statement M
 +mac-chain-spec = close μ-mac-chain λ t. mac-chain-lts.spec (calls t)

@@ -7,22 +7,34 @@ use lib.Seq.{length-take-le}
 use Rattle.field.proofs.Arrays.{array-length}
 use Rattle.modes.specs.Room.{over}
 use Rattle.modes.specs.Cmac.{cmac96, cmac}
-use Rattle.modes.proofs.Rooms.{refused, done, copied, no-mac-of-none, no-mac-of-part, no-room-for-mac, room-for-mac}
+use Rattle.modes.proofs.Rooms.{
+  refused,
+  done,
+  copied,
+  no-mac-of-none,
+  no-mac-of-part,
+  no-room-for-mac,
+  room-for-mac,
+}
 use borrow.Author.Needs.{needs}
 use Rattle.modes.proofs.cmac_96.Statement.{statement}
 use Rattle.modes.proofs.cmac_96.Tie as tie
 
 returns : tie.Need-returns
 returns c = let a = c .before .before .before .args in
-    refused _ (cmac96 (a .key) (a .input .now)) (a .room .now) (no-mac-of-none (length (a .input .now)) (length (a .room .now)) (c .if1 .taken))
+    refused _ (cmac96 (a .key) (a .input .now)) (a .room .now)
+    (no-mac-of-none (length (a .input .now)) (length (a .room .now)) (c .if1 .taken))
 
 returns-2 : tie.Need-returns-2
 returns-2 c = let a = c .before .before .before .before .args in
-    refused _ (cmac96 (a .key) (a .input .now)) (a .room .now) (no-mac-of-part (length (a .input .now)) (length (a .room .now)) (c .before .if1 .left) (c .if2 .taken))
+    refused _ (cmac96 (a .key) (a .input .now)) (a .room .now)
+    (no-mac-of-part (length (a .input .now)) (length (a .room .now)) (c .before .if1 .left) (c .if2 .taken))
 
 returns-3 : tie.Need-returns-3
 returns-3 c = let a = c .before .before .before .before .before .args in
-    refused _ (cmac96 (a .key) (a .input .now)) (a .room .now) (no-room-for-mac (length (a .input .now)) (length (a .room .now)) (c .before .before .if1 .left) (c .before .if2 .left) (omega arith))
+    refused _ (cmac96 (a .key) (a .input .now)) (a .room .now)
+    (no-room-for-mac (length (a .input .now)) (length (a .room .now)) (c .before .before .if1 .left)
+    (c .before .if2 .left) (omega arith))
 
 first-subkey-requires : tie.Need-first-subkey-requires
 first-subkey-requires c κs = search needs
@@ -37,10 +49,15 @@ twelve : (mac : List ℕ) → length mac ≡ 16 → length (take 12 mac) ≡ 12
 twelve mac e = length-take-le 12 mac (omega (arith, e))
 
 slice-aggregate-copy : tie.Need-slice-aggregate-copy
-slice-aggregate-copy c = sym (twelve (c .before .mac-chain .result) (array-length 16 (c .before .mac-chain .result) _ (c .before .mac-chain .ok)))
+slice-aggregate-copy c = sym (twelve (c .before .mac-chain .result)
+    (array-length 16 (c .before .mac-chain .result) _ (c .before .mac-chain .ok)))
 
 copy-requires : tie.Need-copy-requires
-copy-requires c κs = omega (arith, twelve (c .before .before .mac-chain .result) (array-length 16 (c .before .before .mac-chain .result) _ (c .before .before .mac-chain .ok)))
+copy-requires c κs = omega (
+  arith,
+  twelve (c .before .before .mac-chain .result)
+      (array-length 16 (c .before .before .mac-chain .result) _ (c .before .before .mac-chain .ok)),
+)
 
 same-length : tie.Need-same-length
 same-length c = search needs
@@ -52,10 +69,13 @@ returns-4 c =
     let mac = c .before .before .before .before .before .mac-chain .result in
     let e : mac ≡ cmac (a .key) (a .input .now) = cc in
     let n = length (a .input .now) in
-    let fits = room-for-mac n (length (a .room .now)) (c .before .before .before .before .before .before .before .before .before .if1 .left)
-    (c .before .before .before .before .before .before .before .before .if2 .left) (c .before .before .before .before .before .before .before .if3 .left) in
+    let fits = room-for-mac n (length (a .room .now)) (c .before .before .before .before .before .before .before .before
+    .before .if1 .left)
+    (c .before .before .before .before .before .before .before .before .if2 .left)
+    (c .before .before .before .before .before .before .before .if3 .left) in
     done _ (cmac96 (a .key) (a .input .now)) (a .room .now) _ fits
-    (copied (take 12 mac) (a .room .now) _ (c .before .before .copy .ensures .1) ∙ ap (λ (m : List ℕ). over (take 12 m) (a .room .now)) e)
+    (copied (take 12 mac) (a .room .now) _ (c .before .before .copy .ensures .1)
+    ∙ ap (λ (m : List ℕ). over (take 12 m) (a .room .now)) e)
 
 pub cmac-96-spec : {M : Type 1} → statement M
 cmac-96-spec =

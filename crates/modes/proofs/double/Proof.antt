@@ -38,8 +38,12 @@ loop-less c = search needs
 
 loop-again : tie.Need-loop-again Inv-loop μ-loop
 loop-again c = let l = c .before in
-    let s = l .before .args .t1 in
-    (search needs, one-more (doubledByte s) 16 (l .loop .r) (l .loop .i) _ (omega arith) (doubled-inner s (l .loop .i) (search needs) (array-bytes 16 s _ (l .before .good .0) (l .loop .i + 1))) (l .loop .inv .1))
+    let s = l .before .args .t1 in (
+      search needs,
+      one-more (doubledByte s) 16 (l .loop .r) (l .loop .i) _ (omega arith)
+          (doubled-inner s (l .loop .i) (search needs) (array-bytes 16 s _ (l .before .good .0) (l .loop .i + 1)))
+          (l .loop .inv .1),
+    )
 
 array-read-r-3 : tie.Need-array-read-r-3 Inv-loop μ-loop
 array-read-r-3 c = search needs
@@ -56,7 +60,8 @@ array-write-r-2 c = search needs
 returns : tie.Need-returns Inv-loop μ-loop
 returns c =
     let l = c .before .before .args .t1 in
-    doubled-whole l (c .before .loop .r) (c .before .loop .i) (array-length 16 l _ (c .before .before .good .0)) (omega arith) (c .before .loop .inv .1)
+    doubled-whole l (c .before .loop .r) (c .before .loop .i) (array-length 16 l _ (c .before .before .good .0))
+    (omega arith) (c .before .loop .inv .1)
 
 pub double-spec : {M : Type 1} → statement M
 double-spec =

@@ -36,59 +36,91 @@ dec-inv-chain-below t =
 
 -- what is asked and learnt at each call
 abbrev calls : ℕ → dec-inv-chain-lts.Claims
-calls t = (first-block-reads.Asked, first-block-reads.Learnt, way-reads.Asked, way-reads.Learnt, xor-reads.Asked, xor-reads.Learnt, copy-reads.Asked, copy-reads.Learnt, dec-inv-chain-below t, dec-inv-chain.Post)
+calls t = (
+  first-block-reads.Asked,
+  first-block-reads.Learnt,
+  way-reads.Asked,
+  way-reads.Learnt,
+  xor-reads.Asked,
+  xor-reads.Learnt,
+  copy-reads.Asked,
+  copy-reads.Learnt,
+  dec-inv-chain-below t,
+  dec-inv-chain.Post,
+)
 
-dec-inv-chain-first-block-requires : (t : ℕ) → dec-inv-chain-lts.Need-first-block-requires (calls t) (dec-inv-chain-at t) dec-inv-chain.Post
+dec-inv-chain-first-block-requires : (t : ℕ) → dec-inv-chain-lts.Need-first-block-requires (calls t)
+    (dec-inv-chain-at t) dec-inv-chain.Post
 dec-inv-chain-first-block-requires t c κs = search needs
 
-dec-inv-chain-way-requires : (t : ℕ) → dec-inv-chain-lts.Need-way-requires (calls t) (dec-inv-chain-at t) dec-inv-chain.Post
+dec-inv-chain-way-requires : (t : ℕ) → dec-inv-chain-lts.Need-way-requires (calls t) (dec-inv-chain-at t)
+    dec-inv-chain.Post
 dec-inv-chain-way-requires t c κs = search needs
 
-dec-inv-chain-xor-requires : (t : ℕ) → dec-inv-chain-lts.Need-xor-requires (calls t) (dec-inv-chain-at t) dec-inv-chain.Post
+dec-inv-chain-xor-requires : (t : ℕ) → dec-inv-chain-lts.Need-xor-requires (calls t) (dec-inv-chain-at t)
+    dec-inv-chain.Post
 dec-inv-chain-xor-requires t c κs = search needs
 
-dec-inv-chain-slice-aggregate-copy : (t : ℕ) → dec-inv-chain-lts.Need-slice-aggregate-copy (calls t) (dec-inv-chain-at t) dec-inv-chain.Post
+dec-inv-chain-slice-aggregate-copy : (t : ℕ) → dec-inv-chain-lts.Need-slice-aggregate-copy (calls t)
+    (dec-inv-chain-at t) dec-inv-chain.Post
 dec-inv-chain-slice-aggregate-copy t c = search needs
 
-dec-inv-chain-copy-requires : (t : ℕ) → dec-inv-chain-lts.Need-copy-requires (calls t) (dec-inv-chain-at t) dec-inv-chain.Post
+dec-inv-chain-copy-requires : (t : ℕ) → dec-inv-chain-lts.Need-copy-requires (calls t) (dec-inv-chain-at t)
+    dec-inv-chain.Post
 dec-inv-chain-copy-requires t c κs = search needs
 
-dec-inv-chain-sub-dec-inv-chain : (t : ℕ) → dec-inv-chain-lts.Need-sub-dec-inv-chain (calls t) (dec-inv-chain-at t) dec-inv-chain.Post
+dec-inv-chain-sub-dec-inv-chain : (t : ℕ) → dec-inv-chain-lts.Need-sub-dec-inv-chain (calls t) (dec-inv-chain-at t)
+    dec-inv-chain.Post
 dec-inv-chain-sub-dec-inv-chain t c = search needs
 
-dec-inv-chain-part-dec-inv-chain-start : (t : ℕ) → dec-inv-chain-lts.Need-part-dec-inv-chain-start (calls t) (dec-inv-chain-at t) dec-inv-chain.Post
+dec-inv-chain-part-dec-inv-chain-start : (t : ℕ)
+    → dec-inv-chain-lts.Need-part-dec-inv-chain-start (calls t) (dec-inv-chain-at t) dec-inv-chain.Post
 dec-inv-chain-part-dec-inv-chain-start t c = search needs
 
-dec-inv-chain-part-dec-inv-chain-end : (t : ℕ) → dec-inv-chain-lts.Need-part-dec-inv-chain-end (calls t) (dec-inv-chain-at t) dec-inv-chain.Post
+dec-inv-chain-part-dec-inv-chain-end : (t : ℕ) → dec-inv-chain-lts.Need-part-dec-inv-chain-end (calls t)
+    (dec-inv-chain-at t) dec-inv-chain.Post
 dec-inv-chain-part-dec-inv-chain-end t c = search needs
 
-dec-inv-chain-sub-dec-inv-chain-2 : (t : ℕ) → dec-inv-chain-lts.Need-sub-dec-inv-chain-2 (calls t) (dec-inv-chain-at t) dec-inv-chain.Post
+dec-inv-chain-sub-dec-inv-chain-2 : (t : ℕ) → dec-inv-chain-lts.Need-sub-dec-inv-chain-2 (calls t) (dec-inv-chain-at t)
+    dec-inv-chain.Post
 dec-inv-chain-sub-dec-inv-chain-2 t c = search needs
 
-dec-inv-chain-part-dec-inv-chain-start-2 : (t : ℕ) → dec-inv-chain-lts.Need-part-dec-inv-chain-start-2 (calls t) (dec-inv-chain-at t) dec-inv-chain.Post
+dec-inv-chain-part-dec-inv-chain-start-2 : (t : ℕ)
+    → dec-inv-chain-lts.Need-part-dec-inv-chain-start-2 (calls t) (dec-inv-chain-at t) dec-inv-chain.Post
 dec-inv-chain-part-dec-inv-chain-start-2 t c = search needs
 
-dec-inv-chain-part-dec-inv-chain-end-2 : (t : ℕ) → dec-inv-chain-lts.Need-part-dec-inv-chain-end-2 (calls t) (dec-inv-chain-at t) dec-inv-chain.Post
+dec-inv-chain-part-dec-inv-chain-end-2 : (t : ℕ)
+    → dec-inv-chain-lts.Need-part-dec-inv-chain-end-2 (calls t) (dec-inv-chain-at t) dec-inv-chain.Post
 dec-inv-chain-part-dec-inv-chain-end-2 t c = search needs
 
-dec-inv-chain-dec-inv-chain-requires : (t : ℕ) → dec-inv-chain-lts.Need-dec-inv-chain-requires (calls t) (dec-inv-chain-at t) dec-inv-chain.Post
+dec-inv-chain-dec-inv-chain-requires : (t : ℕ) → dec-inv-chain-lts.Need-dec-inv-chain-requires (calls t)
+    (dec-inv-chain-at t) dec-inv-chain.Post
 dec-inv-chain-dec-inv-chain-requires t c κs = search needs
 
-dec-inv-chain-same-length : (t : ℕ) → dec-inv-chain-lts.Need-same-length (calls t) (dec-inv-chain-at t) dec-inv-chain.Post
+dec-inv-chain-same-length : (t : ℕ) → dec-inv-chain-lts.Need-same-length (calls t) (dec-inv-chain-at t)
+    dec-inv-chain.Post
 dec-inv-chain-same-length t c = search needs
 
 dec-inv-chain-returns : (t : ℕ) → dec-inv-chain-lts.Need-returns (calls t) (dec-inv-chain-at t) dec-inv-chain.Post
 unfolding cbcDecAesInv
 dec-inv-chain-returns t c =
-    let a = c .before .before .before .before .before .before .before .before .before .before .before .before .before .before .before .before .args in
-    let h = c .before .before .before .before .before .before .before .before .before .before .before .before .before .if1 .taken in
+    let a = c .before .before .before .before .before .before .before .before .before .before .before .before .before
+    .before .before .before .args in
+    let h = c .before .before .before .before .before .before .before .before .before .before .before .before .before
+    .if1 .taken in
     let o = c .before .before .before .before .before .before .before .before .before .before .xor in
     let k = c .before .before .before .before .before .before .before .copy in
     let r = c .before .before .dec-inv-chain in
-    let i : c .before .before .before .before .before .before .before .before .before .before .before .before .first-block .result ≡ take 16 (a .input .now) = cc (first-block-is (a .input .now) h) in
-    let e : o .result ≡ xor (aesDec (a .key) (c .before .before .before .before .before .before .before .before .before .before .before .before .first-block .result)) (a .iv) = cc in
-    chain-more (cbcDec (aesDec (a .key))) (a .iv) (a .input .now) (a .room .now) (c .before .before .before .before .before .before .before .before .before .before .before .before .first-block .result) (o .result) (k .last .1 .0) (r .last .1 .1 .1 .0)
-    h (array-length 16 (o .result) _ (o .ok)) (dec-step (aesDec (a .key)) (a .iv) (take 16 (a .input .now)) (c .before .before .before .before .before .before .before .before .before .before .before .before .first-block .result) (o .result) i e) (k .ensures .1) (r .ensures)
+    let i : c .before .before .before .before .before .before .before .before .before .before .before .before
+    .first-block .result ≡ take 16 (a .input .now) = cc (first-block-is (a .input .now) h) in
+    let e : o .result ≡ xor (aesDec (a .key) (c .before .before .before .before .before .before .before .before .before
+    .before .before .before .first-block .result)) (a .iv) = cc in
+    chain-more (cbcDec (aesDec (a .key))) (a .iv) (a .input .now) (a .room .now)
+    (c .before .before .before .before .before .before .before .before .before .before .before .before .first-block
+    .result) (o .result) (k .last .1 .0) (r .last .1 .1 .1 .0)
+    h (array-length 16 (o .result) _ (o .ok)) (dec-step (aesDec (a .key)) (a .iv) (take 16 (a .input .now))
+    (c .before .before .before .before .before .before .before .before .before .before .before .before .first-block
+    .result) (o .result) i e) (k .ensures .1) (r .ensures)
 
 dec-inv-chain-returns-2 : (t : ℕ) → dec-inv-chain-lts.Need-returns-2 (calls t) (dec-inv-chain-at t) dec-inv-chain.Post
 unfolding cbcDecAesInv cbcDec

@@ -36,58 +36,87 @@ enc-inv-chain-below t =
 
 -- what is asked and learnt at each call
 abbrev calls : ℕ → enc-inv-chain-lts.Claims
-calls t = (first-block-reads.Asked, first-block-reads.Learnt, xor-reads.Asked, xor-reads.Learnt, way-reads.Asked, way-reads.Learnt, copy-reads.Asked, copy-reads.Learnt, enc-inv-chain-below t, enc-inv-chain.Post)
+calls t = (
+  first-block-reads.Asked,
+  first-block-reads.Learnt,
+  xor-reads.Asked,
+  xor-reads.Learnt,
+  way-reads.Asked,
+  way-reads.Learnt,
+  copy-reads.Asked,
+  copy-reads.Learnt,
+  enc-inv-chain-below t,
+  enc-inv-chain.Post,
+)
 
-enc-inv-chain-first-block-requires : (t : ℕ) → enc-inv-chain-lts.Need-first-block-requires (calls t) (enc-inv-chain-at t) enc-inv-chain.Post
+enc-inv-chain-first-block-requires : (t : ℕ) → enc-inv-chain-lts.Need-first-block-requires (calls t)
+    (enc-inv-chain-at t) enc-inv-chain.Post
 enc-inv-chain-first-block-requires t c κs = search needs
 
-enc-inv-chain-xor-requires : (t : ℕ) → enc-inv-chain-lts.Need-xor-requires (calls t) (enc-inv-chain-at t) enc-inv-chain.Post
+enc-inv-chain-xor-requires : (t : ℕ) → enc-inv-chain-lts.Need-xor-requires (calls t) (enc-inv-chain-at t)
+    enc-inv-chain.Post
 enc-inv-chain-xor-requires t c κs = search needs
 
-enc-inv-chain-way-requires : (t : ℕ) → enc-inv-chain-lts.Need-way-requires (calls t) (enc-inv-chain-at t) enc-inv-chain.Post
+enc-inv-chain-way-requires : (t : ℕ) → enc-inv-chain-lts.Need-way-requires (calls t) (enc-inv-chain-at t)
+    enc-inv-chain.Post
 enc-inv-chain-way-requires t c κs = search needs
 
-enc-inv-chain-slice-aggregate-copy : (t : ℕ) → enc-inv-chain-lts.Need-slice-aggregate-copy (calls t) (enc-inv-chain-at t) enc-inv-chain.Post
+enc-inv-chain-slice-aggregate-copy : (t : ℕ) → enc-inv-chain-lts.Need-slice-aggregate-copy (calls t)
+    (enc-inv-chain-at t) enc-inv-chain.Post
 enc-inv-chain-slice-aggregate-copy t c = search needs
 
-enc-inv-chain-copy-requires : (t : ℕ) → enc-inv-chain-lts.Need-copy-requires (calls t) (enc-inv-chain-at t) enc-inv-chain.Post
+enc-inv-chain-copy-requires : (t : ℕ) → enc-inv-chain-lts.Need-copy-requires (calls t) (enc-inv-chain-at t)
+    enc-inv-chain.Post
 enc-inv-chain-copy-requires t c κs = search needs
 
-enc-inv-chain-sub-enc-inv-chain : (t : ℕ) → enc-inv-chain-lts.Need-sub-enc-inv-chain (calls t) (enc-inv-chain-at t) enc-inv-chain.Post
+enc-inv-chain-sub-enc-inv-chain : (t : ℕ) → enc-inv-chain-lts.Need-sub-enc-inv-chain (calls t) (enc-inv-chain-at t)
+    enc-inv-chain.Post
 enc-inv-chain-sub-enc-inv-chain t c = search needs
 
-enc-inv-chain-part-enc-inv-chain-start : (t : ℕ) → enc-inv-chain-lts.Need-part-enc-inv-chain-start (calls t) (enc-inv-chain-at t) enc-inv-chain.Post
+enc-inv-chain-part-enc-inv-chain-start : (t : ℕ)
+    → enc-inv-chain-lts.Need-part-enc-inv-chain-start (calls t) (enc-inv-chain-at t) enc-inv-chain.Post
 enc-inv-chain-part-enc-inv-chain-start t c = search needs
 
-enc-inv-chain-part-enc-inv-chain-end : (t : ℕ) → enc-inv-chain-lts.Need-part-enc-inv-chain-end (calls t) (enc-inv-chain-at t) enc-inv-chain.Post
+enc-inv-chain-part-enc-inv-chain-end : (t : ℕ) → enc-inv-chain-lts.Need-part-enc-inv-chain-end (calls t)
+    (enc-inv-chain-at t) enc-inv-chain.Post
 enc-inv-chain-part-enc-inv-chain-end t c = search needs
 
-enc-inv-chain-sub-enc-inv-chain-2 : (t : ℕ) → enc-inv-chain-lts.Need-sub-enc-inv-chain-2 (calls t) (enc-inv-chain-at t) enc-inv-chain.Post
+enc-inv-chain-sub-enc-inv-chain-2 : (t : ℕ) → enc-inv-chain-lts.Need-sub-enc-inv-chain-2 (calls t) (enc-inv-chain-at t)
+    enc-inv-chain.Post
 enc-inv-chain-sub-enc-inv-chain-2 t c = search needs
 
-enc-inv-chain-part-enc-inv-chain-start-2 : (t : ℕ) → enc-inv-chain-lts.Need-part-enc-inv-chain-start-2 (calls t) (enc-inv-chain-at t) enc-inv-chain.Post
+enc-inv-chain-part-enc-inv-chain-start-2 : (t : ℕ)
+    → enc-inv-chain-lts.Need-part-enc-inv-chain-start-2 (calls t) (enc-inv-chain-at t) enc-inv-chain.Post
 enc-inv-chain-part-enc-inv-chain-start-2 t c = search needs
 
-enc-inv-chain-part-enc-inv-chain-end-2 : (t : ℕ) → enc-inv-chain-lts.Need-part-enc-inv-chain-end-2 (calls t) (enc-inv-chain-at t) enc-inv-chain.Post
+enc-inv-chain-part-enc-inv-chain-end-2 : (t : ℕ)
+    → enc-inv-chain-lts.Need-part-enc-inv-chain-end-2 (calls t) (enc-inv-chain-at t) enc-inv-chain.Post
 enc-inv-chain-part-enc-inv-chain-end-2 t c = search needs
 
-enc-inv-chain-enc-inv-chain-requires : (t : ℕ) → enc-inv-chain-lts.Need-enc-inv-chain-requires (calls t) (enc-inv-chain-at t) enc-inv-chain.Post
+enc-inv-chain-enc-inv-chain-requires : (t : ℕ) → enc-inv-chain-lts.Need-enc-inv-chain-requires (calls t)
+    (enc-inv-chain-at t) enc-inv-chain.Post
 enc-inv-chain-enc-inv-chain-requires t c κs = search needs
 
-enc-inv-chain-same-length : (t : ℕ) → enc-inv-chain-lts.Need-same-length (calls t) (enc-inv-chain-at t) enc-inv-chain.Post
+enc-inv-chain-same-length : (t : ℕ) → enc-inv-chain-lts.Need-same-length (calls t) (enc-inv-chain-at t)
+    enc-inv-chain.Post
 enc-inv-chain-same-length t c = search needs
 
 enc-inv-chain-returns : (t : ℕ) → enc-inv-chain-lts.Need-returns (calls t) (enc-inv-chain-at t) enc-inv-chain.Post
 unfolding cbcEncAesInv
 enc-inv-chain-returns t c =
-    let a = c .before .before .before .before .before .before .before .before .before .before .before .before .before .before .before .before .args in
-    let h = c .before .before .before .before .before .before .before .before .before .before .before .before .before .if1 .taken in
+    let a = c .before .before .before .before .before .before .before .before .before .before .before .before .before
+    .before .before .before .args in
+    let h = c .before .before .before .before .before .before .before .before .before .before .before .before .before
+    .if1 .taken in
     let o = c .before .before .before .before .before .before .before .before .before .before .way in
     let k = c .before .before .before .before .before .before .before .copy in
     let r = c .before .before .enc-inv-chain in
-    let e : o .result ≡ aesDec (a .key) (xor (take 16 (a .input .now)) (a .iv)) = cc (first-block-is (a .input .now) h) in
-    chain-more (cbcEnc (aesDec (a .key))) (a .iv) (a .input .now) (a .room .now) (o .result) (o .result) (k .last .1 .0) (r .last .1 .1 .1 .0)
-    h (array-length 16 (o .result) _ (o .ok)) (enc-step (aesDec (a .key)) (a .iv) (take 16 (a .input .now)) (o .result) e) (k .ensures .1) (r .ensures)
+    let e : o .result ≡ aesDec (a .key) (xor (take 16 (a .input .now)) (a .iv)) =
+    cc (first-block-is (a .input .now) h) in
+    chain-more (cbcEnc (aesDec (a .key))) (a .iv) (a .input .now) (a .room .now) (o .result) (o .result) (k .last .1 .0)
+    (r .last .1 .1 .1 .0)
+    h (array-length 16 (o .result) _ (o .ok)) (enc-step (aesDec (a .key)) (a .iv) (take 16 (a .input .now)) (o .result)
+    e) (k .ensures .1) (r .ensures)
 
 enc-inv-chain-returns-2 : (t : ℕ) → enc-inv-chain-lts.Need-returns-2 (calls t) (enc-inv-chain-at t) enc-inv-chain.Post
 unfolding cbcEncAesInv cbcEnc

@@ -43,8 +43,11 @@ returns c = let a = c .before .before .before .before .before .before .before .b
     let p = c .before .before .before .before .before .before .before .before .before .put in
     let q = c .before .before .before .before .before .put2 in
     let r = c .before .put3 in
-    put-three (a .args .t1) (a .args .t2) (a .args .t3) (replicate 16 0) (p .last .0) (q .last .0) (r .last .0) 2 6 k (omega arith) (omega arith)
-    (put-over 0 (a .args .t1) (replicate 16 0) (omega arith) _ _ (p .ensures)) (put-over 2 (a .args .t2) (p .last .0) (omega arith) _ _ (q .ensures)) (put-over 6 (a .args .t3) (q .last .0) (omega arith) _ _ (r .ensures))
+    put-three (a .args .t1) (a .args .t2) (a .args .t3) (replicate 16 0) (p .last .0) (q .last .0) (r .last .0) 2 6 k
+    (omega arith) (omega arith)
+    (put-over 0 (a .args .t1) (replicate 16 0) (omega arith) _ _ (p .ensures))
+    (put-over 2 (a .args .t2) (p .last .0) (omega arith) _ _ (q .ensures))
+    (put-over 6 (a .args .t3) (q .last .0) (omega arith) _ _ (r .ensures))
 
 pub block-of-spec : {M : Type 1} → statement M
 block-of-spec =

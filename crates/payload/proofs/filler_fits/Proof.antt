@@ -34,7 +34,9 @@ returns c = let p = c .before .before .before .before .before .before .args .p .
     let n = c .before .before .before .data-length in
     c .zeros .ensures
     ∙ ap (λ (l : List ℕ). same l (zerosOf (length l)))
-    (c .before .behind2 .ensures ∙ ap (drop (n .result)) (c .before .before .behind .ensures) ∙ drop-drop (n .result) (h .result) p ∙ ap₂ {C = List ℕ} (λ (i j : ℕ). drop (i + j) p) (h .ensures) (n .ensures))
+    (c .before .behind2 .ensures ∙ ap (drop (n .result)) (c .before .before .behind .ensures)
+    ∙ drop-drop (n .result) (h .result) p ∙ ap₂ {C = List ℕ} (λ (i j : ℕ). drop (i + j) p) (h .ensures)
+    (n .ensures))
 
 pub filler-fits-spec : {M : Type 1} → statement M
 filler-fits-spec =

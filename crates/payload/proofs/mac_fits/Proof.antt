@@ -14,7 +14,9 @@ has-mac-requires : tie.Need-has-mac-requires
 has-mac-requires c κs = search needs
 
 returns : tie.Need-returns
-returns c = let a = c .before .before .before .before .args in none-judged (a .mackey) (a .protmode) (a .covered .now) (a .mac .now) (sym (c .before .has-mac .ensures) ∙ not-true _ (c .if1 .taken))
+returns c = let a = c .before .before .before .before .args in
+    none-judged (a .mackey) (a .protmode) (a .covered .now) (a .mac .now)
+    (sym (c .before .has-mac .ensures) ∙ not-true _ (c .if1 .taken))
 
 slice-aggregate-cmac-96 : tie.Need-slice-aggregate-cmac-96
 slice-aggregate-cmac-96 c = search needs
@@ -27,8 +29,11 @@ number-requires c κs = search needs
 
 returns-2 : tie.Need-returns-2
 returns-2 c = let a = c .before .before .before .before .before .before .before .before .before .args in
-    mac-unfit (a .mackey) (a .protmode) (a .covered .now) (a .mac .now) (sym (c .before .before .before .before .before .before .has-mac .ensures) ∙ not-false _ (c .before .before .before .before .before .if1 .left))
-    (into-refused _ _ _ _ _ (c .before .before .before .cmac-96 .ensures) _ (c .before .number .ensures) (c .if2 .taken))
+    mac-unfit (a .mackey) (a .protmode) (a .covered .now) (a .mac .now)
+    (sym (c .before .before .before .before .before .before .has-mac .ensures)
+    ∙ not-false _ (c .before .before .before .before .before .if1 .left))
+    (into-refused _ _ _ _ _ (c .before .before .before .cmac-96 .ensures) _ (c .before .number .ensures)
+    (c .if2 .taken))
 
 slice-aggregate-same : tie.Need-slice-aggregate-same
 slice-aggregate-same c = search needs
@@ -39,9 +44,14 @@ same-requires c κs = search needs
 returns-3 : tie.Need-returns-3
 returns-3 c = let a = c .before .before .before .before .before .before .before .before .before .before .before .args in
     let m = c .before .before .before .before .before .cmac-96 in
-    let t = into-done _ _ _ _ _ (m .ensures) _ (c .before .before .before .number .ensures) (c .before .before .if2 .left) in
-    c .same .ensures ∙ ap (λ (l : List ℕ). same l (a .mac .now)) (mac-made (length (a .covered .now)) (a .mackey) (a .covered .now) (replicate 12 0) (m .last .1 .1 .0) _ refl t (m .ensures))
-    ∙ mac-judged (a .mackey) (a .protmode) (a .covered .now) (a .mac .now) (sym (c .before .before .before .before .before .before .before .before .has-mac .ensures) ∙ not-false _ (c .before .before .before .before .before .before .before .if1 .left)) t
+    let t = into-done _ _ _ _ _ (m .ensures) _ (c .before .before .before .number .ensures)
+    (c .before .before .if2 .left) in
+    c .same .ensures ∙ ap (λ (l : List ℕ). same l (a .mac .now))
+    (mac-made (length (a .covered .now)) (a .mackey) (a .covered .now) (replicate 12 0) (m .last .1 .1 .0) _ refl t
+    (m .ensures))
+    ∙ mac-judged (a .mackey) (a .protmode) (a .covered .now) (a .mac .now)
+    (sym (c .before .before .before .before .before .before .before .before .has-mac .ensures)
+    ∙ not-false _ (c .before .before .before .before .before .before .before .if1 .left)) t
 
 pub mac-fits-spec : {M : Type 1} → statement M
 mac-fits-spec =

@@ -30,7 +30,9 @@ same-length : tie.Need-same-length
 same-length c = search needs
 
 returns-3 : tie.Need-returns-3
-returns-3 c = let a = c .before .before .before .before .before .before .before .before .args in put-built (a .at) (a .src .now) (a .room .now) (omega arith) (c .before .before .copy .last .1 .0) (c .before .before .copy .ensures .1)
+returns-3 c = let a = c .before .before .before .before .before .before .before .before .args in
+    put-built (a .at) (a .src .now) (a .room .now) (omega arith) (c .before .before .copy .last .1 .0)
+    (c .before .before .copy .ensures .1)
 
 pub put-spec : {M : Type 1} → statement M
 put-spec =

@@ -41,8 +41,12 @@ loop-less c = search needs
 loop-again : tie.Need-loop-again Inv-loop μ-loop
 loop-again c =
     let l = c .before .before .before .before in
-    let a = l .before .before .args in
-    (search needs, search needs, l .loop .inv .2 ∙ same-on (a .a .now) (a .b .now) (l .loop .i) (search needs) (search needs) (c .if2 .left))
+    let a = l .before .before .args in (
+      search needs,
+      search needs,
+      l .loop .inv .2
+          ∙ same-on (a .a .now) (a .b .now) (l .loop .i) (search needs) (search needs) (c .if2 .left),
+    )
 
 returns-3 : tie.Need-returns-3 Inv-loop μ-loop
 returns-3 c =

@@ -23,7 +23,8 @@ front-requires c κs = search needs
 returns : tie.Need-returns
 unfolding wordsIn
 returns c = let p = c .before .before .before .before .before .args .p .now in
-    c .front .ensures ∙ ap₂ {C = List ℕ} (λ (i : ℕ) (l : List ℕ). take i l) (c .before .before .data-length .ensures) (c .before .behind .ensures ∙ ap (λ (i : ℕ). drop i p) (c .before .before .before .header-part .ensures))
+    c .front .ensures ∙ ap₂ {C = List ℕ} (λ (i : ℕ) (l : List ℕ). take i l) (c .before .before .data-length .ensures)
+    (c .before .behind .ensures ∙ ap (λ (i : ℕ). drop i p) (c .before .before .before .header-part .ensures))
 
 pub words-in-spec : {M : Type 1} → statement M
 words-in-spec =

@@ -38,7 +38,8 @@ returns-2 c =
     let c1 = c .before in
     let c4 = c1 .before .before .before in
     let a = c4 .args in
-    c .known .ensures ∙ sym (ap (λ (s : State). keyFits (keysIn (a .keys .now)) s (a .session .keyid)) (c1 .enum-told2 .given .1))
+    c .known .ensures ∙ sym (ap (λ (s : State). keyFits (keysIn (a .keys .now)) s (a .session .keyid))
+    (c1 .enum-told2 .given .1))
 
 returns-3 : tie.Need-returns-3
 unfolding keyFits
@@ -46,7 +47,8 @@ returns-3 c =
     let c1 = c .before in
     let c4 = c1 .before .before .before in
     let a = c4 .args in
-    c .known2 .ensures ∙ sym (ap (λ (s : State). keyFits (keysIn (a .keys .now)) s (a .session .keyid)) (c1 .enum-told3 .given .1))
+    c .known2 .ensures ∙ sym (ap (λ (s : State). keyFits (keysIn (a .keys .now)) s (a .session .keyid))
+    (c1 .enum-told3 .given .1))
 
 returns-4 : tie.Need-returns-4
 unfolding keyFits

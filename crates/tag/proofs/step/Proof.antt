@@ -18,7 +18,8 @@ returns c =
     let c3 = c1 .before .before in
     let c11 = c3 .before .before .before .before .before .before .before .before in
     let a = c11 .before .before .args in
-    bench-wrong (a .tag) (a .keys .now) (a .message .now) (a .draws .now) (a .room .now) (a .identity .now) (a .user .now) _
+    bench-wrong (a .tag) (a .keys .now) (a .message .now) (a .draws .now) (a .room .now) (a .identity .now)
+    (a .user .now) _
     (c3 .bench .ensures) _ (c1 .verdict .given .1)
 
 enum-told : tie.Need-enum-told
@@ -56,7 +57,8 @@ returns-2 c =
     let c14 = c12 .before .before in
     let c22 = c14 .before .before .before .before .before .before .before .before in
     let a = c22 .before .before .args in
-    bench-fine (a .tag) (a .keys .now) (a .message .now) (a .draws .now) (a .room .now) (a .identity .now) (a .user .now) _
+    bench-fine (a .tag) (a .keys .now) (a .message .now) (a .draws .now) (a .room .now) (a .identity .now)
+    (a .user .now) _
     (c14 .bench .ensures) _ _ _ _ _ (c12 .enum-told .given .1) (c11 .ten .ensures) (c7 .take .ensures)
 
 pub step-spec : {M : Type 1} → statement M

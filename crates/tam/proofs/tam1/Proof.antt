@@ -24,7 +24,8 @@ returns c =
     let c5 = c4 .before in
     let c7 = c5 .before .before in
     let a = c7 .before .args in
-    tam1-wrong (keysIn (a .keys .now)) (a .message .now) (a .draws) _ _ (c5 .tam1-of .ensures) (c4 .opening .ensures) _ _
+    tam1-wrong (keysIn (a .keys .now)) (a .message .now) (a .draws) _ _ (c5 .tam1-of .ensures) (c4 .opening .ensures) _
+    _
     (c2 .verdict .given .1) (c .refused .ensures)
 
 enum-told : tie.Need-enum-told
@@ -55,7 +56,8 @@ returns-2 c =
     let c10 = c9 .before in
     let c12 = c10 .before .before in
     let a = c12 .before .args in
-    tam1-fine (keysIn (a .keys .now)) (a .message .now) (a .draws) _ _ (c10 .tam1-of .ensures) (c9 .opening .ensures) _ _ _
+    tam1-fine (keysIn (a .keys .now)) (a .message .now) (a .draws) _ _ (c10 .tam1-of .ensures) (c9 .opening .ensures) _
+    _ _
     (c7 .enum-told .given .1) (c6 .find .ensures .1) (c4 .tam1-reply .ensures) (c1 .copy .ensures .1)
 
 pub tam1-spec : {M : Type 1} → statement M

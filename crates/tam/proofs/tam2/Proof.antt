@@ -27,7 +27,8 @@ returns c =
     let c4 = c2 .before .before in
     let c9 = c4 .before .before .before .before .before in
     let a = c9 .args in
-    tam2-wrong (setupOf (a .terms) (a .keys .now)) (a .message .now) (a .draws) _ (a .identity .now) (a .user .now) (c4 .tam2 .ensures) _ _
+    tam2-wrong (setupOf (a .terms) (a .keys .now)) (a .message .now) (a .draws) _ (a .identity .now) (a .user .now)
+    (c4 .tam2 .ensures) _ _
     (c2 .verdict .given .1) (c .refused .ensures)
 
 enum-told : tie.Need-enum-told
@@ -59,7 +60,8 @@ tam2-reply-requires c κs =
     let f = c7 .tam2-of .result in
     let fit = tam2-custom-fits (a .message .now) (λ i. c13 .shared-slice-known2 .given i .fits) in (
       ap (λ (g : Tam2). customFits (g .custom)) (c7 .tam2-of .ensures) ∙ fit,
-      words-fit (a .terms .profiles) (f .custom) (a .identity .now) (a .user .now) (c2 .words-asked .ensures) (c1 .window .ensures),
+      words-fit (a .terms .profiles) (f .custom) (a .identity .now) (a .user .now) (c2 .words-asked .ensures)
+          (c1 .window .ensures),
       omega (arith, length-replicate {A = ℕ} 172 0),
     )
 
@@ -74,7 +76,8 @@ returns-2 c =
     let c12 = c10 .before .before in
     let c17 = c12 .before .before .before .before .before in
     let a = c17 .args in
-    tam2-fine (setupOf (a .terms) (a .keys .now)) (a .message .now) (a .draws) _ (a .identity .now) (a .user .now) (c12 .tam2 .ensures) _ _ _ _ _ _
+    tam2-fine (setupOf (a .terms) (a .keys .now)) (a .message .now) (a .draws) _ (a .identity .now) (a .user .now)
+    (c12 .tam2 .ensures) _ _ _ _ _ _
     (c10 .enum-told .given .1) (c9 .tam2-of .ensures) (c8 .find .ensures .1) (c4 .words-asked .ensures)
     (c3 .window .ensures) (c1 .tam2-reply .ensures .0) (c1 .tam2-reply .ensures .1)
 

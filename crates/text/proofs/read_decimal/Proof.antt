@@ -1,4 +1,5 @@
--- `text::read_decimal` meets its contract. The invariant: n, and what is left of the word behind it, is the word's number.
+-- `text::read_decimal` meets its contract. The invariant: n, and what is left of the word behind it, is the word's
+-- number.
 use mathlib.Core.Path.{_≡_, refl, sym, _∙_}
 use Prim.Native.Nat.{_≤_, _-_}
 use lib.ListN.{length, drop}
@@ -46,8 +47,12 @@ loop-less c = search needs
 loop-again : tie.Need-loop-again Inv-loop μ-loop
 loop-again c =
     let l = c .before .before .before .before in
-    let w = l .before .before .before .before .args .word .now in
-    (search needs, search needs, digit-behind w (l .loop .n) (l .loop .i) _ (search needs) (l .loop .inv .2) (c .before .behind .ensures))
+    let w = l .before .before .before .before .args .word .now in (
+      search needs,
+      search needs,
+      digit-behind w (l .loop .n) (l .loop .i) _ (search needs) (l .loop .inv .2)
+          (c .before .behind .ensures),
+    )
 
 cast-t10 : tie.Need-cast-t10 Inv-loop μ-loop
 cast-t10 c = search needs
@@ -56,7 +61,8 @@ returns-3 : tie.Need-returns-3 Inv-loop μ-loop
 returns-3 c =
     let l = c .before in
     let w = l .before .before .before .before .args .word .now in
-    number w (sym (l .before .before .is-word .ensures) ∙ not-false _ (l .before .if1 .left)) (l .loop .n) (search needs)
+    number w (sym (l .before .before .is-word .ensures) ∙ not-false _ (l .before .if1 .left)) (l .loop .n)
+    (search needs)
     (sym (l .loop .inv .2) ∙ none-behind w (l .loop .n) (l .loop .i) (search needs))
 
 pub read-decimal-spec : {M : Type 1} → statement M

@@ -19,7 +19,8 @@ is-word-requires c κs = search needs
 returns-2 : tie.Need-returns-2
 returns-2 c =
     let d = c .before .before in
-    not-hex _ _ (sym (d .before .is-dash .ensures) ∙ d .if1 .left) (sym (c .before .is-word .ensures) ∙ not-true _ (c .if2 .taken))
+    not-hex _ _ (sym (d .before .is-dash .ensures) ∙ d .if1 .left)
+    (sym (c .before .is-word .ensures) ∙ not-true _ (c .if2 .taken))
 
 returns-3 : tie.Need-returns-3
 returns-3 c =
@@ -51,7 +52,8 @@ returns-5 c =
     let d = w .before .before in
     let word = sym (w .before .is-word .ensures) ∙ not-false _ (w .if2 .left) in
     let none = sym (d .before .is-dash .ensures) ∙ d .if1 .left in
-    bytes _ _ none word (c .before .before .before .before .before .if3 .left) (c .before .before .before .before .if4 .left) _ (c .before .before .read-pairs .ensures)
+    bytes _ _ none word (c .before .before .before .before .before .if3 .left)
+    (c .before .before .before .before .if4 .left) _ (c .before .before .read-pairs .ensures)
 
 pub read-hex-spec : {M : Type 1} → statement M
 read-hex-spec =

@@ -34,7 +34,8 @@ returns c =
     let a = c .before .before .before .before .before .before .before .before .before .before .args in
     let five = c .before .before .before .before .before .before .before .before .five in
     let zeros = c .before .before .before .before .before .before .zeros in
-    as-word _ _ (a .room .now) _ _ (five-word (a .number) (zeros .result) (five .result) (five .ensures) (zeros .ensures .1)) (c .before .before .write .ensures)
+    as-word _ _ (a .room .now) _ _ (five-word (a .number) (zeros .result) (five .result) (five .ensures)
+    (zeros .ensures .1)) (c .before .before .write .ensures)
 
 pub write-decimal-spec : {M : Type 1} → statement M
 write-decimal-spec =

@@ -18,12 +18,14 @@ same-length c = search needs
 returns : tie.Need-returns
 returns c =
     let a = c .before .before .before .before .before .before .before .before .args in
-    as-word _ _ (a .room .now) _ _ (none-word (a .bytes .now) (c .before .before .before .before .before .if1 .taken)) (c .before .before .write .ensures)
+    as-word _ _ (a .room .now) _ _ (none-word (a .bytes .now) (c .before .before .before .before .before .if1 .taken))
+    (c .before .before .write .ensures)
 
 returns-2 : tie.Need-returns-2
 returns-2 c =
     let a = c .before .before .before .before .args in
-    as-word _ _ (a .room .now) _ _ (some-word (a .bytes .now) (c .before .if1 .left)) (short _ (a .room .now) (omega (arith, pairs-long (a .bytes .now))))
+    as-word _ _ (a .room .now) _ _ (some-word (a .bytes .now) (c .before .if1 .left))
+    (short _ (a .room .now) (omega (arith, pairs-long (a .bytes .now))))
 
 write-pairs-requires : tie.Need-write-pairs-requires
 write-pairs-requires c κs = search needs
@@ -38,7 +40,8 @@ returns-3 : tie.Need-returns-3
 returns-3 c =
     let a = c .before .before .before .before .before .before .before .before .args in
     as-word _ _ (a .room .now) _ _ (some-word (a .bytes .now) (c .before .before .before .before .before .if1 .left))
-    (wrote _ (a .room .now) _ _ (omega (arith, pairs-long (a .bytes .now))) (omega (arith, pairs-long (a .bytes .now))) (c .before .before .write-pairs .ensures))
+    (wrote _ (a .room .now) _ _ (omega (arith, pairs-long (a .bytes .now))) (omega (arith, pairs-long (a .bytes .now)))
+    (c .before .before .write-pairs .ensures))
 
 pub write-hex-spec : {M : Type 1} → statement M
 write-hex-spec =

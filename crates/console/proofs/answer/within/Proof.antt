@@ -1,4 +1,5 @@
--- `answer::within` counts bytes of its room: either it was asked for less than the room has, or it is the room's length.
+-- `answer::within` counts bytes of its room: either it was asked for less than the room has, or it is the room's
+-- length.
 use borrow.Author.Needs.{needs}
 use Rattle.io.proofs.Counting.{counts}
 use Rattle.console.proofs.answer.within.Statement.{statement}

@@ -39,7 +39,8 @@ array-share-prefix-room c =
     let c9 = c8 .before in
     let a = c9 .args in
     let most =
-    data-most (a .f) (a .m .now) (λ i. c8 .shared-slice-known .given i .fits) (c9 .pre .0) _ (c .blocks-length .ensures) in
+    data-most (a .f) (a .m .now) (λ i. c8 .shared-slice-known .given i .fits) (c9 .pre .0) _ (c .blocks-length .ensures)
+    in
     omega (arith, most)
 
 slice-aggregate-iam3-proof : tie.Need-slice-aggregate-iam3-proof
@@ -64,7 +65,8 @@ iam3-proof-requires c κs =
     let b = c1 .blocks-length in (
       c10 .pre .1,
       c6 .first-opened .ensures,
-      opened-front (a .key) (a .f) (a .m .now) (c10 .pre .1) (replicate 144 0) (o .last .1 .1 .1 .0) (b .result) (b .ensures)
+      opened-front (a .key) (a .f) (a .m .now) (c10 .pre .1) (replicate 144 0) (o .last .1 .1 .1 .0) (b .result)
+          (b .ensures)
           (o .ensures),
     )
 
@@ -93,7 +95,8 @@ array-share-prefix-room-2 c =
     let c12 = c11 .before in
     let a = c12 .args in
     let most =
-    data-most (a .f) (a .m .now) (λ i. c11 .shared-slice-known .given i .fits) (c12 .pre .0) _ (c3 .blocks-length .ensures) in
+    data-most (a .f) (a .m .now) (λ i. c11 .shared-slice-known .given i .fits) (c12 .pre .0) _
+    (c3 .blocks-length .ensures) in
     omega (arith, most)
 
 slice-aggregate-write : tie.Need-slice-aggregate-write
@@ -104,7 +107,8 @@ slice-aggregate-write c =
     let c13 = c12 .before in
     let a = c13 .args in
     let n = c4 .blocks-length in
-    let most = data-most (a .f) (a .m .now) (λ i. c12 .shared-slice-known .given i .fits) (c13 .pre .0) _ (n .ensures) in
+    let most = data-most (a .f) (a .m .now) (λ i. c12 .shared-slice-known .given i .fits) (c13 .pre .0) _ (n .ensures)
+    in
     sym (length-take-le (n .result) (c7 .open-data .last .1 .1 .1 .0) (omega (arith, most)))
 
 write-requires : tie.Need-write-requires
@@ -139,7 +143,8 @@ returns-2 c =
     let e : iam3Proof (a .key) (a .held) (a .f) (a .m .now) ≡ true =
     sym (c11 .iam3-proof .ensures) ∙ not-false _ (c10 .if1 .left) in
     let p =
-    opened-front (a .key) (a .f) (a .m .now) (c22 .pre .1) (replicate 144 0) (o .last .1 .1 .1 .0) (b .result) (b .ensures)
+    opened-front (a .key) (a .f) (a .m .now) (c22 .pre .1) (replicate 144 0) (o .last .1 .1 .1 .0) (b .result)
+    (b .ensures)
     (o .ensures) in
     let x = c1 .purpose .ensures ∙ ap purposeIn (c18 .first-opened .ensures) in
     let there : Area → List ℕ → List ℕ → List ℕ =

@@ -29,10 +29,15 @@ slice-aggregate-pair : tie.Need-slice-aggregate-pair
 slice-aggregate-pair c = search needs
 
 array-share-prefix-padding : tie.Need-array-share-prefix-padding
-array-share-prefix-padding c = omega (arith, header-bound (c .before .before .before .before .before .before .before .args .custom .blocksize))
+array-share-prefix-padding c = omega (
+  arith,
+  header-bound
+      (c .before .before .before .before .before .before .before .args .custom .blocksize),
+)
 
 slice-aggregate-pair-2 : tie.Need-slice-aggregate-pair-2
-slice-aggregate-pair-2 c = sym (length-take-le _ _ (omega (arith, header-bound (c .before .before .before .before .before .before .before .before .args .custom .blocksize))))
+slice-aggregate-pair-2 c = sym (length-take-le _ _ (omega
+    (arith, header-bound (c .before .before .before .before .before .before .before .before .args .custom .blocksize))))
 
 pair-requires : tie.Need-pair-requires
 pair-requires c κs = search needs
@@ -43,9 +48,12 @@ same-length c = search needs
 returns-2 : tie.Need-returns-2
 returns-2 c =
     let a = c .before .before .before .before .before .before .before .before .before .before .before .args in
-    built _ _ _ _ _ _ _ _ (sym (c .before .before .before .before .before .before .before .before .before .custom-fits .ensures) ∙ not-false _ (c .before .before .before .before .before .before .before .before .if1 .left))
-    (header-fills (a .custom) _ _ (c .before .before .before .before .before .before .header-start .ensures) (c .before .before .before .before .before .before .before .header-length .ensures))
-    (header-layout (a .custom) _ _ (c .before .before .before .before .before .before .header-start .ensures) (c .before .before .before .before .before .before .before .header-length .ensures))
+    built _ _ _ _ _ _ _ _ (sym (c .before .before .before .before .before .before .before .before .before .custom-fits
+    .ensures) ∙ not-false _ (c .before .before .before .before .before .before .before .before .if1 .left))
+    (header-fills (a .custom) _ _ (c .before .before .before .before .before .before .header-start .ensures)
+    (c .before .before .before .before .before .before .before .header-length .ensures))
+    (header-layout (a .custom) _ _ (c .before .before .before .before .before .before .header-start .ensures)
+    (c .before .before .before .before .before .before .before .header-length .ensures))
     (c .before .before .pair .ensures)
 
 pub header-into-spec : {M : Type 1} → statement M

@@ -13,16 +13,19 @@ mul-t6 : tie.Need-mul-t6
 mul-t6 c = search needs
 
 mul-t7 : tie.Need-mul-t7
-mul-t7 c = let r = custom-range (c .before .before .before .args .custom) (c .before .before .before .pre) in omega arith
+mul-t7 c = let r = custom-range (c .before .before .before .args .custom) (c .before .before .before .pre) in
+    omega arith
 
 add-t8 : tie.Need-add-t8
-add-t8 c = let r = custom-range (c .before .before .before .args .custom) (c .before .before .before .pre) in omega arith
+add-t8 c = let r = custom-range (c .before .before .before .args .custom) (c .before .before .before .pre) in
+    omega arith
 
 cast-t10 : tie.Need-cast-t10
 cast-t10 c = search needs
 
 add-t11 : tie.Need-add-t11
-add-t11 c = let r = custom-range (c .before .before .before .args .custom) (c .before .before .before .pre) in omega arith
+add-t11 c = let r = custom-range (c .before .before .before .args .custom) (c .before .before .before .pre) in
+    omega arith
 
 cast-t14 : tie.Need-cast-t14
 cast-t14 c = search needs
@@ -34,10 +37,12 @@ mul-t17 : tie.Need-mul-t17
 mul-t17 c = search needs
 
 mul-t18 : tie.Need-mul-t18
-mul-t18 c = let r = custom-range (c .before .before .before .before .args .custom) (c .before .before .before .before .pre) in omega arith
+mul-t18 c = let r = custom-range (c .before .before .before .before .args .custom)
+    (c .before .before .before .before .pre) in omega arith
 
 add-t19 : tie.Need-add-t19
-add-t19 c = let r = custom-range (c .before .before .before .before .args .custom) (c .before .before .before .before .pre) in omega arith
+add-t19 c = let r = custom-range (c .before .before .before .before .args .custom)
+    (c .before .before .before .before .pre) in omega arith
 
 returns : tie.Need-returns
 unfolding headerStart

@@ -24,7 +24,8 @@ same-length c = search needs
 
 returns-2 : tie.Need-returns-2
 unfolding iam1Message
-returns-2 c = let h = c .before .before .before .before .before .before .if1 .left in built _ _ _ _ _ _ _ _ (eq-eqb _ _ h) refl (rw h) (c .before .before .pair .ensures)
+returns-2 c = let h = c .before .before .before .before .before .before .if1 .left in
+    built _ _ _ _ _ _ _ _ (eq-eqb _ _ h) refl (rw h) (c .before .before .pair .ensures)
 
 pub iam1-into-spec : {M : Type 1} → statement M
 iam1-into-spec =

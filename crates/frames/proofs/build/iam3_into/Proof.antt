@@ -21,7 +21,9 @@ size-bit-requires : tie.Need-size-bit-requires
 size-bit-requires c κs = search needs
 
 select-requires : tie.Need-select-requires
-select-requires c κs = let f = c .before .before .before .before .before .args .f in without-rfu (f .rfu) (f .custom) (f .protmode) (sym (c .before .before .select-fits .ensures) ∙ not-false _ (c .before .if1 .left))
+select-requires c κs = let f = c .before .before .before .before .before .args .f in
+    without-rfu (f .rfu) (f .custom) (f .protmode) (sym (c .before .before .select-fits .ensures)
+    ∙ not-false _ (c .before .if1 .left))
 
 mul-t12 : tie.Need-mul-t12
 mul-t12 c = search needs
@@ -49,9 +51,16 @@ same-length c = search needs
 
 returns-2 : tie.Need-returns-2
 returns-2 c =
-    let f = c .before .before .before .before .before .before .before .before .before .before .before .before .args .f in
-    let fit : selectFits (f .rfu) (f .custom) (f .protmode) ≡ true = sym (c .before .before .before .before .before .before .before .before .before .select-fits .ensures) ∙ not-false _ (c .before .before .before .before .before .before .before .before .if1 .left) in
-    built _ _ _ _ _ _ _ _ fit (omega arith) (iam3-layout f _ _ (select-range (f .rfu) (f .custom) (f .protmode) fit .rfu) (c .before .before .before .before .before .before .before .size-bit .ensures .0) (c .before .before .before .before .before .before .select .ensures)) (c .before .before .with-response .ensures)
+    let f = c .before .before .before .before .before .before .before .before .before .before .before .before .args .f
+    in
+    let fit : selectFits (f .rfu) (f .custom) (f .protmode) ≡ true =
+    sym (c .before .before .before .before .before .before .before .before .before .select-fits .ensures)
+    ∙ not-false _ (c .before .before .before .before .before .before .before .before .if1 .left) in
+    built _ _ _ _ _ _ _ _ fit (omega arith) (iam3-layout f _ _
+    (select-range (f .rfu) (f .custom) (f .protmode) fit .rfu)
+    (c .before .before .before .before .before .before .before .size-bit .ensures .0)
+    (c .before .before .before .before .before .before .select .ensures))
+    (c .before .before .with-response .ensures)
 
 pub iam3-into-spec : {M : Type 1} → statement M
 iam3-into-spec =

@@ -22,7 +22,13 @@ same-length c = search needs
 
 returns-2 : tie.Need-returns-2
 unfolding mam1Message
-returns-2 c = let h = c .before .before .before .before .before .before .if1 .left in built _ _ _ _ _ _ _ _ (eq-eqb _ _ h) refl (rw (h, append-nil (c .before .before .before .before .before .before .before .before .before .args .f .ichallenge))) (c .before .before .with-challenge .ensures)
+returns-2 c = let h = c .before .before .before .before .before .before .if1 .left in
+    built _ _ _ _ _ _ _ _ (eq-eqb _ _ h) refl (rw (
+      h,
+      append-nil
+          (c .before .before .before .before .before .before .before .before .before .args .f .ichallenge),
+    ))
+    (c .before .before .with-challenge .ensures)
 
 pub mam1-into-spec : {M : Type 1} → statement M
 mam1-into-spec =

@@ -21,7 +21,8 @@ same-length c = search needs
 
 returns-2 : tie.Need-returns-2
 unfolding mam2Message
-returns-2 c = let h = c .before .before .before .before .before .before .if1 .left in built _ _ _ _ _ _ _ _ (eq-eqb _ _ h) refl (rw h) (c .before .before .with-response .ensures)
+returns-2 c = let h = c .before .before .before .before .before .before .if1 .left in
+    built _ _ _ _ _ _ _ _ (eq-eqb _ _ h) refl (rw h) (c .before .before .with-response .ensures)
 
 pub mam2-into-spec : {M : Type 1} → statement M
 mam2-into-spec =

@@ -23,7 +23,8 @@ same-length : tie.Need-same-length
 same-length c = search needs
 
 returns : tie.Need-returns
-returns c = let a = c .before .before .before .before .before .before .before .before .args in built _ _ _ _ _ _ _ _ refl (omega arith) (rw (append-nil (a .b .now))) (c .before .before .join .ensures)
+returns c = let a = c .before .before .before .before .before .before .before .before .args in
+    built _ _ _ _ _ _ _ _ refl (omega arith) (rw (append-nil (a .b .now))) (c .before .before .join .ensures)
 
 pub pair-spec : {M : Type 1} → statement M
 pair-spec =

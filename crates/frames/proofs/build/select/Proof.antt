@@ -8,22 +8,28 @@ use Rattle.frames.proofs.build.select.Statement.{statement}
 use Rattle.frames.proofs.build.select.Tie as tie
 
 mul-t5 : tie.Need-mul-t5
-mul-t5 c = let s = c .before .before in let q = select-range 0 (s .args .custom) (s .args .protmode) (s .pre) in let r = custom-range (s .args .custom) (q .custom) in omega arith
+mul-t5 c = let s = c .before .before in let q = select-range 0 (s .args .custom) (s .args .protmode) (s .pre) in let r =
+    custom-range (s .args .custom) (q .custom) in omega arith
 
 cast-t7 : tie.Need-cast-t7
 cast-t7 c = search needs
 
 add-t8 : tie.Need-add-t8
-add-t8 c = let s = c .before .before in let q = select-range 0 (s .args .custom) (s .args .protmode) (s .pre) in let r = custom-range (s .args .custom) (q .custom) in omega arith
+add-t8 c = let s = c .before .before in let q = select-range 0 (s .args .custom) (s .args .protmode) (s .pre) in let r =
+    custom-range (s .args .custom) (q .custom) in omega arith
 
 cast-t10 : tie.Need-cast-t10
 cast-t10 c = search needs
 
 mul-t11 : tie.Need-mul-t11
-mul-t11 c = let s = c .before .before .before in let q = select-range 0 (s .args .custom) (s .args .protmode) (s .pre) in let r = custom-range (s .args .custom) (q .custom) in omega arith
+mul-t11 c = let s = c .before .before .before in let q =
+    select-range 0 (s .args .custom) (s .args .protmode) (s .pre) in let r =
+    custom-range (s .args .custom) (q .custom) in omega arith
 
 add-t12 : tie.Need-add-t12
-add-t12 c = let s = c .before .before .before in let q = select-range 0 (s .args .custom) (s .args .protmode) (s .pre) in let r = custom-range (s .args .custom) (q .custom) in omega arith
+add-t12 c = let s = c .before .before .before in let q =
+    select-range 0 (s .args .custom) (s .args .protmode) (s .pre) in let r =
+    custom-range (s .args .custom) (q .custom) in omega arith
 
 returns : tie.Need-returns
 unfolding selectBytes

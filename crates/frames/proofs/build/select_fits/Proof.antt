@@ -18,7 +18,8 @@ custom-fits-requires c κs = search needs
 
 returns-3 : tie.Need-returns-3
 unfolding selectFits
-returns-3 c = simp (eq-eqb _ _ (c .before .before .if1 .left), lt-ltb _ _ (c .before .if2 .left)) (c .custom-fits .ensures)
+returns-3 c = simp (eq-eqb _ _ (c .before .before .if1 .left), lt-ltb _ _ (c .before .if2 .left))
+    (c .custom-fits .ensures)
 
 pub select-fits-spec : {M : Type 1} → statement M
 select-fits-spec = tie.close (tie.spec returns returns-2 custom-fits-requires returns-3)

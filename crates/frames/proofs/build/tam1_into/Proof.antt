@@ -22,7 +22,10 @@ same-length c = search needs
 
 returns-2 : tie.Need-returns-2
 unfolding tam1Message
-returns-2 c = let f = c .before .before .before .before .before .before .before .before .before .args .f in let h = c .before .before .before .before .before .before .if1 .left in built _ _ _ _ _ _ _ _ (eq-eqb _ _ h) refl (rw (h, append-nil (f .ichallenge))) (c .before .before .with-challenge .ensures)
+returns-2 c = let f = c .before .before .before .before .before .before .before .before .before .args .f in let h =
+    c .before .before .before .before .before .before .if1 .left in
+    built _ _ _ _ _ _ _ _ (eq-eqb _ _ h) refl (rw (h, append-nil (f .ichallenge)))
+    (c .before .before .with-challenge .ensures)
 
 pub tam1-into-spec : {M : Type 1} → statement M
 tam1-into-spec =

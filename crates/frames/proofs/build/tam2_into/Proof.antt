@@ -21,7 +21,9 @@ tam2-first-requires : tie.Need-tam2-first-requires
 tam2-first-requires c κs = search needs
 
 select-requires : tie.Need-select-requires
-select-requires c κs = let f = c .before .before .before .before .before .args .f in without-rfu (f .rfu) (f .custom) (f .protmode) (sym (c .before .before .select-fits .ensures) ∙ not-false _ (c .before .if1 .left))
+select-requires c κs = let f = c .before .before .before .before .before .args .f in
+    without-rfu (f .rfu) (f .custom) (f .protmode) (sym (c .before .before .select-fits .ensures)
+    ∙ not-false _ (c .before .if1 .left))
 
 slice-aggregate-with-challenge : tie.Need-slice-aggregate-with-challenge
 slice-aggregate-with-challenge c = search needs
@@ -34,9 +36,16 @@ same-length c = search needs
 
 returns-2 : tie.Need-returns-2
 returns-2 c =
-    let f = c .before .before .before .before .before .before .before .before .before .before .before .before .args .f in
-    let fit : selectFits (f .rfu) (f .custom) (f .protmode) ≡ true = sym (c .before .before .before .before .before .before .before .before .before .select-fits .ensures) ∙ not-false _ (c .before .before .before .before .before .before .before .before .if1 .left) in
-    built _ _ _ _ _ _ _ _ fit (omega arith) (tam2-layout f _ _ (select-range (f .rfu) (f .custom) (f .protmode) fit .rfu) (c .before .before .before .before .before .before .before .tam2-first .ensures) (c .before .before .before .before .before .before .select .ensures)) (c .before .before .with-challenge .ensures)
+    let f = c .before .before .before .before .before .before .before .before .before .before .before .before .args .f
+    in
+    let fit : selectFits (f .rfu) (f .custom) (f .protmode) ≡ true =
+    sym (c .before .before .before .before .before .before .before .before .before .select-fits .ensures)
+    ∙ not-false _ (c .before .before .before .before .before .before .before .before .if1 .left) in
+    built _ _ _ _ _ _ _ _ fit (omega arith) (tam2-layout f _ _
+    (select-range (f .rfu) (f .custom) (f .protmode) fit .rfu)
+    (c .before .before .before .before .before .before .before .tam2-first .ensures)
+    (c .before .before .before .before .before .before .select .ensures))
+    (c .before .before .with-challenge .ensures)
 
 pub tam2-into-spec : {M : Type 1} → statement M
 tam2-into-spec =

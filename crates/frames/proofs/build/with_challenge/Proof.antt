@@ -21,7 +21,10 @@ same-length : tie.Need-same-length
 same-length c = search needs
 
 returns : tie.Need-returns
-returns c = let s = c .before .before .before .before .before .before .before .before in let h = good-length (eInt w8) 2 (s .args .t2) _ (s .good .1 .0) in let k = good-length (eInt w8) 10 (s .args .t3) _ (s .good .1 .1 .0) in built _ _ _ _ _ _ _ _ refl (omega arith) refl (c .before .before .join .ensures)
+returns c = let s = c .before .before .before .before .before .before .before .before in let h =
+    good-length (eInt w8) 2 (s .args .t2) _ (s .good .1 .0) in let k =
+    good-length (eInt w8) 10 (s .args .t3) _ (s .good .1 .1 .0) in
+    built _ _ _ _ _ _ _ _ refl (omega arith) refl (c .before .before .join .ensures)
 
 pub with-challenge-spec : {M : Type 1} → statement M
 with-challenge-spec =

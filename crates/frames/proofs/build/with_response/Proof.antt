@@ -18,7 +18,9 @@ same-length : tie.Need-same-length
 same-length c = search needs
 
 returns : tie.Need-returns
-returns c = let s = c .before .before .before .before .before .before .before in let h = good-length (eInt w8) 16 (s .args .t3) _ (s .good .1 .1 .0) in built _ _ _ _ _ _ _ _ refl (omega arith) refl (c .before .before .pair .ensures)
+returns c = let s = c .before .before .before .before .before .before .before in let h =
+    good-length (eInt w8) 16 (s .args .t3) _ (s .good .1 .1 .0) in
+    built _ _ _ _ _ _ _ _ refl (omega arith) refl (c .before .before .pair .ensures)
 
 pub with-response-spec : {M : Type 1} → statement M
 with-response-spec = tie.close (tie.spec slice-aggregate-pair pair-requires same-length returns)

@@ -14,15 +14,32 @@ returns-2 c = simp (ne-eqb _ _ (c .before .if1 .left), eq-eqb _ _ (c .if2 .taken
 
 returns-3 : tie.Need-returns-3
 unfolding byMode
-returns-3 c = simp (ne-eqb _ _ (c .before .before .if1 .left), ne-eqb _ _ (c .before .if2 .left), eq-eqb _ _ (c .if3 .taken))
+returns-3 c = simp (
+  ne-eqb _ _ (c .before .before .if1 .left),
+  ne-eqb _ _ (c .before .if2 .left),
+  eq-eqb _ _
+      (c .if3 .taken),
+)
 
 returns-4 : tie.Need-returns-4
 unfolding byMode
-returns-4 c = simp (ne-eqb _ _ (c .before .before .before .if1 .left), ne-eqb _ _ (c .before .before .if2 .left), ne-eqb _ _ (c .before .if3 .left), eq-eqb _ _ (c .if4 .taken))
+returns-4 c = simp (
+  ne-eqb _ _ (c .before .before .before .if1 .left),
+  ne-eqb _ _ (c .before .before .if2 .left),
+  ne-eqb
+      _ _ (c .before .if3 .left),
+  eq-eqb _ _ (c .if4 .taken),
+)
 
 returns-5 : tie.Need-returns-5
 unfolding byMode
-returns-5 c = simp (ne-eqb _ _ (c .before .before .before .if1 .left), ne-eqb _ _ (c .before .before .if2 .left), ne-eqb _ _ (c .before .if3 .left), ne-eqb _ _ (c .if4 .left))
+returns-5 c = simp (
+  ne-eqb _ _ (c .before .before .before .if1 .left),
+  ne-eqb _ _ (c .before .before .if2 .left),
+  ne-eqb
+      _ _ (c .before .if3 .left),
+  ne-eqb _ _ (c .if4 .left),
+)
 
 pub by-mode-spec : {M : Type 1} → statement M
 by-mode-spec = tie.close (tie.spec returns returns-2 returns-3 returns-4 returns-5)

@@ -36,7 +36,8 @@ returns c =
     let size = c .before .before .before .before .size-of-bit .ensures ∙ ap (λ (h : ℕ). sizeOf (h / 4 % 2)) head in
     λ i. record {
       rfu = head i % 4;
-      custom = (c .before .custom-of .ensures ∙ (λ j. selectCustom (size j) (c .before .before .before .byte3 .ensures j) (c .before .before .byte4 .ensures j) (last j))) i;
+      custom = (c .before .custom-of .ensures ∙ (λ j. selectCustom (size j)
+          (c .before .before .before .byte3 .ensures j) (c .before .before .byte4 .ensures j) (last j))) i;
       protmode = last i % 16;
       iresponse = c .sixteen .ensures i;
     }

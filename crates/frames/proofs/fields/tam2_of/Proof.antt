@@ -36,13 +36,16 @@ unfolding tam2Of
 returns c =
     let head = c .before .before .before .before .before .before .before .byte .ensures in
     let last = c .before .before .before .before .before .before .byte2 .ensures in
-    let size = c .before .before .before .before .before .size-of-bit .ensures ∙ ap (λ (h : ℕ). sizeOf (h / 16 % 2)) head in
+    let size = c .before .before .before .before .before .size-of-bit .ensures
+    ∙ ap (λ (h : ℕ). sizeOf (h / 16 % 2)) head in
     λ i. record {
       rev = flag (head i / 8 % 2);
       rfu = head i % 8;
       keyid = c .byte5 .ensures i;
       ichallenge = c .before .ten .ensures i;
-      custom = (c .before .before .custom-of .ensures ∙ (λ j. selectCustom (size j) (c .before .before .before .before .byte3 .ensures j) (c .before .before .before .byte4 .ensures j) (last j))) i;
+      custom = (c .before .before .custom-of .ensures
+          ∙ (λ j. selectCustom (size j) (c .before .before .before .before .byte3 .ensures j)
+          (c .before .before .before .byte4 .ensures j) (last j))) i;
       protmode = last i % 16;
     }
 

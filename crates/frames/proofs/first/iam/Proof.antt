@@ -10,11 +10,21 @@ returns c = simp (eq-eqb _ _ (c .if1 .taken))
 
 returns-2 : tie.Need-returns-2
 unfolding iamKind
-returns-2 c = simp (ne-eqb _ _ (c .before .before .if1 .left), eq-eqb _ _ (c .before .if2 .taken), eq-eqb _ _ (c .if3 .taken))
+returns-2 c = simp (
+  ne-eqb _ _ (c .before .before .if1 .left),
+  eq-eqb _ _ (c .before .if2 .taken),
+  eq-eqb _ _
+      (c .if3 .taken),
+)
 
 returns-3 : tie.Need-returns-3
 unfolding iamKind
-returns-3 c = simp (ne-eqb _ _ (c .before .before .if1 .left), eq-eqb _ _ (c .before .if2 .taken), ne-eqb _ _ (c .if3 .left))
+returns-3 c = simp (
+  ne-eqb _ _ (c .before .before .if1 .left),
+  eq-eqb _ _ (c .before .if2 .taken),
+  ne-eqb _ _
+      (c .if3 .left),
+)
 
 returns-4 : tie.Need-returns-4
 unfolding iamKind

@@ -24,11 +24,21 @@ mam-requires c κs = search needs
 
 returns-3 : tie.Need-returns-3
 unfolding kindOf
-returns-3 c = simp (ne-eqb _ _ (c .before .before .before .if1 .left), ne-eqb _ _ (c .before .before .if2 .left), eq-eqb _ _ (c .before .if3 .taken)) (c .mam .ensures)
+returns-3 c = simp (
+  ne-eqb _ _ (c .before .before .before .if1 .left),
+  ne-eqb _ _ (c .before .before .if2 .left),
+  eq-eqb
+      _ _ (c .before .if3 .taken),
+) (c .mam .ensures)
 
 returns-4 : tie.Need-returns-4
 unfolding kindOf
-returns-4 c = simp (ne-eqb _ _ (c .before .before .if1 .left), ne-eqb _ _ (c .before .if2 .left), ne-eqb _ _ (c .if3 .left))
+returns-4 c = simp (
+  ne-eqb _ _ (c .before .before .if1 .left),
+  ne-eqb _ _ (c .before .if2 .left),
+  ne-eqb _ _
+      (c .if3 .left),
+)
 
 pub kind-of-spec : {M : Type 1} → statement M
 kind-of-spec =

@@ -32,13 +32,19 @@ loop-less : tie.Need-loop-less Inv-loop μ-loop
 loop-less c = simp length-set (omega arith)
 
 loop-again : tie.Need-loop-again Inv-loop μ-loop
-loop-again c = let l = c .before .before .loop in (simp length-set (omega arith), simp length-set (omega arith), filled-more (l .room) (c .before .before .before .before .before .args .src .now) (l .i) (c .byte .result) (omega arith) (c .byte .ensures) (l .inv .2))
+loop-again c = let l = c .before .before .loop in (
+  simp length-set (omega arith),
+  simp length-set (omega arith),
+  filled-more (l .room) (c .before .before .before .before .before .args .src .now) (l .i) (c .byte .result)
+      (omega arith) (c .byte .ensures) (l .inv .2),
+)
 
 same-length : tie.Need-same-length Inv-loop μ-loop
 same-length c = search needs
 
 returns : tie.Need-returns Inv-loop μ-loop
-returns c = let l = c .before .loop in let a = c .before .before .before .before .args in filled-all (l .room) (a .src .now) (l .i) (length (a .room .now)) (omega arith) (omega arith) (l .inv .2)
+returns c = let l = c .before .loop in let a = c .before .before .before .before .args in
+    filled-all (l .room) (a .src .now) (l .i) (length (a .room .now)) (omega arith) (omega arith) (l .inv .2)
 
 pub fill-spec : {M : Type 1} → statement M
 fill-spec =

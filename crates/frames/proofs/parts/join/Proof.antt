@@ -12,7 +12,8 @@ sub-if2 : tie.Need-sub-if2
 sub-if2 c = search needs
 
 returns-2 : tie.Need-returns-2
-returns-2 c = let a = c .before .before .before .before .before .before .args in too-short _ _ (a .room .now) (omega arith)
+returns-2 c = let a = c .before .before .before .before .before .before .args in
+    too-short _ _ (a .room .now) (omega arith)
 
 sub-if3 : tie.Need-sub-if3
 sub-if3 c = search needs
@@ -21,7 +22,8 @@ sub-if3-2 : tie.Need-sub-if3-2
 sub-if3-2 c = search needs
 
 returns-3 : tie.Need-returns-3
-returns-3 c = let a = c .before .before .before .before .before .before .before .args in too-short _ _ (a .room .now) (omega arith)
+returns-3 c = let a = c .before .before .before .before .before .before .before .args in
+    too-short _ _ (a .room .now) (omega arith)
 
 add-j : tie.Need-add-j
 add-j c = search needs
@@ -43,7 +45,9 @@ returns-4 c =
     let p2 = c .before .before .before .before .before .before in
     let p1 = p2 .before .before .before .before in
     let a = p1 .before .before .before .before .before .before .before .before .before .args in
-    joined (a .room .now) (a .a .now) (a .b .now) (a .c .now) (p1 .put .last .0) (p2 .put2 .last .0) (c .before .before .put3 .last .0) (omega arith) (p1 .put .ensures) (p2 .put2 .ensures) (c .before .before .put3 .ensures)
+    joined (a .room .now) (a .a .now) (a .b .now) (a .c .now) (p1 .put .last .0) (p2 .put2 .last .0)
+    (c .before .before .put3 .last .0) (omega arith) (p1 .put .ensures) (p2 .put2 .ensures)
+    (c .before .before .put3 .ensures)
 
 pub join-spec : {M : Type 1} → statement M
 join-spec =

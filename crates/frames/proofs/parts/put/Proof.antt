@@ -23,7 +23,9 @@ same-length : tie.Need-same-length
 same-length c = search needs
 
 returns : tie.Need-returns
-returns c = let s = c .before .before .before .before .before .before in part-back (s .args .room .now) (s .args .src .now) (c .before .before .fill .last .0) (s .args .at) (s .pre) (c .before .before .fill .ensures)
+returns c = let s = c .before .before .before .before .before .before in
+    part-back (s .args .room .now) (s .args .src .now) (c .before .before .fill .last .0) (s .args .at) (s .pre)
+    (c .before .before .fill .ensures)
 
 pub put-spec : {M : Type 1} → statement M
 put-spec =

@@ -17,7 +17,8 @@ mac-length-requires c κs = search needs
 
 add-result : tie.Need-add-result
 unfolding iam3MacAt
-add-result c = let a = c .before .before .args in omega (arith, blocks-bound (a .size) true (a .blockcount), mac-bound (a .protmode))
+add-result c = let a = c .before .before .args in
+    omega (arith, blocks-bound (a .size) true (a .blockcount), mac-bound (a .protmode))
 
 returns : tie.Need-returns
 unfolding iam3Length

@@ -14,14 +14,25 @@ iam3-of-requires c κs = search needs
 
 returns-2 : tie.Need-returns-2
 unfolding iam3LengthFits
-returns-2 c = simp (le-leb _ _ (c .before .before .before .if1 .left), ← c .before .before .iam3-of .ensures, lt-ltb _ _ (c .if2 .taken))
+returns-2 c = simp (
+  le-leb _ _ (c .before .before .before .if1 .left),
+  ← c .before .before .iam3-of .ensures,
+  lt-ltb _ _
+      (c .if2 .taken),
+)
 
 iam3-length-requires : tie.Need-iam3-length-requires
 iam3-length-requires c κs = search needs
 
 returns-3 : tie.Need-returns-3
 unfolding iam3LengthFits
-returns-3 c = simp (le-leb _ _ (c .before .before .before .before .before .if1 .left), ← c .before .before .before .before .iam3-of .ensures, le-ltb _ _ (c .before .before .if2 .left), c .iam3-length .ensures)
+returns-3 c = simp (
+  le-leb _ _ (c .before .before .before .before .before .if1 .left),
+  ← c .before .before .before
+      .before .iam3-of .ensures,
+  le-ltb _ _ (c .before .before .if2 .left),
+  c .iam3-length .ensures,
+)
 
 pub iam3-length-fits-spec : {M : Type 1} → statement M
 iam3-length-fits-spec =

@@ -11,7 +11,8 @@ block-asked-requires : tie.Need-block-asked-requires
 block-asked-requires c κs = search needs
 
 returns : tie.Need-returns
-returns c = let a = c .before .before .args in block-named (a .profiles) (a .custom) (c .before .slot .ensures) (c .block-asked .ensures)
+returns c = let a = c .before .before .args in block-named (a .profiles) (a .custom) (c .before .slot .ensures)
+    (c .block-asked .ensures)
 
 pub words-asked-spec : {M : Type 1} → statement M
 words-asked-spec = tie.close (tie.spec slot-requires block-asked-requires returns)

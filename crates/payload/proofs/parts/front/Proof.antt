@@ -10,7 +10,8 @@ returns : tie.Need-returns
 returns c = sym (take-all (c .before .args .n) (c .before .args .s .now) (omega arith))
 
 slice-aggregate-result : tie.Need-slice-aggregate-result
-slice-aggregate-result c = sym (length-take-le (c .before .before .args .n) (c .before .before .args .s .now) (omega arith))
+slice-aggregate-result c = sym (length-take-le (c .before .before .args .n) (c .before .before .args .s .now)
+    (omega arith))
 
 returns-2 : tie.Need-returns-2
 returns-2 c = search needs

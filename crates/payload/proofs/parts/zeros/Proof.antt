@@ -26,7 +26,8 @@ returns : tie.Need-returns Inv-loop μ-loop
 returns c =
     let l = c .before .before .before in
     let s = l .before .args .s .now in
-    sym (l .loop .inv .1 ∙ same-off s (zerosOf (length s)) (l .loop .i) (search needs) (omega (arith, zeros-long (length s), c .before .before .loop-test .taken))
+    sym (l .loop .inv .1 ∙ same-off s (zerosOf (length s)) (l .loop .i) (search needs)
+    (omega (arith, zeros-long (length s), c .before .before .loop-test .taken))
     (λ e. c .if1 .taken (e ∙ getD-zeros (length s) (l .loop .i))))
 
 add-i : tie.Need-add-i Inv-loop μ-loop
@@ -40,7 +41,8 @@ loop-again c =
     let l = c .before .before .before in
     let s = l .before .args .s .now in (
       search needs,
-      l .loop .inv .1 ∙ same-on s (zerosOf (length s)) (l .loop .i) (search needs) (omega (arith, zeros-long (length s), c .before .before .loop-test .taken))
+      l .loop .inv .1 ∙ same-on s (zerosOf (length s)) (l .loop .i) (search needs)
+          (omega (arith, zeros-long (length s), c .before .before .loop-test .taken))
           (c .if1 .left ∙ sym (getD-zeros (length s) (l .loop .i))),
     )
 
@@ -48,7 +50,8 @@ returns-2 : tie.Need-returns-2 Inv-loop μ-loop
 returns-2 c =
     let l = c .before in
     let s = l .before .args .s .now in
-    sym (l .loop .inv .1 ∙ same-end s (zerosOf (length s)) (l .loop .i) (search needs) (omega (arith, zeros-long (length s), c .loop-test .left)))
+    sym (l .loop .inv .1 ∙ same-end s (zerosOf (length s)) (l .loop .i) (search needs)
+    (omega (arith, zeros-long (length s), c .loop-test .left)))
 
 pub zeros-spec : {M : Type 1} → statement M
 zeros-spec =

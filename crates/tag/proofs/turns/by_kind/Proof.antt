@@ -21,7 +21,8 @@ returns c =
     let c4 = c2 .before .before in
     let c10 = c4 .before .before .before .before .before .before in
     let a = c10 .before .args in
-    is-tam1 (lent (a .m .now) (a .draws) (a .room .now) (a .identity .now) (a .user .now)) (setupOf (a .terms) (a .keys .now)) (a .held)
+    is-tam1 (lent (a .m .now) (a .draws) (a .room .now) (a .identity .now) (a .user .now))
+    (setupOf (a .terms) (a .keys .now)) (a .held)
     (a .room .now) _ _ _ (c4 .enum-told .given .1) ((c2 .tam1 .ensures) (a .identity .now) (a .user .now))
 
 enum-told-2 : tie.Need-enum-told-2
@@ -45,7 +46,8 @@ returns-2 c =
     let c6 = c2 .before .before .before .before in
     let c12 = c6 .before .before .before .before .before .before in
     let a = c12 .before .args in
-    is-tam2 (lent (a .m .now) (a .draws) (a .room .now) (a .identity .now) (a .user .now)) (setupOf (a .terms) (a .keys .now)) (a .held)
+    is-tam2 (lent (a .m .now) (a .draws) (a .room .now) (a .identity .now) (a .user .now))
+    (setupOf (a .terms) (a .keys .now)) (a .held)
     (a .room .now) _ _ _ (c6 .enum-told2 .given .1) (c2 .tam2 .ensures)
 
 enum-told-3 : tie.Need-enum-told-3
@@ -63,7 +65,8 @@ returns-3 c =
     let c4 = c2 .before .before in
     let c10 = c4 .before .before .before .before .before .before in
     let a = c10 .before .args in
-    is-iam1 (lent (a .m .now) (a .draws) (a .room .now) (a .identity .now) (a .user .now)) (setupOf (a .terms) (a .keys .now)) (a .held)
+    is-iam1 (lent (a .m .now) (a .draws) (a .room .now) (a .identity .now) (a .user .now))
+    (setupOf (a .terms) (a .keys .now)) (a .held)
     (a .room .now) _ _ _ (c4 .enum-told3 .given .1) ((c2 .iam1 .ensures) (a .identity .now) (a .user .now))
 
 enum-told-4 : tie.Need-enum-told-4
@@ -77,7 +80,8 @@ returns-4 c =
     let c1 = c .before in
     let c7 = c1 .before .before .before .before .before .before in
     let a = c7 .before .args in
-    is-iam2 (lent (a .m .now) (a .draws) (a .room .now) (a .identity .now) (a .user .now)) (setupOf (a .terms) (a .keys .now)) (a .held)
+    is-iam2 (lent (a .m .now) (a .draws) (a .room .now) (a .identity .now) (a .user .now))
+    (setupOf (a .terms) (a .keys .now)) (a .held)
     (a .room .now) _ _ (a .room .now) (c1 .enum-told4 .given .1) (c .iam2 .ensures)
 
 enum-told-5 : tie.Need-enum-told-5
@@ -98,7 +102,8 @@ returns-5 c =
     let c7 = c4 .before .before .before in
     let c13 = c7 .before .before .before .before .before .before in
     let a = c13 .before .args in
-    is-iam3 (lent (a .m .now) (a .draws) (a .room .now) (a .identity .now) (a .user .now)) (setupOf (a .terms) (a .keys .now)) (a .held)
+    is-iam3 (lent (a .m .now) (a .draws) (a .room .now) (a .identity .now) (a .user .now))
+    (setupOf (a .terms) (a .keys .now)) (a .held)
     (a .room .now) _ _ (a .room .now) _ _ (c7 .enum-told5 .given .1) (c4 .iam3 .ensures)
 
 enum-told-6 : tie.Need-enum-told-6
@@ -116,7 +121,8 @@ returns-6 c =
     let c4 = c2 .before .before in
     let c10 = c4 .before .before .before .before .before .before in
     let a = c10 .before .args in
-    is-mam1 (lent (a .m .now) (a .draws) (a .room .now) (a .identity .now) (a .user .now)) (setupOf (a .terms) (a .keys .now)) (a .held)
+    is-mam1 (lent (a .m .now) (a .draws) (a .room .now) (a .identity .now) (a .user .now))
+    (setupOf (a .terms) (a .keys .now)) (a .held)
     (a .room .now) _ _ _ (c4 .enum-told6 .given .1) ((c2 .mam1 .ensures) (a .identity .now) (a .user .now))
 
 enum-told-7 : tie.Need-enum-told-7
@@ -130,7 +136,8 @@ returns-7 c =
     let c1 = c .before in
     let c7 = c1 .before .before .before .before .before .before in
     let a = c7 .before .args in
-    is-mam2 (lent (a .m .now) (a .draws) (a .room .now) (a .identity .now) (a .user .now)) (setupOf (a .terms) (a .keys .now)) (a .held)
+    is-mam2 (lent (a .m .now) (a .draws) (a .room .now) (a .identity .now) (a .user .now))
+    (setupOf (a .terms) (a .keys .now)) (a .held)
     (a .room .now) _ _ (a .room .now) (c1 .enum-told7 .given .1) (c .mam2 .ensures)
 
 enum-told-8 : tie.Need-enum-told-8
@@ -144,7 +151,8 @@ returns-8 c =
     let c1 = c .before in
     let c7 = c1 .before .before .before .before .before .before in
     let a = c7 .before .args in
-    is-none (lent (a .m .now) (a .draws) (a .room .now) (a .identity .now) (a .user .now)) (setupOf (a .terms) (a .keys .now)) (a .held)
+    is-none (lent (a .m .now) (a .draws) (a .room .now) (a .identity .now) (a .user .now))
+    (setupOf (a .terms) (a .keys .now)) (a .held)
     (a .room .now) _ _ (c1 .enum-told8 .given .1) (c .refused .ensures)
 
 pub by-kind-spec : {M : Type 1} → statement M

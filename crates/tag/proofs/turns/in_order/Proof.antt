@@ -20,7 +20,8 @@ returns c =
     let c2 = c1 .before in
     let c8 = c2 .before .before .before .before .before .before in
     let a = c8 .before .args in
-    not-offered (lent (a .m .now) (a .draws) (a .room .now) (a .identity .now) (a .user .now)) (setupOf (a .terms) (a .keys .now)) (a .held)
+    not-offered (lent (a .m .now) (a .draws) (a .room .now) (a .identity .now) (a .user .now))
+    (setupOf (a .terms) (a .keys .now)) (a .held)
     (a .room .now) _ (a .kind) (sym (c2 .offered .ensures) ∙ not-true _ (c1 .if1 .taken)) (c .refused .ensures)
 
 in-turn-requires : tie.Need-in-turn-requires
@@ -37,7 +38,8 @@ returns-2 c =
     let c4 = c3 .before in
     let c10 = c4 .before .before .before .before .before .before in
     let a = c10 .before .args in
-    out-of-turn (lent (a .m .now) (a .draws) (a .room .now) (a .identity .now) (a .user .now)) (setupOf (a .terms) (a .keys .now)) (a .held)
+    out-of-turn (lent (a .m .now) (a .draws) (a .room .now) (a .identity .now) (a .user .now))
+    (setupOf (a .terms) (a .keys .now)) (a .held)
     (a .room .now) _ (a .kind) (sym (c4 .offered .ensures) ∙ not-false _ (c3 .if1 .left))
     (sym (c2 .in-turn .ensures) ∙ not-true _ (c1 .if2 .taken)) (c .refused2 .ensures)
 
@@ -62,7 +64,8 @@ returns-3 c =
     let c13 = c12 .before in
     let c19 = c13 .before .before .before .before .before .before in
     let a = c19 .before .args in
-    in-its-turn (lent (a .m .now) (a .draws) (a .room .now) (a .identity .now) (a .user .now)) (setupOf (a .terms) (a .keys .now)) (a .held)
+    in-its-turn (lent (a .m .now) (a .draws) (a .room .now) (a .identity .now) (a .user .now))
+    (setupOf (a .terms) (a .keys .now)) (a .held)
     (a .room .now) _ (a .kind) (sym (c13 .offered .ensures) ∙ not-false _ (c12 .if1 .left)) _ _ _
     (sym (c11 .in-turn .ensures) ∙ not-false _ (c10 .if2 .left)) (c6 .by-kind .ensures)
 

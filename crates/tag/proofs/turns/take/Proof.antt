@@ -14,7 +14,8 @@ returns c =
     let c1 = c .before in
     let c6 = c1 .before .before .before .before .before in
     let a = c6 .before .args in
-    nothing-there (lent (a .m .now) (a .draws) (a .room .now) (a .identity .now) (a .user .now)) (setupOf (a .terms) (a .keys .now)) (a .held)
+    nothing-there (lent (a .m .now) (a .draws) (a .room .now) (a .identity .now) (a .user .now))
+    (setupOf (a .terms) (a .keys .now)) (a .held)
     (a .room .now) _ (a .m .now) (c1 .if1 .taken) (c .refused .ensures)
 
 shared-slice-read-kind-of : tie.Need-shared-slice-read-kind-of
@@ -42,7 +43,8 @@ returns-2 c =
     let c12 = c10 .before .before in
     let c17 = c12 .before .before .before .before .before in
     let a = c17 .before .args in
-    something-there (lent (a .m .now) (a .draws) (a .room .now) (a .identity .now) (a .user .now)) (setupOf (a .terms) (a .keys .now)) (a .held)
+    something-there (lent (a .m .now) (a .draws) (a .room .now) (a .identity .now) (a .user .now))
+    (setupOf (a .terms) (a .keys .now)) (a .held)
     (a .room .now) _ (a .m .now) _ _ _ _ (c12 .if1 .left) (c10 .kind-of .ensures) (c6 .in-order .ensures)
 
 pub take-spec : {M : Type 1} → statement M

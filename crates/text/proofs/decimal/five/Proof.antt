@@ -22,8 +22,14 @@ last-requires-5 c κs = search needs
 returns : tie.Need-returns
 unfolding fiveDigits
 returns c =
-    simp
-    (c .last5 .ensures, c .before .last4 .ensures, c .before .before .last3 .ensures, c .before .before .before .last2 .ensures, c .before .before .before .before .last .ensures)
+    simp (
+      c .last5 .ensures,
+      c .before .last4 .ensures,
+      c .before .before .last3 .ensures,
+      c .before .before .before .last2
+          .ensures,
+      c .before .before .before .before .last .ensures,
+    )
 
 pub five-spec : {M : Type 1} → statement M
 five-spec =

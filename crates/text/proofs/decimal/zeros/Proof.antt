@@ -24,8 +24,11 @@ shared-slice-read-if1 : tie.Need-shared-slice-read-if1 Inv-loop μ-loop
 shared-slice-read-if1 c = search needs
 
 returns : tie.Need-returns Inv-loop μ-loop
-returns c = let l = c .before .before .before in
-    (search needs, zeros-end (l .before .args .digits .now) (l .loop .i) (search needs) (c .if1 .taken) (l .loop .inv .1))
+returns c = let l = c .before .before .before in (
+  search needs,
+  zeros-end (l .before .args .digits .now) (l .loop .i) (search needs) (c .if1 .taken)
+      (l .loop .inv .1),
+)
 
 add-i : tie.Need-add-i Inv-loop μ-loop
 add-i c = search needs
@@ -34,12 +37,18 @@ loop-less : tie.Need-loop-less Inv-loop μ-loop
 loop-less c = search needs
 
 loop-again : tie.Need-loop-again Inv-loop μ-loop
-loop-again c = let l = c .before .before .before in
-    (search needs, sym (zero-on (l .before .args .digits .now) (l .loop .i) (search needs) (c .if1 .left)) ∙ l .loop .inv .1)
+loop-again c = let l = c .before .before .before in (
+  search needs,
+  sym (zero-on (l .before .args .digits .now) (l .loop .i) (search needs) (c .if1 .left))
+      ∙ l .loop .inv .1,
+)
 
 returns-2 : tie.Need-returns-2 Inv-loop μ-loop
-returns-2 c = let l = c .before in
-    (search needs, last-digit (l .before .args .digits .now) (l .loop .i) (search needs) (search needs) (l .loop .inv .1))
+returns-2 c = let l = c .before in (
+  search needs,
+  last-digit (l .before .args .digits .now) (l .loop .i) (search needs) (search needs)
+      (l .loop .inv .1),
+)
 
 pub zeros-spec : {M : Type 1} → statement M
 zeros-spec =

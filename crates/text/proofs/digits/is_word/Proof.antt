@@ -27,7 +27,8 @@ returns : tie.Need-returns Inv-loop μ-loop
 returns c =
     let l = c .before .before .before .before in
     let a = l .before .before .args in
-    no-word (a .base) (a .word .now) (l .loop .i) (l .loop .inv .1) (search needs) (rw (c .before .value .ensures) at (c .if1 .taken))
+    no-word (a .base) (a .word .now) (l .loop .i) (l .loop .inv .1) (search needs)
+    (rw (c .before .value .ensures) at (c .if1 .taken))
 
 add-i : tie.Need-add-i Inv-loop μ-loop
 add-i c = search needs
@@ -38,8 +39,11 @@ loop-less c = search needs
 loop-again : tie.Need-loop-again Inv-loop μ-loop
 loop-again c =
     let l = c .before .before .before .before in
-    let a = l .before .before .args in
-    (search needs, sym (digit-on (a .base) (a .word .now) (l .loop .i) (search needs) (rw (c .before .value .ensures) at (c .if1 .left))) ∙ l .loop .inv .1)
+    let a = l .before .before .args in (
+      search needs,
+      sym (digit-on (a .base) (a .word .now) (l .loop .i) (search needs)
+          (rw (c .before .value .ensures) at (c .if1 .left))) ∙ l .loop .inv .1,
+    )
 
 returns-2 : tie.Need-returns-2 Inv-loop μ-loop
 returns-2 c =

@@ -45,15 +45,18 @@ mul-room : tie.Need-mul-room Inv-loop μ-loop
 mul-room c =
     let l = c .before .before .before .before .before in
     let a = l .before .before .before .args in
-    let high = digit-below 16 (a .word .now) (l .loop .i * 2) _ (l .before .before .before .pre .0) (search needs) (c .before .before .value .ensures) in
+    let high = digit-below 16 (a .word .now) (l .loop .i * 2) _ (l .before .before .before .pre .0) (search needs)
+    (c .before .before .value .ensures) in
     omega arith
 
 add-room : tie.Need-add-room Inv-loop μ-loop
 add-room c =
     let l = c .before .before .before .before .before in
     let a = l .before .before .before .args in
-    let high = digit-below 16 (a .word .now) (l .loop .i * 2) _ (l .before .before .before .pre .0) (search needs) (c .before .before .value .ensures) in
-    let low = digit-below 16 (a .word .now) (l .loop .i * 2 + 1) _ (l .before .before .before .pre .0) (search needs) (c .value2 .ensures) in
+    let high = digit-below 16 (a .word .now) (l .loop .i * 2) _ (l .before .before .before .pre .0) (search needs)
+    (c .before .before .value .ensures) in
+    let low = digit-below 16 (a .word .now) (l .loop .i * 2 + 1) _ (l .before .before .before .pre .0) (search needs)
+    (c .value2 .ensures) in
     omega arith
 
 slice-write-room : tie.Need-slice-write-room Inv-loop μ-loop
@@ -71,7 +74,8 @@ loop-again c =
     let a = l .before .before .before .args in (
       search needs,
       simp length-set (search needs),
-      byte-next (a .word .now) (a .room .now) (l .loop .room) (l .loop .i) _ _ (search needs) (search needs) (l .loop .inv .2)
+      byte-next (a .word .now) (a .room .now) (l .loop .room) (l .loop .i) _ _ (search needs) (search needs)
+          (l .loop .inv .2)
           (c .before .before .value .ensures) (c .value2 .ensures),
     )
 
@@ -82,7 +86,8 @@ returns : tie.Need-returns Inv-loop μ-loop
 returns c =
     let l = c .before in
     let a = l .before .before .before .args in
-    l .loop .inv .2 ∙ ended (bytesOf (a .word .now)) (a .room .now) (l .loop .i) (omega (arith, bytes-long (a .word .now)))
+    l .loop .inv .2 ∙ ended (bytesOf (a .word .now)) (a .room .now) (l .loop .i)
+    (omega (arith, bytes-long (a .word .now)))
 
 pub read-pairs-spec : {M : Type 1} → statement M
 read-pairs-spec =

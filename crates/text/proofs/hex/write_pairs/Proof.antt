@@ -1,4 +1,5 @@
--- `hex::write_pairs` meets its contract. The invariant: the digits of the first i bytes stand over the room's characters.
+-- `hex::write_pairs` meets its contract. The invariant: the digits of the first i bytes stand over the room's
+-- characters.
 use mathlib.Core.Path.{_≡_, refl, _∙_}
 use Prim.Native.Nat.{_≤_, _*_, _-_}
 use native.Mathlib.Omega.{arith}
@@ -11,7 +12,8 @@ use Rattle.text.proofs.hex.write_pairs.Statement.{statement}
 use Rattle.text.proofs.hex.write_pairs.Tie as tie
 
 abbrev Inv-loop : tie.InvT-loop
-Inv-loop bytes room₀ i₀ room i = (i ≤ length bytes) × (length room ≡ length room₀) × (room ≡ begun (pairs bytes) room₀ (i * 2))
+Inv-loop bytes room₀ i₀ room i = (i ≤ length bytes) × (length room ≡ length room₀)
+    × (room ≡ begun (pairs bytes) room₀ (i * 2))
 
 abbrev μ-loop : tie.MeasureT-loop
 μ-loop bytes room₀ i₀ room i = length bytes - i
@@ -58,7 +60,8 @@ loop-again c =
     let a = l .before .before .before .args in (
       search needs,
       simp length-set (search needs),
-      pair-next (a .bytes .now) (a .room .now) (l .loop .room) (l .loop .i) (c .pair .result) (search needs) (search needs) (l .loop .inv .2) (c .pair .ensures),
+      pair-next (a .bytes .now) (a .room .now) (l .loop .room) (l .loop .i) (c .pair .result) (search needs)
+          (search needs) (l .loop .inv .2) (c .pair .ensures),
     )
 
 same-length : tie.Need-same-length Inv-loop μ-loop
@@ -68,7 +71,8 @@ returns : tie.Need-returns Inv-loop μ-loop
 returns c =
     let l = c .before in
     let a = l .before .before .before .args in
-    l .loop .inv .2 ∙ ended (pairs (a .bytes .now)) (a .room .now) (l .loop .i * 2) (omega (arith, pairs-long (a .bytes .now)))
+    l .loop .inv .2 ∙ ended (pairs (a .bytes .now)) (a .room .now) (l .loop .i * 2)
+    (omega (arith, pairs-long (a .bytes .now)))
 
 pub write-pairs-spec : {M : Type 1} → statement M
 write-pairs-spec =
