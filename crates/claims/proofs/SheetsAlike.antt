@@ -7,15 +7,13 @@ use Prim.Native.Nat.{ℕ, _+_}
 use lib.Dec.{eqb, leb}
 use lib.ListN.{length, take, drop}
 use borrow.Author.Tests.{eqb-true}
-use Rattle.ground.specs.Bytes.{byteAt, wordAt, flag}
+use Rattle.ground.specs.Bytes.{byteAt, flag}
 use Rattle.ground.specs.Choice.{both, implies}
-use Rattle.sheet.specs.declared.Fault.the-variants.{Value}
 use Rattle.sheet.specs.declared.Key.{Key}
 use Rattle.sheet.specs.declared.Kind.{Kind}
 use Rattle.sheet.specs.declared.Kind.the-variants.{FeatureRecord, SizeRecord, KeyRecord, ProfileRecord, LockRecord}
 use Rattle.sheet.specs.declared.Kind.the-variants.{EndRecord, NoRecord}
 use Rattle.sheet.specs.declared.Kept.{Kept}
-use Rattle.sheet.specs.declared.Judged.{Judged}
 use Rattle.sheet.specs.Kinds.{kindOf, bodyLength}
 use Rattle.sheet.specs.Records.{allZero, keyRule, keyOf}
 use Rattle.sheet.specs.Judgement.{openedOf, takenIf, withKey, recordOf, onlyIf, judgedOf}

@@ -1,7 +1,7 @@
 -- What the code of IAM2, MAM2 and IAM3 gives, from its parts.
-use mathlib.Core.Path.{_≡_, refl, sym, ap, _∙_, subst}
+use mathlib.Core.Path.{_≡_, sym, ap, _∙_, subst}
 use mathlib.Core.Bool.{Bool, true, false}
-use mathlib.Core.List.{List, [], _∷_, _++_}
+use mathlib.Core.List.{List, [], _∷_}
 use Prim.Native.Nat.{ℕ, _+_, _≤_}
 use native.Mathlib.Omega.{arith}
 use lib.ListN.{length}
@@ -36,11 +36,11 @@ use Rattle.offer.proofs.Lines.{then-fine, then-wrong}
 use Rattle.entry.specs.declared.Reacted.{Reacted}
 use Rattle.entry.specs.declared.Session.{Session}
 use Rattle.entry.specs.Sessions.{cleared, entered}
-use Rattle.entry.specs.Opened.{iamProof, mamProof, purposeIn, sentBlock, iam3Proof}
+use Rattle.entry.specs.Opened.{iamProof, mamProof, purposeIn, iam3Proof}
 use Rattle.entry.specs.Judged.{iam2Checks, mam2Checks, iam3Checks, closingChecks, iam3FieldChecks}
 use Rattle.entry.specs.Given.{LetsIn, Writes, iam2Verdict, iam2Purpose, iam3Verdict, iam3Purpose, iam3Stored}
 use Rattle.entry.specs.Given.{mam2Verdict, mam2Purpose}
-use Rattle.entry.specs.Decided.{ProofDecides, storedWords}
+use Rattle.entry.specs.Decided.{ProofDecides}
 use Rattle.entry.proofs.Passed.{iam3-length}
 
 -- What `refused` and `let_in` of the code give.

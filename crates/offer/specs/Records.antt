@@ -1,7 +1,7 @@
 -- What a tag's setup offers: clause 11 and Table 27, 9.2, and the scope paper's feature record.
 use Prim.Native.Nat.{ℕ}
 use mathlib.Core.Bool.{Bool, true, false}
-use mathlib.Core.List.{List, [], _∷_}
+use mathlib.Core.List.{List}
 use lib.Dec.{eqb}
 use lib.ListN.{getD}
 use Rattle.ground.specs.Choice.{pick, both, implies}

@@ -1,5 +1,5 @@
 -- What a refusal, a reply and a reader that is let in leave behind.
-use mathlib.Core.Path.{_≡_, refl, sym, ap, _∙_, subst}
+use mathlib.Core.Path.{_≡_, refl, sym, ap, _∙_}
 use mathlib.Core.List.{List}
 use Prim.Native.Nat.{ℕ, _≤_}
 use native.Mathlib.Omega.{arith}
@@ -18,7 +18,7 @@ use Rattle.entry.specs.declared.Session.{Session}
 use Rattle.entry.specs.Sessions.{cleared}
 use Rattle.entry.specs.Given.{LetsIn, Writes}
 use Rattle.entry.proofs.Giving.{Turned}
-use Rattle.tag.specs.Answers.{Answer, Call, refused, replied, letIn, ifFine}
+use Rattle.tag.specs.Answers.{Call, refused, replied, letIn, ifFine}
 use Rattle.tag.specs.Reactions.{Reacts, ReactsIn}
 
 -- what is sent over n zeros, where both are n bytes: it is as long as the outcome says, and no longer than n

@@ -1,10 +1,10 @@
 -- The replies are bytes, where the keys, the draws, the challenge and the words are.
-use mathlib.Core.Path.{_≡_, sym, subst}
+use mathlib.Core.Path.{_≡_}
 use mathlib.Core.Bool.{Bool, true, false}
-use mathlib.Core.List.{List, [], _∷_, _++_}
-use Prim.Native.Nat.{ℕ, zero, suc, _+_, _-_, _≤_, _<_}
+use mathlib.Core.List.{List, [], _++_}
+use Prim.Native.Nat.{ℕ, zero, suc, _+_, _-_, _≤_}
 use native.Mathlib.Omega.{arith}
-use lib.ListN.{length, take, drop, replicate, length-append}
+use lib.ListN.{length, take, replicate}
 use lib.Seq.{length-take-le}
 use Rattle.ground.specs.Choice.{pick}
 use Rattle.field.proofs.Block.{Bytes, Block}
@@ -27,7 +27,7 @@ use Rattle.frames.proofs.Range.{custom-range, size-bit-lt}
 use Rattle.payload.proofs.Bytes.{joined-bytes}
 use Rattle.payload.specs.Data.{filled, carriedData}
 use Rattle.payload.specs.Protected.{encrypts, withMac}
-use Rattle.offer.proofs.Bytes.{Ten, none-bytes, zeros-bytes, pick-bytes, two-bytes, block-block}
+use Rattle.offer.proofs.Bytes.{Ten, none-bytes, zeros-bytes, pick-bytes, block-block}
 use Rattle.tam.specs.Replies.{tamBlock, tam1Reply, tam2Body, tam2Reply}
 
 -- ---- constants, header and data
