@@ -3,6 +3,7 @@ use mathlib.Core.Path.{_≡_, refl}
 use lib.ListN.{drop}
 use denote.Ref.{now}
 use Rattle.ground.specs.OneAnswer.{OneAnswer, one}
+use Rattle.sheet.specs.Limits.{keyLimit}
 use Rattle.sheet.specs.Judgement.{judgedOf, JudgedAs}
 use Rattle.sheet.specs.Sheet.{readFrom, furtherOn, ReadAs}
 use Rattle.sheet.specs.declared.Judged.{Judged}
@@ -22,7 +23,7 @@ pub opened-one : OneWalked opened.ended (λ M. opened.clauses {M = M})
 opened-one = ((λ M 𝓤 H A mem run κs a g r e. refl), (λ κs a x y s t p q j. record { sheet = one (p .0) (q .0) j; at = one (p .1) (q .1) j }))
 
 pub judge-one : OneWalked judge.ended (λ M. judge.clauses {M = M})
-    (λ κs a r e. JudgedAs r (judgedOf (drop (a .0 .at) (now (a .0 .sheet))) (a .1 .0)))
+    (λ κs a r e. JudgedAs r (judgedOf keyLimit (drop (a .0 .at) (now (a .0 .sheet))) (a .1 .0)))
     Judged (λ κs r e. r)
 judge-one = ((λ M 𝓤 H A mem run κs a g r e. refl), (λ κs a x y s t p q. one (p .0) (q .0)))
 
@@ -32,7 +33,7 @@ pub moved-one : OneWalked moved.ended (λ M. moved.clauses {M = M})
 moved-one = ((λ M 𝓤 H A mem run κs a g r e. refl), (λ κs a x y s t p q j. record { sheet = one (p .0) (q .0) j; at = one (p .1) (q .1) j }))
 
 pub rest-one : OneWalked rest.ended (λ M. rest.clauses {M = M})
-    (λ κs a r e. ReadAs r (readFrom (now (a .0 .sheet)) (a .0 .at) (a .1 .0)))
+    (λ κs a r e. ReadAs r (readFrom keyLimit (now (a .0 .sheet)) (a .0 .at) (a .1 .0)))
     Reading (λ κs r e. r)
 rest-one = ((λ M 𝓤 H A mem run κs a g r e. refl), (λ κs a x y s t p q. one (p .0) (q .0)))
 

@@ -1,10 +1,12 @@
-// A cursor that keeps the sheet and its place. What stands at a place is said once, of slice and number, in sheet::places.
+// A cursor that keeps the sheet and its place. What stands at a place is said once, of slice and number, in
+// sheet::places.
 use sheet::Judged;
 use sheet::Kept;
 use sheet::Reading;
 use sheet::places;
 ghost use mathlib.Core.Path.{_≡_};
 ghost use lib.ListN.{drop};
+ghost use Rattle.sheet.specs.Limits.{keyLimit};
 ghost use Rattle.sheet.specs.Judgement.{judgedOf, JudgedAs};
 ghost use Rattle.sheet.specs.Sheet.{readFrom, readOf, furtherOn, ReadAs};
 
@@ -27,7 +29,7 @@ pub fn open<'a>(sheet: &'a [u8]) -> Cursor<'a>
 ///
 /// Ruled out: a judge that always looks at the sheet's first record; one that judges against nothing kept.
 pub fn judge<'a>(cursor: Cursor<'a>, kept: Kept) -> Judged
-    ensures { λ r. ⌜ JudgedAs r (judgedOf (drop (cursor .entry .at) (now (cursor .entry .sheet))) kept) ⌝ }
+    ensures { λ r. ⌜ JudgedAs r (judgedOf keyLimit (drop (cursor .entry .at) (now (cursor .entry .sheet))) kept) ⌝ }
 {
     places::judge_at(cursor.sheet, cursor.at, kept)
 }
@@ -36,7 +38,8 @@ pub fn judge<'a>(cursor: Cursor<'a>, kept: Kept) -> Judged
 ///
 /// Ruled out: a cursor that stays; a cursor that leaves its sheet.
 pub fn moved<'a>(cursor: Cursor<'a>, n: usize) -> Cursor<'a>
-    ensures { λ r. ⌜ (r .sheet ≡ cursor .entry .sheet) × (r .at ≡ furtherOn (now (cursor .entry .sheet)) (cursor .entry .at) n) ⌝ }
+    ensures { λ r. ⌜ (r .sheet ≡ cursor .entry .sheet)
+        × (r .at ≡ furtherOn (now (cursor .entry .sheet)) (cursor .entry .at) n) ⌝ }
 {
     let at = places::further(cursor.sheet, cursor.at, n);
     Cursor {
@@ -49,7 +52,7 @@ pub fn moved<'a>(cursor: Cursor<'a>, n: usize) -> Cursor<'a>
 ///
 /// Ruled out: a reader that starts again at the sheet's first byte; places that are counted from the cursor.
 pub fn rest<'a>(cursor: Cursor<'a>, kept: Kept) -> Reading
-    ensures { λ r. ⌜ ReadAs r (readFrom (now (cursor .entry .sheet)) (cursor .entry .at) kept) ⌝ }
+    ensures { λ r. ⌜ ReadAs r (readFrom keyLimit (now (cursor .entry .sheet)) (cursor .entry .at) kept) ⌝ }
 {
     places::read_from(cursor.sheet, cursor.at, kept)
 }
@@ -58,7 +61,7 @@ pub fn rest<'a>(cursor: Cursor<'a>, kept: Kept) -> Reading
 ///
 /// Ruled out: a reader that takes every sheet; one that keeps part of a sheet it refuses.
 pub fn read(sheet: &[u8]) -> Reading
-    ensures { λ r. ⌜ ReadAs r (readOf (now (sheet .entry))) ⌝ }
+    ensures { λ r. ⌜ ReadAs r (readOf keyLimit (now (sheet .entry))) ⌝ }
 {
     rest(open(sheet), sheet::start())
 }

@@ -8,7 +8,7 @@ use payload::same;
 use reader_commands::Keyring;
 use tag_commands::Place;
 
-// What is kept from one command to the next, of each half. The bytes of both areas stand beside it.
+// What is kept from one command to the next, of each half. The bytes of the key table and of both areas stand beside it.
 pub struct Desk {
     place: Place,
     keyring: Keyring,
@@ -96,12 +96,18 @@ fn named_else(name: &[u8]) -> Command {
 }
 
 // The answer to a line that has a word, and the desk after it.
-pub fn answered(d: Desk, line: &[u8], identity: &mut [u8], user: &mut [u8]) -> Desk {
+pub fn answered(
+    d: Desk,
+    line: &[u8],
+    keys: &mut [u8],
+    identity: &mut [u8],
+    user: &mut [u8],
+) -> Desk {
     let place = d.place;
     let keyring = d.keyring;
     match named(word(line, 0)) {
         Command::Sheet => {
-            return with_place(d, tag_commands::sheet(place, line, identity, user));
+            return with_place(d, tag_commands::sheet(place, line, keys, identity, user));
         }
         Command::Area => {
             return with_place(d, tag_commands::area(place, line, identity, user));
@@ -114,7 +120,7 @@ pub fn answered(d: Desk, line: &[u8], identity: &mut [u8], user: &mut [u8]) -> D
             return with_place(d, tag_commands::power(place, line));
         }
         Command::Message => {
-            return with_place(d, tag_commands::message(place, line, identity, user));
+            return with_place(d, tag_commands::message(place, line, keys, identity, user));
         }
         Command::Keys => {
             return with_keyring(d, reader_commands::keys(keyring, line));

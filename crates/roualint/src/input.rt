@@ -18,15 +18,17 @@ const PARTS: u64 = 1000000000000000000;
 
 pub fn lines() {
     let mut line = io::large_buffer();
+    let mut keys = tag_commands::key_room();
     let mut identity = io::buffer();
     let mut user = io::buffer();
-    let h = whole(&mut line, &mut identity, &mut user);
-    last(h, &line, &mut identity, &mut user);
+    let h = whole(&mut line, &mut keys, &mut identity, &mut user);
+    last(h, &line, &mut keys, &mut identity, &mut user);
 }
 
 // A script, each line of it shown before its answer.
 pub fn script(text: &[u8]) {
     let mut line = io::large_buffer();
+    let mut keys = tag_commands::key_room();
     let mut identity = io::buffer();
     let mut user = io::buffer();
     let begun = Heard {
@@ -34,11 +36,11 @@ pub fn script(text: &[u8]) {
         line: fresh(true),
         over: false,
     };
-    fed(begun, text, &mut line, &mut identity, &mut user);
+    fed(begun, text, &mut line, &mut keys, &mut identity, &mut user);
 }
 
 // The whole input, and each line of it that has an end.
-fn whole(line: &mut [u8], identity: &mut [u8], user: &mut [u8]) -> Heard {
+fn whole(line: &mut [u8], keys: &mut [u8], identity: &mut [u8], user: &mut [u8]) -> Heard {
     let mut h = Heard {
         desk: commands::empty(),
         line: fresh(false),
@@ -46,7 +48,7 @@ fn whole(line: &mut [u8], identity: &mut [u8], user: &mut [u8]) -> Heard {
     };
     let mut left = PARTS;
     while 0 < left {
-        h = next(h, line, identity, user);
+        h = next(h, line, keys, identity, user);
         if h.over {
             break;
         }
@@ -63,7 +65,7 @@ struct Heard {
 }
 
 // The next part of the input.
-fn next(h: Heard, line: &mut [u8], identity: &mut [u8], user: &mut [u8]) -> Heard {
+fn next(h: Heard, line: &mut [u8], keys: &mut [u8], identity: &mut [u8], user: &mut [u8]) -> Heard {
     let mut part = io::buffer();
     let got = libc::read(STDIN_FILENO, &mut part);
     if got < 0 {
@@ -74,7 +76,7 @@ fn next(h: Heard, line: &mut [u8], identity: &mut [u8], user: &mut [u8]) -> Hear
     if n == 0 {
         return at_end(h);
     }
-    fed(h, &part[..n], line, identity, user)
+    fed(h, &part[..n], line, keys, identity, user)
 }
 
 fn at_end(h: Heard) -> Heard {
@@ -95,7 +97,14 @@ fn fresh(shown: bool) -> Line {
     }
 }
 
-fn fed(h: Heard, part: &[u8], line: &mut [u8], identity: &mut [u8], user: &mut [u8]) -> Heard {
+fn fed(
+    h: Heard,
+    part: &[u8],
+    line: &mut [u8],
+    keys: &mut [u8],
+    identity: &mut [u8],
+    user: &mut [u8],
+) -> Heard {
     let mut d = h.desk;
     let mut l = h.line;
     let mut i: usize = 0;
@@ -106,7 +115,7 @@ fn fed(h: Heard, part: &[u8], line: &mut [u8], identity: &mut [u8], user: &mut [
             l = longer(l, c, line);
             continue;
         }
-        d = ended(d, l, line, identity, user);
+        d = ended(d, l, line, keys, identity, user);
         l = fresh(l.shown);
     }
     Heard {
@@ -134,13 +143,20 @@ fn longer(l: Line, c: u8, line: &mut [u8]) -> Line {
 }
 
 // The last line may have no end.
-fn last(h: Heard, line: &[u8], identity: &mut [u8], user: &mut [u8]) {
+fn last(h: Heard, line: &[u8], keys: &mut [u8], identity: &mut [u8], user: &mut [u8]) {
     let d = h.desk;
     let l = h.line;
-    ended(d, l, line, identity, user);
+    ended(d, l, line, keys, identity, user);
 }
 
-fn ended(d: Desk, l: Line, line: &[u8], identity: &mut [u8], user: &mut [u8]) -> Desk {
+fn ended(
+    d: Desk,
+    l: Line,
+    line: &[u8],
+    keys: &mut [u8],
+    identity: &mut [u8],
+    user: &mut [u8],
+) -> Desk {
     if l.cut {
         print::text(b"error: line over 65536 bytes\n");
         return d;
@@ -149,7 +165,7 @@ fn ended(d: Desk, l: Line, line: &[u8], identity: &mut [u8], user: &mut [u8]) ->
     if l.shown {
         show(&line[..n]);
     }
-    told(d, before_comment(&line[..n]), identity, user)
+    told(d, before_comment(&line[..n]), keys, identity, user)
 }
 
 // A line as one types it, behind a mark where it is a command.
@@ -161,9 +177,9 @@ fn show(line: &[u8]) {
     print::text(b"\n");
 }
 
-fn told(d: Desk, line: &[u8], identity: &mut [u8], user: &mut [u8]) -> Desk {
+fn told(d: Desk, line: &[u8], keys: &mut [u8], identity: &mut [u8], user: &mut [u8]) -> Desk {
     if count(line) == 0 {
         return d;
     }
-    commands::answered(d, line, identity, user)
+    commands::answered(d, line, keys, identity, user)
 }

@@ -1,4 +1,5 @@
-// The soft tag's commands: sheet, area, areas, power, message. The bytes of both areas stand beside what is kept here.
+// The soft tag's commands: sheet, area, areas, power, message. The bytes of the key table and of both areas stand beside
+// what is kept here.
 use console::answer;
 use console::answer::within;
 use console::fields;
@@ -9,36 +10,48 @@ use lines::numbers::low_word;
 use lines::numbers::times;
 use lines::print;
 use offer::Outcome;
-use sheet::Setup;
+use sheet::Terms;
 use sheet::Verdict;
 use tag::Tag;
 
-// The tag's place on the bench from one command to the next: a tag, where a sheet was accepted, and the bytes lent of each area.
+// The bytes of the longest key table.
+const KEY_TABLE: usize = sheet::KEYS * sheet::KEY_RECORD;
+
+// Room for a key table.
+pub fn key_room() -> [u8; KEY_TABLE] {
+    [0; KEY_TABLE]
+}
+
+// The tag's place on the bench from one command to the next: a tag, where a sheet was accepted, and the bytes lent of its
+// key table and of each area.
 pub struct Place {
     set: bool,
     tag: Tag,
+    keys: usize,
     identity: usize,
     user: usize,
 }
 
-// Before the first command. The setup of an empty sheet, which is refused, is empty.
+// Before the first command. The terms of an empty sheet, which is refused, are empty.
 pub fn empty() -> Place {
     let reading = sheet::read(b"");
-    let setup = reading.setup;
-    let tag = tag::power_up(setup);
+    let terms = reading.terms;
+    let tag = tag::power_up(terms);
     Place {
         set: false,
         tag,
+        keys: 0,
         identity: 0,
         user: 0,
     }
 }
 
-// With a tag: a new one, or the same after a message or at its power-up.
+// With the tag after a message, or at its power-up.
 fn with_tag(p: Place, tag: Tag) -> Place {
     Place {
         set: true,
         tag,
+        keys: p.keys,
         identity: p.identity,
         user: p.user,
     }
@@ -49,12 +62,19 @@ fn with_areas(p: Place, identity: usize, user: usize) -> Place {
     Place {
         set: p.set,
         tag,
+        keys: p.keys,
         identity,
         user,
     }
 }
 
-pub fn sheet(p: Place, line: &[u8], identity: &mut [u8], user: &mut [u8]) -> Place {
+pub fn sheet(
+    p: Place,
+    line: &[u8],
+    keys: &mut [u8],
+    identity: &mut [u8],
+    user: &mut [u8],
+) -> Place {
     if !fields::read(line, 1, b"h", 0) {
         return p;
     }
@@ -62,7 +82,7 @@ pub fn sheet(p: Place, line: &[u8], identity: &mut [u8], user: &mut [u8]) -> Pla
     let n = within(fields::bytes(line, 1, &mut room), &room);
     let reading = bench::cursor::read(&room[..n]);
     let verdict = reading.verdict;
-    let setup = reading.setup;
+    let terms = reading.terms;
     match verdict {
         Verdict::Refused(fault, at) => {
             print::text(b"refused ");
@@ -76,16 +96,28 @@ pub fn sheet(p: Place, line: &[u8], identity: &mut [u8], user: &mut [u8]) -> Pla
             answer::ok();
             clear(identity);
             clear(user);
-            return set_up(p, setup);
+            return set_up(terms, taken(&room[..n], reading.keys, keys));
         }
     }
 }
 
+// The sheet's key table stands in the room's first bytes; how many they are.
+fn taken(sheet: &[u8], keys: usize, room: &mut [u8]) -> usize {
+    let table = sheet::key_table(sheet, keys);
+    payload::put(room, 0, table);
+    table.len()
+}
+
 // The tag at its power-up, with areas of the sheet's sizes.
-fn set_up(p: Place, setup: Setup) -> Place {
-    let sizes = setup.sizes;
-    let sized = with_areas(p, bytes_of(sizes.identity), bytes_of(sizes.user));
-    with_tag(sized, tag::power_up(setup))
+fn set_up(terms: Terms, keys: usize) -> Place {
+    let sizes = terms.sizes;
+    Place {
+        set: true,
+        tag: tag::power_up(terms),
+        keys,
+        identity: bytes_of(sizes.identity),
+        user: bytes_of(sizes.user),
+    }
 }
 
 // The bytes of so many words.
@@ -145,11 +177,11 @@ pub fn power(p: Place, line: &[u8]) -> Place {
     }
     answer::ok();
     let tag = p.tag;
-    let setup = tag.setup;
-    with_tag(p, tag::power_up(setup))
+    let terms = tag.terms;
+    with_tag(p, tag::power_up(terms))
 }
 
-pub fn message(p: Place, line: &[u8], identity: &mut [u8], user: &mut [u8]) -> Place {
+pub fn message(p: Place, line: &[u8], keys: &[u8], identity: &mut [u8], user: &mut [u8]) -> Place {
     if !fields::read(line, 1, b"hdr", 2) {
         return p;
     }
@@ -162,11 +194,11 @@ pub fn message(p: Place, line: &[u8], identity: &mut [u8], user: &mut [u8]) -> P
             print::text(b"error: no random bytes\n");
             return p;
         }
-        return sent(p, line, &draws, identity, user);
+        return sent(p, line, &draws, keys, identity, user);
     }
     let mut room = io::buffer();
     let n = within(fields::bytes(line, 2, &mut room), &room);
-    sent(p, line, &room[..n], identity, user)
+    sent(p, line, &room[..n], keys, identity, user)
 }
 
 // Are the draws those of the system's random source?
@@ -177,12 +209,27 @@ fn random(line: &[u8]) -> bool {
     payload::same(word(line, 2), b"*")
 }
 
-fn sent(p: Place, line: &[u8], draws: &[u8], identity: &mut [u8], user: &mut [u8]) -> Place {
+fn sent(
+    p: Place,
+    line: &[u8],
+    draws: &[u8],
+    keys: &[u8],
+    identity: &mut [u8],
+    user: &mut [u8],
+) -> Place {
     let mut message = io::buffer();
     let m = within(fields::bytes(line, 1, &mut message), &message);
     let mut room = io::buffer();
     let r = within(room_of(line), &room);
-    stepped(p, &message[..m], draws, &mut room[..r], identity, user)
+    stepped(
+        p,
+        keys,
+        &message[..m],
+        draws,
+        &mut room[..r],
+        identity,
+        user,
+    )
 }
 
 fn room_of(line: &[u8]) -> usize {
@@ -195,6 +242,7 @@ fn room_of(line: &[u8]) -> usize {
 // One message, played by the tag where the bench keeps it.
 fn stepped(
     p: Place,
+    keys: &[u8],
     message: &[u8],
     draws: &[u8],
     room: &mut [u8],
@@ -204,7 +252,16 @@ fn stepped(
     let t = p.tag;
     let i = within(p.identity, identity);
     let u = within(p.user, user);
-    let s = bench::kept(t, message, draws, room, &mut identity[..i], &mut user[..u]);
+    let k = within(p.keys, keys);
+    let s = bench::kept(
+        t,
+        &keys[..k],
+        message,
+        draws,
+        room,
+        &mut identity[..i],
+        &mut user[..u],
+    );
     let outcome = s.outcome;
     let next = s.tag;
     let session = next.session;

@@ -1,4 +1,4 @@
--- `bench::power_up` meets its contract: a walk of its MIR, by hand. The tag's borrow is opened and the tag copied out, `tag::power_up` is called on the copy's setup, and the tag that it
+-- `bench::power_up` meets its contract: a walk of its MIR, by hand. The tag's borrow is opened and the tag copied out, `tag::power_up` is called on the copy's terms, and the tag that it
 -- returns is stored; the borrow is closed at it. All that the proof knows of `tag::power_up` is that it meets its contract.
 use mathlib.Core.Path.{_≡_, refl}
 use Prim.Native.Nat.{ℕ}
@@ -35,10 +35,10 @@ use denote.Triple.Clauses.{ensured, lasts}
 use denote.Triple.Table.{entered, cited}
 use denote.Triple.Walked.{says, Stays, stay-ref, walkOf, AllGo, goes-ref, Walks, ends-at, walked, walk-meets}
 use denote.Signature.{plain}
-use Rattle.sheet.specs.declared.Setup.{Setup}
-use Rattle.sheet.proofs.Setup as U
-use Rattle.sheet.proofs.Setup.Laws as U′
-use Rattle.tag.specs.States.{poweredUp}
+use Rattle.sheet.specs.declared.Terms.{Terms}
+use Rattle.sheet.proofs.Terms as U
+use Rattle.sheet.proofs.Terms.Laws as U′
+use Rattle.tag.specs.States.{awake}
 use Rattle.tag.specs.declared.Tag.{Tag}
 use Rattle.tag.proofs.Tag as T
 use Rattle.tag.proofs.Tag.Laws as T′
@@ -60,8 +60,8 @@ stayed = (stay-ref (0 ∷ []) tt (plain (λ _. R)), tt)
 abbrev Fresh : {M : Type 1} (𝓤 : URA M) (H : Heap 𝓤) (A : Atoms 𝓤) (mem : Memory → SProp 𝓤) (run : Routine → Fun 𝓤) → Contract 𝓤
 Fresh 𝓤 H A mem run = tripleOf 𝓤 H A fresh.signature (fresh.spec 𝓤 H A mem run)
 
--- a setup's machine value
-abbrev machU : Setup → Val
+-- the terms' machine value
+abbrev machU : Terms → Val
 machU s = LL.tuple-val U.the-type U′.the-laws (U.the-type .to s)
 
 module _ {M : Type 1} (𝓤 : URA M) (H : Heap 𝓤) (A : Atoms 𝓤) (W : Given 𝓤 H A) (at-mem : Memory → SProp 𝓤) (run : Routine → Fun 𝓤) (κ : Lft) (q : Share) (b o : ℕ) (γ : GName) (h : Tag) where
@@ -76,9 +76,9 @@ module _ {M : Type 1} (𝓤 : URA M) (H : Heap 𝓤) (A : Atoms 𝓤) (W : Given
 
   -- what `tag::power_up`'s triple binds outside
   abbrev to : Fresh 𝓤 H A at-mem run .Ghost
-  to = ((tt, tt, tt, (h .setup, tt), (machU (h .setup) ∷ [], tt)), tt)
+  to = ((tt, tt, tt, (h .terms, tt), (machU (h .terms) ∷ [], tt)), tt)
 
-  exits : (t : Tag) → t ≡ poweredUp (h .setup) → ent 𝓤 (⋆ 𝓤 H A (‵ (fobs γ (R .coded .code t)) ∷ ‵ (fbor κ (Body (mem R) b o γ)) ∷ ‵ (flft κ q) ∷ [])) (Post vunit)
+  exits : (t : Tag) → t ≡ awake (h .terms) → ent 𝓤 (⋆ 𝓤 H A (‵ (fobs γ (R .coded .code t)) ∷ ‵ (fbor κ (Body (mem R) b o γ)) ∷ ‵ (flft κ q) ∷ [])) (Post vunit)
   exits t e =
       qed W (‵ (fobs γ (R .coded .code t)) ∷ ‵ (fbor κ (Body (mem R) b o γ)) ∷ ‵ (flft κ q) ∷ []) ∵
       suffices ! _ (ends-at 𝓤 H A power-up.ended stayed (power-up.clauses 𝓤 H A at-mem run) W (((κ, tt), (q, tt), tt, a, vals), tt) vunit tt (t, tt) (tt, tt)) $ says ! e $
@@ -97,13 +97,13 @@ module _ {M : Type 1} (𝓤 : URA M) (H : Heap 𝓤) (A : Atoms 𝓤) (W : Given
         -- [the tag's cell; what a Tag owns; the open borrow; obs; auth; true; true; _3; …; _1; …; room for _0; …]
         assigns ! (of-opd ! (load ! (from ! (hop ! (look ! 11 refl) (stop !))) (look-raw ! 0 refl))) (from ! (stop !)) (init ! 9 refl (LL.lawful T.the-type T′.the-laws 𝓤 H A W .typed h _ g .0)) $
         -- the call
-        owned ! U.the-row (Is U.the-row) (LL.makes U.the-type U′.the-plain 𝓤 H A) (h .setup) (machU (h .setup) ∷ []) (LL.owed T.the-type T′.the-laws h _ g .0) $ move ! (0 ∷ 7 ∷ []) $ fjoin ! $ move ! (6 ∷ 0 ∷ []) $
-        use2 W (raw (Fresh 𝓤 H A at-mem run .pre to)) (qed W (‵ ftrue ∷ ‵ (owns (U.the-row ∷ []) (h .setup, tt) (machU (h .setup) ∷ [], tt)) ∷ []) ∵ join ! $ frame ! $ done !) $
+        owned ! U.the-row (Is U.the-row) (LL.makes U.the-type U′.the-plain 𝓤 H A) (h .terms) (machU (h .terms) ∷ []) (LL.owed T.the-type T′.the-laws h _ g .0) $ move ! (0 ∷ 7 ∷ []) $ fjoin ! $ move ! (6 ∷ 0 ∷ []) $
+        use2 W (raw (Fresh 𝓤 H A at-mem run .pre to)) (qed W (‵ ftrue ∷ ‵ (owns (U.the-row ∷ []) (h .terms, tt) (machU (h .terms) ∷ [], tt)) ∷ []) ∵ join ! $ frame ! $ done !) $
         -- [what `tag::power_up` asks; the tag's cell; what a Tag owns; the open borrow; obs; auth; _3; …]
         calls-at ! fm (Fresh 𝓤 H A at-mem run) known to (and-then ! (load ! (from ! (fld ! {τ = U′.mir} {d = 0} refl (stop !))) (look-in ! 8 (sub ! 0 {τ = U′.mir} {d = 0} refl (whole !)))) (no-more !)) (λ w.
-        use1 W (later (some (λ (t : Tag). (‵ ftrue ⊛ ‵ (R .own t (w ∷ []))) ⊛ raw (ensured 𝓤 H A fresh.ended (fresh.clauses 𝓤 H A at-mem run) tt (h .setup, tt) tt t)))) (id⊢ 𝓤 _) $ await ! tt $ pick ! (λ t.
-        split ! $ move ! (1 ∷ []) $ use1 W (some (λ (zs : Unit {0} × Unit {0}). ‵ (lasts fresh.ended tt (h .setup, tt) zs) ⊛ raw (fact 𝓤 (t ≡ poweredUp (h .setup))))) (id⊢ 𝓤 _) $ pick ! (λ zs.
-        split ! $ move ! (1 ∷ []) $ heard ! (t ≡ poweredUp (h .setup)) (λ e. drop ! $ split ! $ drop ! $ peeks ! R (Is R) (shows 𝓤 H A R) t (w ∷ []) (λ is.
+        use1 W (later (some (λ (t : Tag). (‵ ftrue ⊛ ‵ (R .own t (w ∷ []))) ⊛ raw (ensured 𝓤 H A fresh.ended (fresh.clauses 𝓤 H A at-mem run) tt (h .terms, tt) tt t)))) (id⊢ 𝓤 _) $ await ! tt $ pick ! (λ t.
+        split ! $ move ! (1 ∷ []) $ use1 W (some (λ (zs : Unit {0} × Unit {0}). ‵ (lasts fresh.ended tt (h .terms, tt) zs) ⊛ raw (fact 𝓤 (t ≡ awake (h .terms))))) (id⊢ 𝓤 _) $ pick ! (λ zs.
+        split ! $ move ! (1 ∷ []) $ heard ! (t ≡ awake (h .terms)) (λ e. drop ! $ split ! $ drop ! $ peeks ! R (Is R) (shows 𝓤 H A R) t (w ∷ []) (λ is.
         -- [the result; the tag's cell; what a Tag owned; the open borrow; obs; auth; _3; …]
         land ! (from ! (stop !)) (init ! 6 refl (LL.lawful T.the-type T′.the-laws 𝓤 H A W .typed t _ is .0)) $
         assigns ! (of-opd ! (load ! (from ! (stop !)) (look ! 6 refl))) (from ! (hop ! (look ! 10 refl) (stop !))) (store-raw ! 1 {τ = T′.mir} refl (LL.lawful T.the-type T′.the-laws 𝓤 H A W .typed t _ is .0)) $

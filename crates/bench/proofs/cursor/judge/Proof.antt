@@ -40,6 +40,7 @@ use denote.Triple.Table.{entered, cited}
 use denote.Triple.Walked.{says, Stays, stay-none, walkOf, goes-none, Walks, ends-at, walked, walk-meets}
 use denote.Exit.{yes}
 use denote.Triple.Clauses.{ensured, lasts}
+use Rattle.sheet.specs.Limits.{keyLimit}
 use Rattle.sheet.specs.Judgement.{judgedOf, JudgedAs}
 use Rattle.sheet.specs.declared.Kept.{Kept}
 use Rattle.sheet.specs.declared.Judged.{Judged}
@@ -82,7 +83,7 @@ module _ {M : Type 1} (𝓤 : URA M) (H : Heap 𝓤) (A : Atoms 𝓤) (W : Given
   fields = tcons (lone (ShrSlice (named 0) κ u8 .mir)) (tcons (tyInt w64) tnil)
 
   abbrev Found : Judged → Type 0
-  Found r = JudgedAs r (judgedOf (drop (d .at) (now (d .sheet))) k)
+  Found r = JudgedAs r (judgedOf keyLimit (drop (d .at) (now (d .sheet))) k)
 
   abbrev at : Vals judge.signature (κ, tt)
   at = (mach ∷ [], (machK k ∷ [], tt))

@@ -35,6 +35,7 @@ use denote.Triple.Walked.{says, Stays, stay-none-slice, walkOf, goes-none-slice,
 use denote.Exit.{yes}
 use denote.Triple.Clauses.{ensured, lasts}
 use Rattle.sheet.specs.Setups.{nothingKept}
+use Rattle.sheet.specs.Limits.{keyLimit}
 use Rattle.sheet.specs.Sheet.{readFrom, readOf, ReadAs}
 use Rattle.sheet.specs.declared.Kept.{Kept}
 use Rattle.sheet.specs.declared.Reading.{Reading}
@@ -79,9 +80,9 @@ module _ {M : Type 1} (𝓤 : URA M) (H : Heap 𝓤) (A : Atoms 𝓤) (mem : Mem
   Rest = tripleOf 𝓤 H A rest.signature (rest.spec 𝓤 H A mem run)
 
 -- from the sheet's first byte on, with nothing kept: the whole sheet
-whole-sheet : (s : RefT (List ℕ)) (r : Cursor) (k : Kept) (t : Reading) → (r .sheet ≡ s) × (r .at ≡ 0) → k ≡ nothingKept → ReadAs t (readFrom (now (r .sheet)) (r .at) k) → ReadAs t (readOf (now s))
+whole-sheet : (s : RefT (List ℕ)) (r : Cursor) (k : Kept) (t : Reading) → (r .sheet ≡ s) × (r .at ≡ 0) → k ≡ nothingKept → ReadAs t (readFrom keyLimit (now (r .sheet)) (r .at) k) → ReadAs t (readOf keyLimit (now s))
 unfolding readOf
-whole-sheet s r k t e e₂ h = subst (λ (x : Reading). ReadAs t x) (λ i. readFrom (now (e .0 i)) (e .1 i) (e₂ i)) h
+whole-sheet s r k t e e₂ h = subst (λ (x : Reading). ReadAs t x) (λ i. readFrom keyLimit (now (e .0 i)) (e .1 i) (e₂ i)) h
 
 module _ {M : Type 1} (𝓤 : URA M) (H : Heap 𝓤) (A : Atoms 𝓤) (W : Given 𝓤 H A) (mem : Memory → SProp 𝓤) (run : Routine → Fun 𝓤) (κ : Lft) (q : Share) (s : RefT (List ℕ)) where
   -- the machine value of the sheet
@@ -131,12 +132,12 @@ module _ {M : Type 1} (𝓤 : URA M) (H : Heap 𝓤) (A : Atoms 𝓤) (W : Given
       nothing ! $ move ! (1 ∷ 0 ∷ []) $ fjoin ! $ move ! (1 ∷ 0 ∷ []) $ fjoin ! $ move ! (1 ∷ 0 ∷ []) $ join ! $ frame ! $ done !
 
   abbrev Read : Cursor → Kept → Reading → Type 0
-  Read r k t = ReadAs t (readFrom (now (r .sheet)) (r .at) k)
+  Read r k t = ReadAs t (readFrom keyLimit (now (r .sheet)) (r .at) k)
 
   rest-said : (r : Cursor) (k : Kept) (t : Reading) → ent 𝓤 (ensured 𝓤 H A rest.ended (rest.clauses 𝓤 H A mem run) (κ, tt) (r, (k, tt)) tt t) (fact 𝓤 (Read r k t))
   rest-said r k t = exE 𝓤 _ (λ ws. snd∗ 𝓤 (sem 𝓤 H A (lasts rest.ended (κ, tt) (r, (k, tt)) ws)) (fact 𝓤 (Read r k t)))
 
-  exits : (t : Reading) (u : Val) → ReadAs t (readOf (now s)) → ent 𝓤 (⋆ 𝓤 H A (‵ (S.the-row .own t (u ∷ [])) ∷ (‵ (flft κ q) ⊛ ‵ ftrue) ∷ ‵ Own ∷ [])) (Post u)
+  exits : (t : Reading) (u : Val) → ReadAs t (readOf keyLimit (now s)) → ent 𝓤 (⋆ 𝓤 H A (‵ (S.the-row .own t (u ∷ [])) ∷ (‵ (flft κ q) ⊛ ‵ ftrue) ∷ ‵ Own ∷ [])) (Post u)
   exits t u e =
       qed W (‵ (S.the-row .own t (u ∷ [])) ∷ (‵ (flft κ q) ⊛ ‵ ftrue) ∷ ‵ Own ∷ []) ∵
       suffices ! _ (ends-at 𝓤 H A read.ended stayed (read.clauses 𝓤 H A mem run) W (((κ, tt), (q, tt), tt, (s, tt), (v ∷ [], tt)), tt) u t (tt, tt) (tt, tt)) $ says ! e $

@@ -40,6 +40,7 @@ use denote.Triple.Table.{entered, cited}
 use denote.Triple.Walked.{says, Stays, stay-none, walkOf, goes-none, Walks, ends-at, walked, walk-meets}
 use denote.Exit.{yes}
 use denote.Triple.Clauses.{ensured, lasts}
+use Rattle.sheet.specs.Limits.{keyLimit}
 use Rattle.sheet.specs.Sheet.{readFrom, ReadAs}
 use Rattle.sheet.specs.declared.Kept.{Kept}
 use Rattle.sheet.specs.declared.Reading.{Reading}
@@ -82,7 +83,7 @@ module _ {M : Type 1} (𝓤 : URA M) (H : Heap 𝓤) (A : Atoms 𝓤) (W : Given
   fields = tcons (lone (ShrSlice (named 0) κ u8 .mir)) (tcons (tyInt w64) tnil)
 
   abbrev Found : Reading → Type 0
-  Found r = ReadAs r (readFrom (now (d .sheet)) (d .at) k)
+  Found r = ReadAs r (readFrom keyLimit (now (d .sheet)) (d .at) k)
 
   abbrev at : Vals rest.signature (κ, tt)
   at = (mach ∷ [], (machK k ∷ [], tt))

@@ -1,4 +1,4 @@
--- `input::fed` is safe and ends: what is left of the part falls, and the line and both areas keep their lengths.
+-- `input::fed` is safe and ends: what is left of the part falls, and the line, the key table and both areas keep their lengths.
 use mathlib.Core.Path.{_≡_}
 use Prim.Native.Nat.{_≤_, _-_}
 use lib.ListN.{length}
@@ -7,10 +7,10 @@ use Rattle.roualint.proofs.input.fed.Statement.{statement}
 use Rattle.roualint.proofs.input.fed.Tie as tie
 
 abbrev Inv-loop : tie.InvT-loop
-Inv-loop part line₀ identity₀ user₀ b₀ l₀ i₀ line identity user b l i = (i ≤ length part) × (length line ≡ length line₀) × (length identity ≡ length identity₀) × (length user ≡ length user₀)
+Inv-loop part line₀ keys₀ identity₀ user₀ b₀ l₀ i₀ line keys identity user b l i = (i ≤ length part) × (length line ≡ length line₀) × (length keys ≡ length keys₀) × (length identity ≡ length identity₀) × (length user ≡ length user₀)
 
 abbrev μ-loop : tie.MeasureT-loop
-μ-loop part line₀ identity₀ user₀ b₀ l₀ i₀ line identity user b l i = length part - i
+μ-loop part line₀ keys₀ identity₀ user₀ b₀ l₀ i₀ line keys identity user b l i = length part - i
 
 loop-holds : tie.Need-loop-holds Inv-loop μ-loop
 loop-holds c = search needs

@@ -1,4 +1,4 @@
--- `input::whole` is safe and ends: the parts that may still come fall, and the line and both areas keep their lengths.
+-- `input::whole` is safe and ends: the parts that may still come fall, and the line, the key table and both areas keep their lengths.
 use mathlib.Core.Path.{_≡_}
 use lib.ListN.{length}
 use borrow.Author.Needs.{needs}
@@ -6,10 +6,10 @@ use Rattle.roualint.proofs.input.whole.Statement.{statement}
 use Rattle.roualint.proofs.input.whole.Tie as tie
 
 abbrev Inv-loop : tie.InvT-loop
-Inv-loop line₀ identity₀ user₀ h₀ left₀ line identity user h left = (length line ≡ length line₀) × (length identity ≡ length identity₀) × (length user ≡ length user₀)
+Inv-loop line₀ keys₀ identity₀ user₀ h₀ left₀ line keys identity user h left = (length line ≡ length line₀) × (length keys ≡ length keys₀) × (length identity ≡ length identity₀) × (length user ≡ length user₀)
 
 abbrev μ-loop : tie.MeasureT-loop
-μ-loop line₀ identity₀ user₀ h₀ left₀ line identity user h left = left
+μ-loop line₀ keys₀ identity₀ user₀ h₀ left₀ line keys identity user h left = left
 
 empty-requires : tie.Need-empty-requires Inv-loop μ-loop
 empty-requires c κs = search needs
