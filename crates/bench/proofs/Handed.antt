@@ -1,9 +1,7 @@
 -- A function over a cursor that hands its sheet, its place and what was kept to a function over slice and number, and
 -- returns what that one returns: a walk of its MIR, by hand, for any such callee. All that the walk knows of the callee
--- is
--- that it meets its contract. The cursor is Copy: what it owns is had twice, one copy is kept whole for the exit, and
--- of the
--- other what the sheet owns goes to the callee, beside the lifetime's token, which comes back.
+-- is that it meets its contract. The cursor is Copy: what it owns is had twice, one copy is kept whole for the exit,
+-- and of the other what the sheet owns goes to the callee, beside the lifetime's token, which comes back.
 use mathlib.Core.Path.{_≡_, refl}
 use Prim.Native.Nat.{ℕ, _<_, _^_}
 use mathlib.Core.List.{List, [], _∷_}
@@ -69,8 +67,7 @@ handing callee τ = record {
 }
 
 -- The callee's name; the type of its result, as the definitions and as the machine have it; and what it finds in a
--- sheet, at
--- a place, against what was kept.
+-- sheet, at a place, against what was kept.
 module _ (#work : Name) (N : RattleType) (τ : Ty) (Found : RefT (List ℕ) → ℕ → Kept → N .Denot → Type 0) where
   abbrev Typed : Type 0
   Typed = (r : N .Denot) (u : Val) → Is N r (u ∷ []) → Holds (hasTy τ u) × WT u

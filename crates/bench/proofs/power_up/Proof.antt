@@ -1,7 +1,6 @@
 -- `bench::power_up` meets its contract: a walk of its MIR, by hand. The tag's borrow is opened and the tag copied out,
--- `tag::power_up` is called on the copy's terms, and the tag that it
--- returns is stored; the borrow is closed at it. All that the proof knows of `tag::power_up` is that it meets its
--- contract.
+-- `tag::power_up` is called on the copy's terms, and the tag that it returns is stored; the borrow is closed at it. All
+-- that the proof knows of `tag::power_up` is that it meets its contract.
 use mathlib.Core.Path.{_≡_, refl}
 use Prim.Native.Nat.{ℕ}
 use mathlib.Core.List.{[], _∷_, List}

@@ -1,8 +1,7 @@
 -- `bench::step` meets its contract: a walk of its MIR, by hand. The tag's borrow is opened and the tag copied out,
--- `tag::step` is called on the copy, and the tag that it
--- returns is stored; the borrow is closed at it. The borrows of room and areas are given to `tag::step` for good, at
--- their own lifetimes, shares and names; keys, message and draws are Copy.
--- All that the proof knows of `tag::step` is that it meets its contract.
+-- `tag::step` is called on the copy, and the tag that it returns is stored; the borrow is closed at it. The borrows of
+-- room and areas are given to `tag::step` for good, at their own lifetimes, shares and names; keys, message and draws
+-- are Copy. All that the proof knows of `tag::step` is that it meets its contract.
 use mathlib.Core.Path.{_≡_, refl, ap}
 use Prim.Native.Nat.{ℕ}
 use mathlib.Core.List.{[], _∷_, List}

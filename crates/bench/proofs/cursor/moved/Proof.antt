@@ -1,8 +1,8 @@
 -- `bench::cursor::moved` meets its contract: a walk of its MIR, by hand. The cursor is taken apart,
--- `sheet::places::further` is called on the sheet, the place and the number, and a cursor is made of the sheet
--- and the place that it returns. All that the proof knows of it is that it meets its contract.
--- The cursor is Copy: what it owns is had three times: whole for the exit, for the callee, and, with the facts of the
--- new place in the old one's stead, for the result.
+-- `sheet::places::further` is called on the sheet, the place and the number, and a cursor is made of the sheet and the
+-- place that it returns. All that the proof knows of it is that it meets its contract. The cursor is Copy: what it owns
+-- is had three times: whole for the exit, for the callee, and, with the facts of the new place in the old one's stead,
+-- for the result.
 use mathlib.Core.Path.{_≡_, refl, ap}
 use Prim.Native.Nat.{ℕ, _<_, _^_}
 use mathlib.Core.List.{[], _∷_}
