@@ -157,14 +157,9 @@ module _ {M : Type 1} (𝓤 : URA M) (H : Heap 𝓤) (A : Atoms 𝓤) (W : Given
     walk ik im id rx ri ru =
         qed W (tokens 𝓤 κs qs ∷ ‵ (owns (R ∷ kinds 0 κs) (h, slices) (mach h ∷ [], values slices)) ∷ []) ∵
         enter ! C Λ code.function (mach h ∷ bytes k ∷ bytes m ∷ bytes d ∷ bytes x ∷ bytes i ∷ bytes u ∷ []) _ $
-        alloc1 ! (λ l₀. alloc1 ! (λ l₁. alloc1 !
-        (λ l₂. alloc1 ! (λ l₃. alloc1 !
-        (λ l₄. alloc1 ! (λ l₅. alloc1 !
-        (λ l₆. alloc1 ! (λ l₇. alloc1 !
-        (λ l₈. alloc1 ! (λ l₉. alloc1 !
-        (λ l₁₀. alloc1 ! (λ l₁₁. alloc1 !
-        (λ l₁₂. alloc1 ! (λ l₁₃. alloc1 !
-        (λ l₁₄. alloc1 ! (λ l₁₅. alloc1 ! (λ l₁₆. alloc1 ! (λ l₁₇. alloc0 ! $ params1 ! $
+        alloc1 ! (λ l₀. alloc1 ! (λ l₁. alloc1 ! (λ l₂. alloc1 ! (λ l₃. alloc1 ! (λ l₄. alloc1 ! (λ l₅. alloc1 ! (λ l₆.
+        alloc1 ! (λ l₇. alloc1 ! (λ l₈. alloc1 ! (λ l₉. alloc1 ! (λ l₁₀. alloc1 ! (λ l₁₁. alloc1 ! (λ l₁₂.
+        alloc1 ! (λ l₁₃. alloc1 ! (λ l₁₄. alloc1 ! (λ l₁₅. alloc1 ! (λ l₁₆. alloc1 ! (λ l₁₇. alloc0 ! $ params1 ! $
         pass1 ! (init ! 32 refl (LL.lawful T.the-type T′.the-laws 𝓤 H A W .typed h _ g .0)) $
         pass1 ! (init ! 30 refl (shr-slice-lawful 𝓤 H A W (named 0) (κs .0) u8 .typed k (bytes k ∷ []) ik .0)) $
         pass1 ! (init ! 28 refl (shr-slice-lawful 𝓤 H A W (named 1) (κs .1 .0) u8 .typed m (bytes m ∷ []) im .0)) $
@@ -215,13 +210,13 @@ module _ {M : Type 1} (𝓤 : URA M) (H : Heap 𝓤) (A : Atoms 𝓤) (W : Given
         ((‵ (flft (ν ∷ []) fullShare) ⊛ tokens 𝓤 κs qs) ⊛ ‵ (O.the-row .own n (w ∷ [])))
         ⊛ raw (ensured 𝓤 H A step.ended (step.clauses 𝓤 H A at-mem run) (ν ∷ [], κs) (loan l₈ γ, slices) tt n))))
         (id⊢ 𝓤 _) $ await ! tt $ pick ! (λ n.
-        split ! $ move ! (1 ∷ []) $ use1 W
-        (some (λ (zs : Tag × (Unit {0} × (Unit {0} × (Unit {0} × (List ℕ × (List ℕ × (List ℕ × Unit {0}))))))).
+        split ! $ move ! (1 ∷ []) $
+        use1 W (some (λ (zs : Tag × (Unit {0} × (Unit {0} × (Unit {0} × (List ℕ × (List ℕ × (List ℕ × Unit {0}))))))).
         ‵ (lasts step.ended (ν ∷ [], κs) (loan l₈ γ, slices) zs)
         ⊛ raw (fact 𝓤 (Says n (zs .0) (zs .1 .1 .1 .1 .0) (zs .1 .1 .1 .1 .1 .0) (zs .1 .1 .1 .1 .1 .1 .0)))))
         (id⊢ 𝓤 _) $ pick ! (λ zs.
-        split ! $ move ! (1 ∷ []) $ heard !
-        (Says n (zs .0) (zs .1 .1 .1 .1 .0) (zs .1 .1 .1 .1 .1 .0) (zs .1 .1 .1 .1 .1 .1 .0)) (λ e.
+        split ! $ move ! (1 ∷ []) $
+        heard ! (Says n (zs .0) (zs .1 .1 .1 .1 .0) (zs .1 .1 .1 .1 .1 .0) (zs .1 .1 .1 .1 .1 .1 .0)) (λ e.
         fsplit ! $ move ! (1 ∷ []) $ fsplit ! $ drop ! $ fsplit ! $ drop ! $ fsplit ! $ drop ! $ fsplit ! $ fsplit ! $
         move ! (1 ∷ []) $ feqL ! (λ lx.
         move ! (1 ∷ []) $ fsplit ! $ fsplit ! $ move ! (1 ∷ []) $
@@ -250,8 +245,8 @@ module _ {M : Type 1} (𝓤 : URA M) (H : Heap 𝓤) (A : Atoms 𝓤) (W : Given
         frees-all ! ((_, (l₀, _)) ∷ (_, (l₁, _)) ∷ (_, (l₂, _)) ∷ (_, (l₃, _)) ∷ (_, (l₄, _)) ∷ (_, (l₅, _))
         ∷ (_, (l₆, _)) ∷ (_, (l₇, _)) ∷ (_, (l₈, _)) ∷ (_, (l₉, _)) ∷ (_, (l₁₀, _)) ∷ (_, (l₁₁, _)) ∷ (_, (l₁₂, _))
         ∷ (_, (l₁₃, _)) ∷ (_, (l₁₄, _)) ∷ (_, (l₁₅, _)) ∷ (_, (l₁₆, _)) ∷ (_, (l₁₇, _)) ∷ []) $
-        keep ! (1 ∷ 2 ∷ 4 ∷ 5 ∷ 6 ∷ []) $ by !
-        (exits n (zs .0) w (zs .1 .1 .1 .1 .0) (zs .1 .1 .1 .1 .1 .0) (zs .1 .1 .1 .1 .1 .1 .0) e is g′ lx li
+        keep ! (1 ∷ 2 ∷ 4 ∷ 5 ∷ 6 ∷ []) $
+        by ! (exits n (zs .0) w (zs .1 .1 .1 .1 .0) (zs .1 .1 .1 .1 .1 .0) (zs .1 .1 .1 .1 .1 .1 .0) e is g′ lx li
         lu)))))))))))))))))))))))))))))))
 
 module _ {M : Type 1} (𝓤 : URA M) (H : Heap 𝓤) (A : Atoms 𝓤) (W : Given 𝓤 H A) (mem : Memory → SProp 𝓤)

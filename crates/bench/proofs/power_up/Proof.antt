@@ -101,8 +101,8 @@ module _ {M : Type 1} (𝓤 : URA M) (H : Heap 𝓤) (A : Atoms 𝓤) (W : Given
     walk =
         qed W ((‵ (flft κ q) ⊛ ‵ ftrue) ∷ ‵ (owns (MutRef (named 0) κ R ∷ []) a vals) ∷ []) ∵
         enter ! C Λ code.function (vptr b o ∷ []) _ $
-        alloc1 ! (λ l₀. alloc1 ! (λ l₁. alloc1 !
-        (λ l₂. alloc1 ! (λ l₃. alloc0 ! $ params1 ! $ pass1 ! (init ! 4 refl (tt, tt)) $ pass0 ! $
+        alloc1 ! (λ l₀. alloc1 ! (λ l₁. alloc1 ! (λ l₂. alloc1 ! (λ l₃. alloc0 ! $ params1 ! $
+        pass1 ! (init ! 4 refl (tt, tt)) $ pass0 ! $
         -- the tag's borrow is opened
         move ! (9 ∷ []) $ fsplit ! $ fsplit3 ! $ drop ! $ move ! (11 ∷ []) $ split ! $ move ! (2 ∷ 3 ∷ 0 ∷ []) $
         opens ! tt R {h = h} b o (λ vs. spelt ! R (Is R) (shows 𝓤 H A R) (LL.vals T.the-type T′.the-laws)
@@ -124,8 +124,8 @@ module _ {M : Type 1} (𝓤 : URA M) (H : Heap 𝓤) (A : Atoms 𝓤) (W : Given
         use1 W (later (some (λ (t : Tag). (‵ ftrue ⊛ ‵ (R .own t (w ∷ [])))
         ⊛ raw (ensured 𝓤 H A fresh.ended (fresh.clauses 𝓤 H A at-mem run) tt (h .terms, tt) tt t)))) (id⊢ 𝓤 _) $
         await ! tt $ pick ! (λ t.
-        split ! $ move ! (1 ∷ []) $ use1 W
-        (some (λ (zs : Unit {0} × Unit {0}). ‵ (lasts fresh.ended tt (h .terms, tt) zs)
+        split ! $ move ! (1 ∷ []) $
+        use1 W (some (λ (zs : Unit {0} × Unit {0}). ‵ (lasts fresh.ended tt (h .terms, tt) zs)
         ⊛ raw (fact 𝓤 (t ≡ awake (h .terms))))) (id⊢ 𝓤 _) $ pick ! (λ zs.
         split ! $ move ! (1 ∷ []) $ heard ! (t ≡ awake (h .terms))
         (λ e. drop ! $ split ! $ drop ! $ peeks ! R (Is R) (shows 𝓤 H A R) t (w ∷ []) (λ is.

@@ -179,13 +179,9 @@ module _ {M : Type 1} (𝓤 : URA M) (H : Heap 𝓤) (A : Atoms 𝓤) (W : Given
     walk ik im id rx ri ru =
         qed W ((‵ (flft κ q) ⊛ tokens 𝓤 κs qs) ∷ ‵ (owns (MutRef (named 0) κ R ∷ kinds 1 κs) a vals) ∷ []) ∵
         enter ! C Λ code.function (vptr b o ∷ bytes k ∷ bytes m ∷ bytes d ∷ bytes x ∷ bytes i ∷ bytes u ∷ []) _ $
-        alloc1 ! (λ l₀. alloc1 ! (λ l₁. alloc1 !
-        (λ l₂. alloc1 ! (λ l₃. alloc1 !
-        (λ l₄. alloc1 ! (λ l₅. alloc1 !
-        (λ l₆. alloc1 ! (λ l₇. alloc1 !
-        (λ l₈. alloc1 ! (λ l₉. alloc1 !
-        (λ l₁₀. alloc1 ! (λ l₁₁. alloc1 !
-        (λ l₁₂. alloc1 ! (λ l₁₃. alloc1 ! (λ l₁₄. alloc1 ! (λ l₁₅. alloc0 ! $ params1 ! $
+        alloc1 ! (λ l₀. alloc1 ! (λ l₁. alloc1 ! (λ l₂. alloc1 ! (λ l₃. alloc1 ! (λ l₄. alloc1 ! (λ l₅. alloc1 ! (λ l₆.
+        alloc1 ! (λ l₇. alloc1 ! (λ l₈. alloc1 ! (λ l₉. alloc1 ! (λ l₁₀. alloc1 ! (λ l₁₁. alloc1 ! (λ l₁₂.
+        alloc1 ! (λ l₁₃. alloc1 ! (λ l₁₄. alloc1 ! (λ l₁₅. alloc0 ! $ params1 ! $
         pass1 ! (init ! 28 refl (tt, tt)) $
         pass1 ! (init ! 26 refl (shr-slice-lawful 𝓤 H A W (named 1) (κs .0) u8 .typed k (bytes k ∷ []) ik .0)) $
         pass1 ! (init ! 24 refl (shr-slice-lawful 𝓤 H A W (named 2) (κs .1 .0) u8 .typed m (bytes m ∷ []) im .0)) $
@@ -195,8 +191,8 @@ module _ {M : Type 1} (𝓤 : URA M) (H : Heap 𝓤) (A : Atoms 𝓤) (W : Given
         pass1 ! (init ! 16 refl (tt, (tt, (record { fits = ru .0 }, tt)))) $ pass0 ! $
         -- the tag's borrow is opened
         move ! (33 ∷ []) $ fsplit ! $ fsplit3 ! $ drop ! $ move ! (35 ∷ []) $ split ! $ move ! (2 ∷ 3 ∷ 0 ∷ []) $
-        opens ! tt R {h =
-        h} b o (λ vs. spelt ! R (Is R) (shows 𝓤 H A R) (LL.vals T.the-type T′.the-laws)
+        opens ! tt R {h = h} b o (λ vs.
+        spelt ! R (Is R) (shows 𝓤 H A R) (LL.vals T.the-type T′.the-laws)
         (LL.tells T.the-type T′.the-laws) fullShare h vs b o $
         move ! (1 ∷ []) $ peeks ! R (Is R) (shows 𝓤 H A R) h (mach h ∷ []) (λ g. move ! (1 ∷ 0 ∷ []) $
         -- [the tag's cell; what a Tag owns; the open borrow; obs; auth; the other tokens; the slices'; _15; …; _1; …;
@@ -231,13 +227,14 @@ module _ {M : Type 1} (𝓤 : URA M) (H : Heap 𝓤) (A : Atoms 𝓤) (W : Given
         use1 W (later (some (λ (r : Stepped). (tokens 𝓤 κs qs ⊛ ‵ (S.the-row .own r (w ∷ [])))
         ⊛ raw (ensured 𝓤 H A by-value.ended (by-value.clauses 𝓤 H A at-mem run) κs (h, slices) tt r)))) (id⊢ 𝓤 _) $
         await ! tt $ pick ! (λ r.
-        split ! $ move ! (1 ∷ []) $ use1 W
+        split ! $ move ! (1 ∷ []) $
+        use1 W
         (some (λ (zs : Unit {0} × (Unit {0} × (Unit {0} × (Unit {0} × (List ℕ × (List ℕ × (List ℕ × Unit {0}))))))).
-        ‵ (lasts by-value.ended κs (h, slices) zs) ⊛ raw
-        (fact 𝓤 (Says r (zs .1 .1 .1 .1 .0) (zs .1 .1 .1 .1 .1 .0) (zs .1 .1 .1 .1 .1 .1 .0))))) (id⊢ 𝓤 _) $
+        ‵ (lasts by-value.ended κs (h, slices) zs)
+        ⊛ raw (fact 𝓤 (Says r (zs .1 .1 .1 .1 .0) (zs .1 .1 .1 .1 .1 .0) (zs .1 .1 .1 .1 .1 .1 .0))))) (id⊢ 𝓤 _) $
         pick ! (λ zs.
-        split ! $ move ! (1 ∷ []) $ heard !
-        (Says r (zs .1 .1 .1 .1 .0) (zs .1 .1 .1 .1 .1 .0) (zs .1 .1 .1 .1 .1 .1 .0)) (λ e.
+        split ! $ move ! (1 ∷ []) $
+        heard ! (Says r (zs .1 .1 .1 .1 .0) (zs .1 .1 .1 .1 .1 .0) (zs .1 .1 .1 .1 .1 .1 .0)) (λ e.
         fsplit ! $ drop ! $ fsplit ! $ drop ! $ fsplit ! $ drop ! $ fsplit ! $ drop ! $ fsplit ! $ fsplit ! $
         move ! (1 ∷ []) $ feqL ! (λ lx.
         move ! (1 ∷ []) $ fsplit ! $ fsplit ! $ move ! (1 ∷ []) $

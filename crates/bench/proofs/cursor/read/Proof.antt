@@ -175,8 +175,7 @@ module _ {M : Type 1} (𝓤 : URA M) (H : Heap 𝓤) (A : Atoms 𝓤) (W : Given
     walk p =
         qed W (raw (onEntry 𝓤 H A read.signature (κ, tt) (q, tt) (s, tt) (v ∷ [], tt)) ∷ []) ∵
         enter ! C Λ code.function (v ∷ []) _ $
-        alloc1 ! (λ l₀. alloc1 ! (λ l₁. alloc1 !
-        (λ l₂. alloc1 ! (λ l₃. alloc0 ! $ params1 ! $
+        alloc1 ! (λ l₀. alloc1 ! (λ l₁. alloc1 ! (λ l₂. alloc1 ! (λ l₃. alloc0 ! $ params1 ! $
         pass1 ! (init ! 4 refl (shr-slice-lawful 𝓤 H A W (named 0) κ u8 .typed s (v ∷ []) p .0)) $ pass0 ! $
         move ! (8 ∷ []) $ use1 W (raw (Open 𝓤 H A mem run .pre to-open) ⊛ ‵ Own) goes-open $ split ! $
         calls-at ! fm (Open 𝓤 H A mem run) known-open to-open
