@@ -1,4 +1,5 @@
--- No second answer fits the contracts of the exported functions: of a step where the tag is kept, the outcome, the tag, the room and both areas are determined.
+-- No second answer fits the contracts of the exported functions: of a step where the tag is kept, the outcome, the tag,
+-- the room and both areas are determined.
 use mathlib.Core.Path.{_≡_, refl}
 use mathlib.Core.List.{List}
 use Prim.Native.Nat.{ℕ}
@@ -37,8 +38,14 @@ pub step-one : OneWalked step.ended (λ M. step.clauses {M = M})
     (r, now (e .0), now (after .0), now (after .1 .0), now (after .1 .1 .0)))
 step-one = (
   (λ M 𝓤 H A mem run κs a g r e. refl),
-  (λ κs a x y s t p q j.
-      (one (p .outcome) (q .outcome) j, one (p .next) (q .next) j, one (p .reply) (q .reply) j, one (p .identity) (q .identity) j, one (p .user) (q .user) j)),
+  (λ κs a x y s t p q j. (
+    one (p .outcome) (q .outcome) j,
+    one (p .next) (q .next) j,
+    one (p .reply) (q .reply) j,
+    one (p .identity)
+        (q .identity) j,
+    one (p .user) (q .user) j,
+  )),
 )
 
 -- what is returned is what the contract says of it
@@ -49,5 +56,10 @@ returned a tag room r after i u h = λ j. record { outcome = h .outcome j; tag =
 pub kept-one : OneAnswer 6 kept-kinds.ps kept-kinds.r kept.Post (Stepped × List ℕ × List ℕ × List ℕ)
     (λ κs r s. let after = s .1 .1 .1 .1 in (r, now (after .0), now (after .1 .0), now (after .1 .1 .0)))
 kept-one κs a x y s t p q =
-    λ j.
-    (one (returned _ _ _ x _ _ _ p) (returned _ _ _ y _ _ _ q) j, one (p .reply) (q .reply) j, one (p .identity) (q .identity) j, one (p .user) (q .user) j)
+    λ j. (
+      one (returned _ _ _ x _ _ _ p) (returned _ _ _ y _ _ _ q) j,
+      one (p .reply) (q .reply) j,
+      one (p .identity)
+          (q .identity) j,
+      one (p .user) (q .user) j,
+    )

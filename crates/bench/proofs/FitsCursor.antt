@@ -20,7 +20,10 @@ use Rattle.bench.proofs.cursor.read.Kinds as read-kinds
 pub opened-one : OneWalked opened.ended (λ M. opened.clauses {M = M})
     (λ κs a r e. (r .sheet ≡ a .0) × (r .at ≡ 0))
     Cursor (λ κs r e. r)
-opened-one = ((λ M 𝓤 H A mem run κs a g r e. refl), (λ κs a x y s t p q j. record { sheet = one (p .0) (q .0) j; at = one (p .1) (q .1) j }))
+opened-one = (
+  (λ M 𝓤 H A mem run κs a g r e. refl),
+  (λ κs a x y s t p q j. record { sheet = one (p .0) (q .0) j; at = one (p .1) (q .1) j }),
+)
 
 pub judge-one : OneWalked judge.ended (λ M. judge.clauses {M = M})
     (λ κs a r e. JudgedAs r (judgedOf keyLimit (drop (a .0 .at) (now (a .0 .sheet))) (a .1 .0)))
@@ -30,7 +33,10 @@ judge-one = ((λ M 𝓤 H A mem run κs a g r e. refl), (λ κs a x y s t p q. o
 pub moved-one : OneWalked moved.ended (λ M. moved.clauses {M = M})
     (λ κs a r e. (r .sheet ≡ a .0 .sheet) × (r .at ≡ furtherOn (now (a .0 .sheet)) (a .0 .at) (a .1 .0)))
     Cursor (λ κs r e. r)
-moved-one = ((λ M 𝓤 H A mem run κs a g r e. refl), (λ κs a x y s t p q j. record { sheet = one (p .0) (q .0) j; at = one (p .1) (q .1) j }))
+moved-one = (
+  (λ M 𝓤 H A mem run κs a g r e. refl),
+  (λ κs a x y s t p q j. record { sheet = one (p .0) (q .0) j; at = one (p .1) (q .1) j }),
+)
 
 pub rest-one : OneWalked rest.ended (λ M. rest.clauses {M = M})
     (λ κs a r e. ReadAs r (readFrom keyLimit (now (a .0 .sheet)) (a .0 .at) (a .1 .0)))

@@ -1,7 +1,9 @@
 mod Values
+mod Lent
 mod Held
 mod Frees
 mod Stores
 mod Takes
+mod Handed
 pub mod Fits
 pub mod FitsCursor

@@ -1,4 +1,5 @@
--- A tag that is stepped where it is kept leaves what a step by value returns: the outcome, and the tag that stands in its place.
+-- A tag that is stepped where it is kept leaves what a step by value returns: the outcome, and the tag that stands in
+-- its place.
 use Rattle.tag.specs.declared.Tag.{Tag}
 use Rattle.offer.specs.declared.Outcome.{Outcome}
 use Rattle.tag.specs.declared.Stepped.{Stepped}

@@ -8,7 +8,8 @@ use payload::same;
 use reader_commands::Keyring;
 use tag_commands::Place;
 
-// What is kept from one command to the next, of each half. The bytes of the key table and of both areas stand beside it.
+// What is kept from one command to the next, of each half. The bytes of the key table and of both areas stand beside
+// it.
 pub struct Desk {
     place: Place,
     keyring: Keyring,

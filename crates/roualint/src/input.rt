@@ -22,7 +22,9 @@ pub fn lines() {
     let mut identity = io::buffer();
     let mut user = io::buffer();
     let h = whole(&mut line, &mut keys, &mut identity, &mut user);
-    last(h, &line, &mut keys, &mut identity, &mut user);
+    let d = h.desk;
+    let l = h.line;
+    ended(d, l, &line, &mut keys, &mut identity, &mut user); // the last line may have no end
 }
 
 // A script, each line of it shown before its answer.
@@ -70,23 +72,14 @@ fn next(h: Heard, line: &mut [u8], keys: &mut [u8], identity: &mut [u8], user: &
     let got = libc::read(STDIN_FILENO, &mut part);
     if got < 0 {
         print::text(b"error: standard input can't be read\n");
-        return at_end(h);
     }
     let n = io::count(got, &part);
     if n == 0 {
-        return at_end(h);
+        let mut end = h;
+        end.over = true;
+        return end;
     }
     fed(h, &part[..n], line, keys, identity, user)
-}
-
-fn at_end(h: Heard) -> Heard {
-    let d = h.desk;
-    let l = h.line;
-    Heard {
-        desk: d,
-        line: l,
-        over: true,
-    }
 }
 
 fn fresh(shown: bool) -> Line {
@@ -142,13 +135,6 @@ fn longer(l: Line, c: u8, line: &mut [u8]) -> Line {
     }
 }
 
-// The last line may have no end.
-fn last(h: Heard, line: &[u8], keys: &mut [u8], identity: &mut [u8], user: &mut [u8]) {
-    let d = h.desk;
-    let l = h.line;
-    ended(d, l, line, keys, identity, user);
-}
-
 fn ended(
     d: Desk,
     l: Line,
@@ -165,7 +151,11 @@ fn ended(
     if l.shown {
         show(&line[..n]);
     }
-    told(d, before_comment(&line[..n]), keys, identity, user)
+    let command = before_comment(&line[..n]);
+    if count(command) == 0 {
+        return d;
+    }
+    commands::answered(d, command, keys, identity, user)
 }
 
 // A line as one types it, behind a mark where it is a command.
@@ -175,11 +165,4 @@ fn show(line: &[u8]) {
     }
     print::text(line);
     print::text(b"\n");
-}
-
-fn told(d: Desk, line: &[u8], keys: &mut [u8], identity: &mut [u8], user: &mut [u8]) -> Desk {
-    if count(line) == 0 {
-        return d;
-    }
-    commands::answered(d, line, keys, identity, user)
 }

@@ -1,5 +1,5 @@
-// The bench on the command line. Without an argument it reads commands from standard input, one a line, and answers each with
-// one line; with the argument `demo` it plays one exchange of each kind.
+// The bench on the command line. Without an argument it reads commands from standard input, one a line, and answers
+// each with one line; with the argument `demo` it plays one exchange of each kind.
 mod demo; // demo.rt: one exchange of each kind, as a script
 mod input; // input.rt: standard input, line by line
 

@@ -1,15 +1,15 @@
-// The soft tag's commands: sheet, area, areas, power, message. The bytes of the key table and of both areas stand beside
-// what is kept here.
+// The soft tag's commands: sheet, area, areas, power, message. The bytes of the key table and of both areas stand
+// beside what is kept here.
+mod told; // told.rt: what a message came to, in words
+
 use console::answer;
 use console::answer::within;
 use console::fields;
 use console::words::count;
 use console::words::word;
-use entry::State;
 use lines::numbers::low_word;
 use lines::numbers::times;
 use lines::print;
-use offer::Outcome;
 use sheet::Terms;
 use sheet::Verdict;
 use tag::Tag;
@@ -22,8 +22,8 @@ pub fn key_room() -> [u8; KEY_TABLE] {
     [0; KEY_TABLE]
 }
 
-// The tag's place on the bench from one command to the next: a tag, where a sheet was accepted, and the bytes lent of its
-// key table and of each area.
+// The tag's place on the bench from one command to the next: a tag, where a sheet was accepted, and the bytes lent of
+// its key table and of each area.
 pub struct Place {
     set: bool,
     tag: Tag,
@@ -43,28 +43,6 @@ pub fn empty() -> Place {
         keys: 0,
         identity: 0,
         user: 0,
-    }
-}
-
-// With the tag after a message, or at its power-up.
-fn with_tag(p: Place, tag: Tag) -> Place {
-    Place {
-        set: true,
-        tag,
-        keys: p.keys,
-        identity: p.identity,
-        user: p.user,
-    }
-}
-
-fn with_areas(p: Place, identity: usize, user: usize) -> Place {
-    let tag = p.tag;
-    Place {
-        set: p.set,
-        tag,
-        keys: p.keys,
-        identity,
-        user,
     }
 }
 
@@ -138,12 +116,13 @@ pub fn area(p: Place, line: &[u8], identity: &mut [u8], user: &mut [u8]) -> Plac
         return p;
     }
     answer::ok();
+    let mut after = p;
     if fields::number(line, 1) == 0 {
-        let n = fields::bytes(line, 2, identity);
-        return with_areas(p, n, p.user);
+        after.identity = fields::bytes(line, 2, identity);
+        return after;
     }
-    let n = fields::bytes(line, 2, user);
-    with_areas(p, p.identity, n)
+    after.user = fields::bytes(line, 2, user);
+    after
 }
 
 pub fn areas(p: Place, line: &[u8], identity: &[u8], user: &[u8]) {
@@ -160,8 +139,8 @@ pub fn areas(p: Place, line: &[u8], identity: &[u8], user: &[u8]) {
 }
 
 // Is there a tag? Where not, it is said.
-fn set(p: Place) -> bool {
-    if p.set {
+fn set(there: bool) -> bool {
+    if there {
         return true;
     }
     print::text(b"error: no tag yet\n");
@@ -172,20 +151,22 @@ pub fn power(p: Place, line: &[u8]) -> Place {
     if !fields::read(line, 1, b"", 0) {
         return p;
     }
-    if !set(p) {
+    if !set(p.set) {
         return p;
     }
     answer::ok();
     let tag = p.tag;
     let terms = tag.terms;
-    with_tag(p, tag::power_up(terms))
+    let mut after = p;
+    after.tag = tag::power_up(terms);
+    after
 }
 
 pub fn message(p: Place, line: &[u8], keys: &[u8], identity: &mut [u8], user: &mut [u8]) -> Place {
     if !fields::read(line, 1, b"hdr", 2) {
         return p;
     }
-    if !set(p) {
+    if !set(p.set) {
         return p;
     }
     if random(line) {
@@ -266,43 +247,8 @@ fn stepped(
     let next = s.tag;
     let session = next.session;
     let state = session.state;
-    told(outcome, state, room);
-    with_tag(p, next)
-}
-
-fn told(outcome: Outcome, state: State, room: &[u8]) {
-    match outcome {
-        Outcome::Replied(n) => {
-            let e = within(n, room);
-            replied(&room[..e], state);
-            print::text(b" purpose -\n");
-        }
-        Outcome::Entered(purpose) => {
-            replied(b"", state);
-            print::text(b" purpose ");
-            answer::decimal(purpose as u16);
-            print::text(b"\n");
-        }
-        Outcome::Refused(_) => {
-            print::text(b"refused ");
-            answer::decimal(offer::number(outcome) as u16);
-            state_told(state);
-            print::text(b"\n");
-        }
-    }
-}
-
-fn replied(reply: &[u8], state: State) {
-    print::text(b"reply ");
-    answer::hex(reply);
-    state_told(state);
-}
-
-fn state_told(state: State) {
-    match state {
-        State::Initial => print::text(b" state Initial"),
-        State::IamInit => print::text(b" state IAM-Init"),
-        State::MamInit => print::text(b" state MAM-Init"),
-        State::IaOk => print::text(b" state IA-OK"),
-    }
+    told::outcome(outcome, state, room);
+    let mut after = p;
+    after.tag = next;
+    after
 }

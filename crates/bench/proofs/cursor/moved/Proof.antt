@@ -1,6 +1,8 @@
--- `bench::cursor::moved` meets its contract: a walk of its MIR, by hand. The cursor is taken apart, `sheet::places::further` is called on the sheet, the place and the number, and a cursor is made of the sheet
--- and the place that it returns. All that the proof knows of it is that it meets its contract.
--- The cursor is Copy: what it owns is had three times: whole for the exit, for the callee, and, with the facts of the new place in the old one's stead, for the result.
+-- `bench::cursor::moved` meets its contract: a walk of its MIR, by hand. The cursor is taken apart,
+-- `sheet::places::further` is called on the sheet, the place and the number, and a cursor is made of the sheet and the
+-- place that it returns. All that the proof knows of it is that it meets its contract. The cursor is Copy: what it owns
+-- is had three times: whole for the exit, for the callee, and, with the facts of the new place in the old one's stead,
+-- for the result.
 use mathlib.Core.Path.{_≡_, refl, ap}
 use Prim.Native.Nat.{ℕ, _<_, _^_}
 use mathlib.Core.List.{[], _∷_}
@@ -18,9 +20,11 @@ use prog.Wp.{Heap, Calls, Loops, WpFn, Tables}
 use ghost.Atoms.{Atoms, sem}
 use contract.Monad.{Fun, fact}
 use contract.Running.{givenOf, tables, tablesOf}
-use types.Kit.{Given, ‵, raw, _⊛_, given, ⋆, some, later, _$_, _∵_, !, qed, by, move, drop, rewrite, use1, use2, split, join, learn, pick, fsplit, fjoin, suffices, frame, await, done}
+use types.Kit.{Given, ‵, raw, _⊛_, given, ⋆, some, later, _$_, _∵_, !, qed, by, move, drop, rewrite, use1, use2, split}
+use types.Kit.{join, learn, pick, fsplit, fjoin, suffices, frame, await, done}
 use types.Part.{agg, whole, sub, look-in}
-use types.Run.{look, init, stop, fld, from, load, of-opd, and-then, no-more, assigns, land, returns, enter, alloc1, alloc0, params1, pass1, pass0}
+use types.Run.{look, init, stop, fld, from, load, of-opd, and-then, no-more, assigns, land, returns, enter, alloc1}
+use types.Run.{alloc0, params1, pass1, pass0}
 use sound.WpLaws.{FmC, fmOf, WpFn-mono}
 use denote.RattleType.{owns}
 use denote.Laws.{Is, shows}
@@ -61,10 +65,12 @@ abbrev stayed : Stays (moved.ended .signature .params) (moved.ended .kept)
 stayed = (stay-none B yes, (stay-none (λ _. usize) yes, tt))
 
 -- the contract that the proof cites
-abbrev Work : {M : Type 1} (𝓤 : URA M) (H : Heap 𝓤) (A : Atoms 𝓤) (mem : Memory → SProp 𝓤) (run : Routine → Fun 𝓤) → Contract 𝓤
+abbrev Work : {M : Type 1} (𝓤 : URA M) (H : Heap 𝓤) (A : Atoms 𝓤) (mem : Memory → SProp 𝓤) (run : Routine → Fun 𝓤)
+    → Contract 𝓤
 Work 𝓤 H A mem run = tripleOf 𝓤 H A work.signature (work.spec 𝓤 H A mem run)
 
-module _ {M : Type 1} (𝓤 : URA M) (H : Heap 𝓤) (A : Atoms 𝓤) (W : Given 𝓤 H A) (mem : Memory → SProp 𝓤) (run : Routine → Fun 𝓤) (κ : Lft) (q : Share) (d : Cursor) (n : ℕ) (ok : n < 2 ^ 64) where
+module _ {M : Type 1} (𝓤 : URA M) (H : Heap 𝓤) (A : Atoms 𝓤) (W : Given 𝓤 H A) (mem : Memory → SProp 𝓤)
+    (run : Routine → Fun 𝓤) (κ : Lft) (q : Share) (d : Cursor) (n : ℕ) (ok : n < 2 ^ 64) where
   abbrev mach : Val
   mach = T′.lowered d
 
@@ -82,7 +88,8 @@ module _ {M : Type 1} (𝓤 : URA M) (H : Heap 𝓤) (A : Atoms 𝓤) (W : Given
   at = (mach ∷ [], (vint w64 n ∷ [], tt))
 
   abbrev Post : Val → SProp 𝓤
-  Post = walkOf 𝓤 H A moved.ended stayed (moved.clauses 𝓤 H A mem run) .post (((κ, tt), (q, tt), tt, (d, (n, tt)), at), tt)
+  Post =
+      walkOf 𝓤 H A moved.ended stayed (moved.clauses 𝓤 H A mem run) .post (((κ, tt), (q, tt), tt, (d, (n, tt)), at), tt)
 
   abbrev Own : Fml
   Own = B (κ, tt) .own d (mach ∷ [])
@@ -104,64 +111,113 @@ module _ {M : Type 1} (𝓤 : URA M) (H : Heap 𝓤) (A : Atoms 𝓤) (W : Given
   abbrev to : Work 𝓤 H A mem run .Ghost
   to = (((κ, tt), (q, tt), tt, (d .sheet, (d .at, (n, tt))), passed), tt)
 
-  asked : ent 𝓤 (onEntry 𝓤 H A work.signature (κ, tt) (q, tt) (d .sheet, (d .at, (n, tt))) passed) (Work 𝓤 H A mem run .pre to)
-  asked = qed W ((‵ (flft κ q) ⊛ ‵ ftrue) ∷ ‵ (owns (ShrSlice (named 0) κ u8 ∷ usize ∷ usize ∷ []) (d .sheet, (d .at, (n, tt))) passed) ∷ []) ∵ join ! $ frame ! $ done !
+  asked : ent 𝓤 (onEntry 𝓤 H A work.signature (κ, tt) (q, tt) (d .sheet, (d .at, (n, tt))) passed)
+      (Work 𝓤 H A mem run .pre to)
+  asked =
+      qed W ((‵ (flft κ q) ⊛ ‵ ftrue)
+      ∷ ‵ (owns (ShrSlice (named 0) κ u8 ∷ usize ∷ usize ∷ []) (d .sheet, (d .at, (n, tt))) passed) ∷ []) ∵ join ! $
+      frame ! $ done !
 
   -- what the cursor owns gives what the callee asks, and is kept
-  apart : d .at < 2 ^ 64 → ent 𝓤 (onEntry 𝓤 H A moved.signature (κ, tt) (q, tt) (d, (n, tt)) at) (sep 𝓤 (Work 𝓤 H A mem run .pre to) (sem 𝓤 H A Own))
+  apart : d .at < 2 ^ 64 → ent 𝓤 (onEntry 𝓤 H A moved.signature (κ, tt) (q, tt) (d, (n, tt)) at)
+      (sep 𝓤 (Work 𝓤 H A mem run .pre to) (sem 𝓤 H A Own))
   apart fits =
       qed W ((‵ (flft κ q) ⊛ ‵ ftrue) ∷ ‵ (owns (B (κ, tt) ∷ usize ∷ []) (d, (n, tt)) at) ∷ []) ∵
-      move ! (1 ∷ []) $ fsplit ! $ move ! (1 ∷ []) $ drop ! $ use1 W (‵ Own ⊛ ‵ Own) (LL.copy D (T′.the-copy (namedLft 1 0 tt (κ, tt))) 𝓤 H A W .twice d (mach ∷ [])) $ split ! $
-      use1 W (given (mach ∷ [] ≡ mach ∷ []) (‵ (all-own (D .parts) L vd))) (own-open 𝓤 H A W D L vd mach) $ learn ! (λ _. use1 W (‵ (ownAt (D .parts) L 0 (d .sheet)) ⊛ ‵ (rest (D .parts) L 0 vd)) (own-out 𝓤 H A W (D .parts) L 0 vd) $ split ! $
+      move ! (1 ∷ []) $ fsplit ! $ move ! (1 ∷ []) $ drop ! $
+      use1 W (‵ Own ⊛ ‵ Own) (LL.copy D (T′.the-copy (namedLft 1 0 tt (κ, tt))) 𝓤 H A W .twice d (mach ∷ [])) $
+      split ! $
+      use1 W (given (mach ∷ [] ≡ mach ∷ []) (‵ (all-own (D .parts) L vd))) (own-open 𝓤 H A W D L vd mach) $
+      learn ! (λ _. use1 W (‵ (ownAt (D .parts) L 0 (d .sheet)) ⊛ ‵ (rest (D .parts) L 0 vd))
+      (own-out 𝓤 H A W (D .parts) L 0 vd) $ split ! $
       -- [what the sheet owns; what the place owns; what the cursor owns; the token]
-      move ! (1 ∷ []) $ drop ! $ nothing ! $ owned ! usize (Is usize) (uint-makes 𝓤 H A W w64) n _ (refl, ok) $ fjoin ! $
-      owned ! usize (Is usize) (uint-makes 𝓤 H A W w64) (d .at) _ (refl, fits) $ fjoin ! $ move ! (1 ∷ 0 ∷ []) $ fjoin ! $
+      move ! (1 ∷ []) $ drop ! $ nothing ! $ owned ! usize (Is usize) (uint-makes 𝓤 H A W w64) n _ (refl, ok) $
+      fjoin ! $
+      owned ! usize (Is usize) (uint-makes 𝓤 H A W w64) (d .at) _ (refl, fits) $ fjoin ! $ move ! (1 ∷ 0 ∷ []) $
+      fjoin ! $
       move ! (2 ∷ 0 ∷ []) $ use2 W (raw (Work 𝓤 H A mem run .pre to)) asked $ frame ! $ done !)
 
   -- of the callee's `ensured`, the clause alone: it has no `&mut`, so what is said of last values is dropped
-  said : (r : ℕ) → ent 𝓤 (ensured 𝓤 H A work.ended (work.clauses 𝓤 H A mem run) (κ, tt) (d .sheet, (d .at, (n, tt))) tt r) (fact 𝓤 (r ≡ place))
-  said r = exE 𝓤 _ (λ ws. snd∗ 𝓤 (sem 𝓤 H A (lasts work.ended (κ, tt) (d .sheet, (d .at, (n, tt))) ws)) (fact 𝓤 (r ≡ place)))
+  said : (r : ℕ) → ent 𝓤 (ensured 𝓤 H A work.ended (work.clauses 𝓤 H A mem run) (κ, tt)
+      (d .sheet, (d .at, (n, tt))) tt r) (fact 𝓤 (r ≡ place))
+  said r =
+      exE 𝓤 _ (λ ws. snd∗ 𝓤 (sem 𝓤 H A (lasts work.ended (κ, tt) (d .sheet, (d .at, (n, tt))) ws)) (fact 𝓤 (r ≡ place)))
 
-  exits : (r : ℕ) → r < 2 ^ 64 → r ≡ place → ent 𝓤 (⋆ 𝓤 H A ((‵ (flft κ q) ⊛ ‵ ftrue) ∷ ‵ Own ∷ [])) (Post (T′.lowered (made r)))
+  exits : (r : ℕ) → r < 2 ^ 64 → r ≡ place → ent 𝓤 (⋆ 𝓤 H A ((‵ (flft κ q) ⊛ ‵ ftrue) ∷ ‵ Own ∷ []))
+      (Post (T′.lowered (made r)))
   exits r low e =
       qed W ((‵ (flft κ q) ⊛ ‵ ftrue) ∷ ‵ Own ∷ []) ∵
-      suffices ! _ (ends-at 𝓤 H A moved.ended stayed (moved.clauses 𝓤 H A mem run) W (((κ, tt), (q, tt), tt, (d, (n, tt)), at), tt) (T′.lowered (made r)) (made r) (tt, (tt, tt)) (tt, (tt, tt))) $ says ! (refl, e) $
-      frame ! $ use1 W (‵ Own ⊛ ‵ Own) (LL.copy D (T′.the-copy (namedLft 1 0 tt (κ, tt))) 𝓤 H A W .twice d (mach ∷ [])) $ split ! $
-      nothing ! $ owned ! usize (Is usize) (uint-makes 𝓤 H A W w64) n _ (refl, ok) $ fjoin ! $ move ! (1 ∷ 0 ∷ []) $ fjoin ! $ frame ! $
+      suffices ! _ (ends-at 𝓤 H A moved.ended stayed (moved.clauses 𝓤 H A mem run) W
+      (((κ, tt), (q, tt), tt, (d, (n, tt)), at), tt) (T′.lowered (made r)) (made r) (tt, (tt, tt)) (tt, (tt, tt))) $
+      says ! (refl, e) $
+      frame ! $ use1 W (‵ Own ⊛ ‵ Own)
+      (LL.copy D (T′.the-copy (namedLft 1 0 tt (κ, tt))) 𝓤 H A W .twice d (mach ∷ [])) $ split ! $
+      nothing ! $ owned ! usize (Is usize) (uint-makes 𝓤 H A W w64) n _ (refl, ok) $ fjoin ! $ move ! (1 ∷ 0 ∷ []) $
+      fjoin ! $ frame ! $
       -- [what the cursor owns]: the new place's facts take the old one's place
-      owned ! usize (Is usize) (uint-makes 𝓤 H A W w64) r _ (refl, low) $ move ! (1 ∷ 0 ∷ []) $ by ! (own-put 𝓤 H A W D L 1 vd r mach)
+      owned ! usize (Is usize) (uint-makes 𝓤 H A W w64) r _ (refl, low) $ move ! (1 ∷ 0 ∷ []) $
+      by ! (own-put 𝓤 H A W D L 1 vd r mach)
 
-  module _ (C : Calls 𝓤 H) (Λ : Loops 𝓤 H) (fm : FmC 𝓤 H (W .laws) C) (known : Triple 𝓤 (C #work) (Work 𝓤 H A mem run)) where
-    walk : Holds (hasTy (T′.mir (named 0)) mach) × WT mach → ent 𝓤 (onEntry 𝓤 H A moved.signature (κ, tt) (q, tt) (d, (n, tt)) at) (WpFn 𝓤 H C Λ code.function (mach ∷ vint w64 n ∷ []) Post)
+  module _ (C : Calls 𝓤 H) (Λ : Loops 𝓤 H) (fm : FmC 𝓤 H (W .laws) C)
+      (known : Triple 𝓤 (C #work) (Work 𝓤 H A mem run)) where
+    walk : Holds (hasTy (T′.mir (named 0)) mach) × WT mach
+        → ent 𝓤 (onEntry 𝓤 H A moved.signature (κ, tt) (q, tt) (d, (n, tt)) at)
+        (WpFn 𝓤 H C Λ code.function (mach ∷ vint w64 n ∷ []) Post)
     walk wt =
-        qed W (raw (onEntry 𝓤 H A moved.signature (κ, tt) (q, tt) (d, (n, tt)) at) ∷ []) ∵ enter ! C Λ code.function (mach ∷ vint w64 n ∷ []) _ $
-        alloc1 ! (λ l₀. alloc1 ! (λ l₁. alloc1 ! (λ l₂. alloc1 ! (λ l₃. alloc1 ! (λ l₄. alloc1 ! (λ l₅. alloc1 ! (λ l₆. alloc0 ! $ params1 ! $ pass1 ! (init ! 10 refl wt) $ pass1 ! (init ! 8 refl (tt, record { fits = ok })) $ pass0 ! $
-        assigns ! (of-opd ! (load ! (from ! (fld ! refl (stop !))) (look-in ! 10 (sub ! 0 refl (whole !))))) (from ! (stop !)) (init ! 4 refl (tt, wt .1 .0)) $
-        assigns ! (of-opd ! (load ! (from ! (fld ! refl (stop !))) (look-in ! 10 (sub ! 1 refl (whole !))))) (from ! (stop !)) (init ! 2 refl (tt, wt .1 .1 .0)) $
+        qed W (raw (onEntry 𝓤 H A moved.signature (κ, tt) (q, tt) (d, (n, tt)) at) ∷ []) ∵
+        enter ! C Λ code.function (mach ∷ vint w64 n ∷ []) _ $
+        alloc1 ! (λ l₀. alloc1 ! (λ l₁. alloc1 ! (λ l₂. alloc1 ! (λ l₃. alloc1 ! (λ l₄. alloc1 ! (λ l₅. alloc1 ! (λ l₆.
+        alloc0 ! $ params1 ! $ pass1 ! (init ! 10 refl wt) $ pass1 ! (init ! 8 refl (tt, record { fits = ok })) $
+        pass0 ! $
+        assigns ! (of-opd ! (load ! (from ! (fld ! refl (stop !))) (look-in ! 10 (sub ! 0 refl (whole !)))))
+        (from ! (stop !)) (init ! 4 refl (tt, wt .1 .0)) $
+        assigns ! (of-opd ! (load ! (from ! (fld ! refl (stop !))) (look-in ! 10 (sub ! 1 refl (whole !)))))
+        (from ! (stop !)) (init ! 2 refl (tt, wt .1 .1 .0)) $
         move ! (14 ∷ []) $ use1 W (raw (Work 𝓤 H A mem run .pre to) ⊛ ‵ Own) (apart (wt .1 .1 .0 .fits)) $ split ! $
-        calls-at ! fm (Work 𝓤 H A mem run) known to (and-then ! (load ! (from ! (stop !)) (look ! 6 refl)) (and-then ! (load ! (from ! (stop !)) (look ! 4 refl)) (and-then ! (load ! (from ! (stop !)) (look ! 10 refl)) (no-more !)))) (λ u.
-        use1 W (later (some (λ (r : ℕ). ((‵ (flft κ q) ⊛ ‵ ftrue) ⊛ ‵ (usize .own r (u ∷ []))) ⊛ raw (ensured 𝓤 H A work.ended (work.clauses 𝓤 H A mem run) (κ, tt) (d .sheet, (d .at, (n, tt))) tt r)))) (id⊢ 𝓤 _) $ await ! tt $ pick ! (λ r.
-        split ! $ move ! (1 ∷ []) $ use1 W (raw (fact 𝓤 (r ≡ place))) (said r) $ heard ! (r ≡ place) (λ e. split ! $ move ! (1 ∷ []) $
-        -- [the new place; the token; what the cursor owns; room for _6; …; _5; …; _4; …; room for _3; …; _2; …; _1; …; room for _0; …]
+        calls-at ! fm (Work 𝓤 H A mem run) known to
+        (and-then ! (load ! (from ! (stop !)) (look ! 6 refl))
+        (and-then ! (load ! (from ! (stop !)) (look ! 4 refl))
+        (and-then ! (load ! (from ! (stop !)) (look ! 10 refl)) (no-more !)))) (λ u.
+        use1 W (later (some (λ (r : ℕ). ((‵ (flft κ q) ⊛ ‵ ftrue) ⊛ ‵ (usize .own r (u ∷ [])))
+        ⊛ raw (ensured 𝓤 H A work.ended (work.clauses 𝓤 H A mem run) (κ, tt) (d .sheet, (d .at, (n, tt))) tt r))))
+        (id⊢ 𝓤 _) $ await ! tt $ pick ! (λ r.
+        split ! $ move ! (1 ∷ []) $ use1 W (raw (fact 𝓤 (r ≡ place))) (said r) $
+        heard ! (r ≡ place) (λ e. split ! $ move ! (1 ∷ []) $
+        -- [the new place; the token; what the cursor owns; room for _6; …; _5; …; _4; …; room for _3; …; _2; …; _1; …;
+        -- room for _0; …]
         peeks ! usize (Is usize) (shows 𝓤 H A usize) r (u ∷ []) (λ is.
-        land ! (from ! (stop !)) (init ! 9 refl (uint-lawful 𝓤 H A W w64 .typed r _ is .0)) $ rewrite ! 9 (λ (w : Val). ‵ (fat fullShare (tyInt w64) l₃ 0 w)) (ap only (is .0)) refl $
-        assigns ! (of-opd ! (load ! (from ! (fld ! refl (stop !))) (look-in ! 13 (sub ! 0 refl (whole !))))) (from ! (stop !)) (init ! 3 refl (tt, wt .1 .0)) $
-        assigns ! (agg ! (and-then ! (load ! (from ! (stop !)) (look ! 3 refl)) (and-then ! (load ! (from ! (stop !)) (look ! 9 refl)) (no-more !)))) (from ! (stop !)) (init ! 15 refl (tt, (wt .1 .0, (record { fits = is .1 }, tt)))) $
-        returns ! (look ! 15 refl) $ move ! (places 3 14) $ frees-all ! ((_, (l₀, _)) ∷ (_, (l₁, _)) ∷ (_, (l₂, _)) ∷ (_, (l₃, _)) ∷ (_, (l₄, _)) ∷ (_, (l₅, _)) ∷ (_, (l₆, _)) ∷ []) $ drop ! $ by ! (exits r (is .1) e))))))))))))
+        land ! (from ! (stop !)) (init ! 9 refl (uint-lawful 𝓤 H A W w64 .typed r _ is .0)) $
+        rewrite ! 9 (λ (w : Val). ‵ (fat fullShare (tyInt w64) l₃ 0 w)) (ap only (is .0)) refl $
+        assigns ! (of-opd ! (load ! (from ! (fld ! refl (stop !))) (look-in ! 13 (sub ! 0 refl (whole !)))))
+        (from ! (stop !)) (init ! 3 refl (tt, wt .1 .0)) $
+        assigns ! (agg ! (and-then ! (load ! (from ! (stop !)) (look ! 3 refl))
+        (and-then ! (load ! (from ! (stop !)) (look ! 9 refl)) (no-more !)))) (from ! (stop !))
+        (init ! 15 refl (tt, (wt .1 .0, (record { fits = is .1 }, tt)))) $
+        returns ! (look ! 15 refl) $ move ! (places 3 14) $
+        frees-all ! ((_, (l₀, _)) ∷ (_, (l₁, _)) ∷ (_, (l₂, _)) ∷ (_, (l₃, _)) ∷ (_, (l₄, _)) ∷ (_, (l₅, _))
+        ∷ (_, (l₆, _)) ∷ []) $ drop ! $ by ! (exits r (is .1) e))))))))))))
 
-module _ {M : Type 1} (𝓤 : URA M) (H : Heap 𝓤) (A : Atoms 𝓤) (W : Given 𝓤 H A) (mem : Memory → SProp 𝓤) (run : Routine → Fun 𝓤) where
-  moved-walks : (C : Calls 𝓤 H) (Λ : Loops 𝓤 H) → FmC 𝓤 H (W .laws) C → Triple 𝓤 (C #work) (Work 𝓤 H A mem run) → Walks 𝓤 H A moved.ended stayed (WpFn 𝓤 H C Λ code.function) (moved.clauses 𝓤 H A mem run)
+module _ {M : Type 1} (𝓤 : URA M) (H : Heap 𝓤) (A : Atoms 𝓤) (W : Given 𝓤 H A) (mem : Memory → SProp 𝓤)
+    (run : Routine → Fun 𝓤) where
+  moved-walks : (C : Calls 𝓤 H) (Λ : Loops 𝓤 H) → FmC 𝓤 H (W .laws) C → Triple 𝓤 (C #work) (Work 𝓤 H A mem run)
+      → Walks 𝓤 H A moved.ended stayed (WpFn 𝓤 H C Λ code.function) (moved.clauses 𝓤 H A mem run)
   moved-walks C Λ fm known =
-      walked 𝓤 H A moved.ended stayed (moved.clauses 𝓤 H A mem run) (WpFn 𝓤 H C Λ code.function) (λ κs. (LL.vals (T.the-type (namedLft 1 0 tt κs)) (T′.the-laws (namedLft 1 0 tt κs)), (uint-vals w64, tt)))
+      walked 𝓤 H A moved.ended stayed (moved.clauses 𝓤 H A mem run) (WpFn 𝓤 H C Λ code.function)
+      (λ κs. (LL.vals (T.the-type (namedLft 1 0 tt κs)) (T′.the-laws (namedLft 1 0 tt κs)), (uint-vals w64, tt)))
       (λ κs. (LL.tells (T.the-type (namedLft 1 0 tt κs)) (T′.the-laws (namedLft 1 0 tt κs)), (uint-tells w64, tt)))
       (λ κs qs bounds a g are. via 𝓤 _ (fst∗ 𝓤 _ (emp 𝓤))
-      (walk 𝓤 H A W mem run (κs .0) (qs .0) (a .0) (a .1 .0) (are .1 .0 .1) C Λ fm known (LL.lawful (T.the-type (namedLft 1 0 tt κs)) (T′.the-laws (namedLft 1 0 tt κs)) 𝓤 H A W .typed (a .0) _ (are .0) .0)))
+      (walk 𝓤 H A W mem run (κs .0) (qs .0) (a .0) (a .1 .0) (are .1 .0 .1) C Λ fm known
+      (LL.lawful (T.the-type (namedLft 1 0 tt κs)) (T′.the-laws (namedLft 1 0 tt κs)) 𝓤 H A W .typed (a .0) _
+      (are .0) .0)))
 
-moved-meets : {M : Type 1} (𝓤 : URA M) (H : Heap 𝓤) (A : Atoms 𝓤) (W : Given 𝓤 H A) (mem : Memory → SProp 𝓤) (run : Routine → Fun 𝓤) (𝓣 : Tables 𝓤 H) → Triple 𝓤 (𝓣 .C #work) (Work 𝓤 H A mem run)
+moved-meets : {M : Type 1} (𝓤 : URA M) (H : Heap 𝓤) (A : Atoms 𝓤) (W : Given 𝓤 H A) (mem : Memory → SProp 𝓤)
+    (run : Routine → Fun 𝓤) (𝓣 : Tables 𝓤 H) → Triple 𝓤 (𝓣 .C #work) (Work 𝓤 H A mem run)
     → Meets 𝓤 H A moved.signature (WpFn 𝓤 H (𝓣 .C) (𝓣 .Λ) code.function) (moved.spec 𝓤 H A mem run)
 moved-meets 𝓤 H A W mem run 𝓣 known =
-    walk-meets 𝓤 H A moved.ended stayed W (goes-none 𝓤 H A W 1 B yes (λ κs x f. refl), (goes-none 𝓤 H A W 1 (λ _. usize) yes (λ κs x f. refl), tt)) (moved.clauses 𝓤 H A mem run)
-    (WpFn 𝓤 H (𝓣 .C) (𝓣 .Λ) code.function) (WpFn-mono 𝓤 H (W .laws) 𝓣 code.function) (moved-walks 𝓤 H A W mem run (𝓣 .C) (𝓣 .Λ) (fmOf 𝓤 H (W .laws) 𝓣) known)
+    walk-meets 𝓤 H A moved.ended stayed W
+    (goes-none 𝓤 H A W 1 B yes (λ κs x f. refl), (goes-none 𝓤 H A W 1 (λ _. usize) yes (λ κs x f. refl), tt))
+    (moved.clauses 𝓤 H A mem run)
+    (WpFn 𝓤 H (𝓣 .C) (𝓣 .Λ) code.function) (WpFn-mono 𝓤 H (W .laws) 𝓣 code.function)
+    (moved-walks 𝓤 H A W mem run (𝓣 .C) (𝓣 .Λ) (fmOf 𝓤 H (W .laws) 𝓣) known)
 
 pub moved-spec : {M : Type 1} → stated.statement M
 unfolding code.routine tablesOf
@@ -169,4 +225,5 @@ moved-spec 𝓤 H 𝓜 𝓖 𝓡 =
     entered 𝓤 H (tripleOf 𝓤 H (𝓖 .A) moved.signature (moved.spec 𝓤 H (𝓖 .A) (𝓜 .mem) (𝓡 .run)))
     (tables 𝓤 H 𝓜 𝓡 code.env .C) (tables 𝓤 H 𝓜 𝓡 code.env .Λ) #bench·moved code.function (code.unfolded 𝓤 H 𝓜 𝓡)
     (moved-meets 𝓤 H (𝓖 .A) (givenOf 𝓤 H 𝓜 𝓖) (𝓜 .mem) (𝓡 .run) (tablesOf 𝓤 H 𝓜 (tables 𝓤 H 𝓜 𝓡 code.env))
-    (cited 𝓤 H (Work 𝓤 H (𝓖 .A) (𝓜 .mem) (𝓡 .run)) 𝓜 𝓡 code.env #work work-def.routine code.calls-sheet·places·further (work-thm.met 𝓤 H 𝓜 𝓖 𝓡)))
+    (cited 𝓤 H (Work 𝓤 H (𝓖 .A) (𝓜 .mem) (𝓡 .run)) 𝓜 𝓡 code.env #work work-def.routine code.calls-sheet·places·further
+    (work-thm.met 𝓤 H 𝓜 𝓖 𝓡)))

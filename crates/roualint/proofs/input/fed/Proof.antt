@@ -1,4 +1,5 @@
--- `input::fed` is safe and ends: what is left of the part falls, and the line, the key table and both areas keep their lengths.
+-- `input::fed` is safe and ends: what is left of the part falls, and the line, the key table and both areas keep their
+-- lengths.
 use mathlib.Core.Path.{_≡_}
 use Prim.Native.Nat.{_≤_, _-_}
 use lib.ListN.{length}
@@ -7,7 +8,12 @@ use Rattle.roualint.proofs.input.fed.Statement.{statement}
 use Rattle.roualint.proofs.input.fed.Tie as tie
 
 abbrev Inv-loop : tie.InvT-loop
-Inv-loop part line₀ keys₀ identity₀ user₀ b₀ l₀ i₀ line keys identity user b l i = (i ≤ length part) × (length line ≡ length line₀) × (length keys ≡ length keys₀) × (length identity ≡ length identity₀) × (length user ≡ length user₀)
+Inv-loop part line₀ keys₀ identity₀ user₀ b₀ l₀ i₀ line keys identity user b l i =
+    (i ≤ length part)
+    × (length line ≡ length line₀)
+    × (length keys ≡ length keys₀)
+    × (length identity ≡ length identity₀)
+    × (length user ≡ length user₀)
 
 abbrev μ-loop : tie.MeasureT-loop
 μ-loop part line₀ keys₀ identity₀ user₀ b₀ l₀ i₀ line keys identity user b l i = length part - i
@@ -51,6 +57,9 @@ same-length-2 c = search needs
 same-length-3 : tie.Need-same-length-3 Inv-loop μ-loop
 same-length-3 c = search needs
 
+same-length-4 : tie.Need-same-length-4 Inv-loop μ-loop
+same-length-4 c = search needs
+
 returns : tie.Need-returns Inv-loop μ-loop
 returns c = search needs
 
@@ -73,4 +82,5 @@ fed-spec =
     same-length
     same-length-2
     same-length-3
+    same-length-4
     returns)

@@ -1,4 +1,5 @@
--- `input::whole` is safe and ends: the parts that may still come fall, and the line, the key table and both areas keep their lengths.
+-- `input::whole` is safe and ends: the parts that may still come fall, and the line, the key table and both areas keep
+-- their lengths.
 use mathlib.Core.Path.{_≡_}
 use lib.ListN.{length}
 use borrow.Author.Needs.{needs}
@@ -6,7 +7,11 @@ use Rattle.roualint.proofs.input.whole.Statement.{statement}
 use Rattle.roualint.proofs.input.whole.Tie as tie
 
 abbrev Inv-loop : tie.InvT-loop
-Inv-loop line₀ keys₀ identity₀ user₀ h₀ left₀ line keys identity user h left = (length line ≡ length line₀) × (length keys ≡ length keys₀) × (length identity ≡ length identity₀) × (length user ≡ length user₀)
+Inv-loop line₀ keys₀ identity₀ user₀ h₀ left₀ line keys identity user h left =
+    (length line ≡ length line₀)
+    × (length keys ≡ length keys₀)
+    × (length identity ≡ length identity₀)
+    × (length user ≡ length user₀)
 
 abbrev μ-loop : tie.MeasureT-loop
 μ-loop line₀ keys₀ identity₀ user₀ h₀ left₀ line keys identity user h left = left
@@ -41,17 +46,23 @@ same-length-2 c = search needs
 same-length-3 : tie.Need-same-length-3 Inv-loop μ-loop
 same-length-3 c = search needs
 
-returns : tie.Need-returns Inv-loop μ-loop
-returns c = search needs
-
 same-length-4 : tie.Need-same-length-4 Inv-loop μ-loop
 same-length-4 c = search needs
+
+returns : tie.Need-returns Inv-loop μ-loop
+returns c = search needs
 
 same-length-5 : tie.Need-same-length-5 Inv-loop μ-loop
 same-length-5 c = search needs
 
 same-length-6 : tie.Need-same-length-6 Inv-loop μ-loop
 same-length-6 c = search needs
+
+same-length-7 : tie.Need-same-length-7 Inv-loop μ-loop
+same-length-7 c = search needs
+
+same-length-8 : tie.Need-same-length-8 Inv-loop μ-loop
+same-length-8 c = search needs
 
 returns-2 : tie.Need-returns-2 Inv-loop μ-loop
 returns-2 c = search needs
@@ -72,8 +83,10 @@ whole-spec =
     same-length
     same-length-2
     same-length-3
-    returns
     same-length-4
+    returns
     same-length-5
     same-length-6
+    same-length-7
+    same-length-8
     returns-2)
