@@ -1,4 +1,4 @@
-/* What the kit's library os calls of the C code behind it, for the machine that plays the scripts: the program's words. */
+/* The C code that the kit's library os calls, for the machine that plays the scripts: the words of the command. */
 #include <errno.h>
 #include <stddef.h>
 #include <string.h>

@@ -8,8 +8,9 @@ use std::ops::Range;
 /// A slip as a range of tokens and what stands there instead.
 pub type Replaced = (Slip, Range<usize>, String);
 
-/// `if .. { .. return ..; }` with no `else`: its block, and the place behind it.
+/// `if .. { .. return ..; }` with no `else`: its condition, its block, and the place behind it.
 struct Check {
+    condition: Range<usize>,
     block: Range<usize>,
     end: usize,
 }
@@ -42,14 +43,14 @@ fn check(source: &Source, at: usize) -> Option<Check> {
     }
     let open = source.next(at + 1, &["{"]);
     let end = source.behind(open);
-    let block = open + 1..end - 1;
+    let (condition, block) = (at + 1..open, open + 1..end - 1);
     let mut statement = block.start;
     let mut last = "";
     while statement < block.end {
         last = source.word(statement);
         statement = source.next(statement, &[";", "}"]) + 1;
     }
-    (last == "return" && source.word(end) != "else").then_some(Check { block, end })
+    (last == "return" && source.word(end) != "else").then_some(Check { condition, block, end })
 }
 
 fn dropped(source: &Source, at: usize) -> Option<Replaced> {
@@ -69,7 +70,8 @@ fn negated(source: &Source, at: usize) -> Option<Replaced> {
     Some((Slip::Negation, condition, new))
 }
 
-/// A check behind the next one; what is named between them stays before both. Checks with one answer are left.
+/// A check behind the next one; what is named between them stays before both. Two checks with one
+/// answer are left, and so are two that never both hold.
 fn exchanged(source: &Source, at: usize) -> Option<Replaced> {
     let first = check(source, at)?;
     let mut place = first.end;
@@ -77,12 +79,19 @@ fn exchanged(source: &Source, at: usize) -> Option<Replaced> {
         place = source.next(place, &[";"]) + 1;
     }
     let second = check(source, place)?;
-    if source.between(&first.block) == source.between(&second.block) {
+    let alike = source.between(&first.block) == source.between(&second.block);
+    if alike || apart(source, &first.condition, &second.condition) {
         return None;
     }
     let rest = source.between(&(first.end..second.end));
     let new = format!("{rest} {}", source.between(&(at..first.end)));
     Some((Slip::Exchanged, at..second.end, new))
+}
+
+/// `x == 1` and `x == 2`.
+fn apart(source: &Source, one: &Range<usize>, other: &Range<usize>) -> bool {
+    let left = |range: &Range<usize>| source.between(&(range.start..range.end - 1)).to_string();
+    source.word(one.end - 2) == "==" && left(one) == left(other)
 }
 
 /// A call whose answer nobody takes.
@@ -108,7 +117,11 @@ fn arms(source: &Source, at: usize) -> Vec<Replaced> {
     while place < close {
         let arrow = source.next(place, &["=>"]);
         let block = source.word(arrow + 1) == "{";
-        let end = if block { source.behind(arrow + 1) } else { source.next(arrow + 1, &[",", "}"]) };
+        let end = if block {
+            source.behind(arrow + 1)
+        } else {
+            source.next(arrow + 1, &[",", "}"])
+        };
         all.push((place..arrow, arrow + 1..end));
         place = if source.word(end) == "," { end + 1 } else { end };
     }

@@ -27,7 +27,10 @@ impl Crates {
         let own = fs::read_to_string(root.join("crates.txt"))?;
         let kit = fs::read_to_string(kit_libraries.join("libs.txt"))?;
         let lines = own.lines().chain(kit.lines()).filter_map(line).collect();
-        Ok(Crates { root: root.to_path_buf(), lines })
+        Ok(Crates {
+            root: root.to_path_buf(),
+            lines,
+        })
     }
 
     /// All that the program reaches, of the repository and of the kit.
@@ -77,7 +80,10 @@ impl Crates {
 fn line(text: &str) -> Option<Line> {
     let (name, needs) = text.split('#').next()?.split_once(':')?;
     let needs = needs.split_whitespace().map(str::to_string).collect();
-    Some(Line { name: name.trim().to_string(), needs })
+    Some(Line {
+        name: name.trim().to_string(),
+        needs,
+    })
 }
 
 /// All files below a folder, in order, from that folder on.

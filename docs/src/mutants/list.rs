@@ -12,9 +12,19 @@ pub fn all(sources: &[Source]) -> Vec<Mutant> {
     for (number, source) in sources.iter().enumerate() {
         let mut keep = |slip: Slip, piece: &Piece, range: Range<usize>, new: String| {
             let (start, end) = (source.tokens[range.start].start, source.tokens[range.end - 1].end);
-            found.push(Mutant { slip, source: number, place: piece.name.clone(), start, end, new });
+            found.push(Mutant {
+                slip,
+                source: number,
+                place: piece.name.clone(),
+                start,
+                end,
+                new,
+            });
         };
-        let constants = source.constants.iter().filter(|constant| !only_sizes(sources, &constant.name));
+        let constants = source
+            .constants
+            .iter()
+            .filter(|constant| !only_sizes(sources, &constant.name));
         for piece in constants.chain(&source.bodies) {
             for at in piece.range.clone() {
                 for (slip, new) in operators::slips(source, at, &enums) {
@@ -33,7 +43,9 @@ pub fn all(sources: &[Source]) -> Vec<Mutant> {
 
 /// A constant that is nothing but the length of arrays: `[.. ; NAME]` wherever code names it.
 fn only_sizes(sources: &[Source], name: &str) -> bool {
-    let mut places = sources.iter().flat_map(|source| (1..source.tokens.len()).map(move |at| (source, at)));
+    let mut places = sources
+        .iter()
+        .flat_map(|source| (1..source.tokens.len()).map(move |at| (source, at)));
     places.all(|(source, at)| {
         let (before, after) = (source.word(at - 1), source.word(at + 1));
         let named = matches!(before, "const" | "::");

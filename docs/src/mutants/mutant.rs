@@ -56,10 +56,23 @@ impl Mutant {
         while source.text[first..].trim_start().starts_with("return") {
             first = line_start(&source.text, first - 1); // with what it is the answer to
         }
-        let last = source.text[self.end..].find('\n').map_or(source.text.len(), |at| self.end + at);
+        let last = source.text[self.end..]
+            .find('\n')
+            .map_or(source.text.len(), |at| self.end + at);
         let before = &source.text[first..last];
-        let after = format!("{}{}{}", &source.text[first..self.start], self.new, &source.text[self.end..last]);
-        format!("`{}::{}`: `{}` -> `{}`", source.of, self.place, plain(before), plain(&after))
+        let after = format!(
+            "{}{}{}",
+            &source.text[first..self.start],
+            self.new,
+            &source.text[self.end..last]
+        );
+        format!(
+            "`{}::{}`: `{}` -> `{}`",
+            source.of,
+            self.place,
+            plain(before),
+            plain(&after)
+        )
     }
 }
 

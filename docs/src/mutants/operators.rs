@@ -34,11 +34,17 @@ fn other_marks(mark: &str) -> (Slip, &'static [&'static str]) {
 pub fn slips(source: &Source, at: usize, enums: &[(String, Vec<String>)]) -> Vec<(Slip, String)> {
     let word = source.word(at);
     match source.tokens[at].sort {
-        Sort::Number => numbers(source, at).into_iter().map(|new| (Slip::Literal, new)).collect(),
+        Sort::Number => numbers(source, at)
+            .into_iter()
+            .map(|new| (Slip::Literal, new))
+            .collect(),
         Sort::Mark => marks(source, at),
         Sort::Word if word == "true" => vec![(Slip::Literal, "false".to_string())],
         Sort::Word if word == "false" => vec![(Slip::Literal, "true".to_string())],
-        Sort::Word => variant(source, at, enums).into_iter().map(|new| (Slip::Variant, new)).collect(),
+        Sort::Word => variant(source, at, enums)
+            .into_iter()
+            .map(|new| (Slip::Variant, new))
+            .collect(),
         Sort::Text => Vec::new(),
     }
 }
@@ -79,13 +85,21 @@ fn numbers(source: &Source, at: usize) -> Vec<String> {
     }
     let word = source.word(at);
     let (base, digits) = word.strip_prefix("0x").map_or((10, word), |digits| (16, digits));
-    let end = digits.find(|c: char| !c.is_digit(base) && c != '_').unwrap_or(digits.len());
+    let end = digits
+        .find(|c: char| !c.is_digit(base) && c != '_')
+        .unwrap_or(digits.len());
     let (digits, suffix) = digits.split_at(end);
     let Ok(value) = u64::from_str_radix(&digits.replace('_', ""), base) else {
         return Vec::new();
     };
     let near = [Some(value + 1), value.checked_sub(1)];
-    let written = |value: u64| if base == 16 { format!("{value:#x}{suffix}") } else { format!("{value}{suffix}") };
+    let written = |value: u64| {
+        if base == 16 {
+            format!("{value:#x}{suffix}")
+        } else {
+            format!("{value}{suffix}")
+        }
+    };
     near.into_iter().flatten().map(written).collect()
 }
 
@@ -95,7 +109,9 @@ fn variant(source: &Source, at: usize, enums: &[(String, Vec<String>)]) -> Optio
         return None;
     }
     let (of, word) = (source.word(at - 2), source.word(at));
-    let all = enums.iter().find(|(name, all)| name == of && all.iter().any(|one| one == word));
+    let all = enums
+        .iter()
+        .find(|(name, all)| name == of && all.iter().any(|one| one == word));
     let (_, all) = all?;
     let place = all.iter().position(|one| one == word)?;
     let next = &all[(place + 1) % all.len()];

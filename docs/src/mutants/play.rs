@@ -29,13 +29,20 @@ impl Script {
     pub fn read(commands: &str, answers: &str) -> io::Result<Script> {
         let stem = Path::new(commands).file_stem().unwrap_or_default();
         let name = stem.to_string_lossy().into_owned();
-        Ok(Script { name, commands: PathBuf::from(commands), answers: fs::read(answers)? })
+        Ok(Script {
+            name,
+            commands: PathBuf::from(commands),
+            answers: fs::read(answers)?,
+        })
     }
 
     /// It stops at the first byte that differs, and after so long.
     pub fn play(&self, program: &Path, limit: Duration) -> io::Result<Ending> {
         let mut command = Command::new(program);
-        command.stdin(File::open(&self.commands)?).stdout(Stdio::piped()).stderr(Stdio::null());
+        command
+            .stdin(File::open(&self.commands)?)
+            .stdout(Stdio::piped())
+            .stderr(Stdio::null());
         let mut child = command.spawn()?;
         let id = child.id().to_string();
         let (ended, end) = mpsc::channel::<()>();

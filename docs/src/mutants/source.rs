@@ -30,7 +30,15 @@ impl Source {
         let tokens = tokens(&text);
         let of = of.to_string();
         let (bodies, constants, enums) = (Vec::new(), Vec::new(), Vec::new());
-        let mut source = Source { of, file, text, tokens, bodies, constants, enums };
+        let mut source = Source {
+            of,
+            file,
+            text,
+            tokens,
+            bodies,
+            constants,
+            enums,
+        };
         let mut at = 0;
         while at < source.tokens.len() {
             at = match source.word(at) {
@@ -45,7 +53,9 @@ impl Source {
 
     /// The text of a token; nothing behind the last.
     pub fn word(&self, at: usize) -> &str {
-        self.tokens.get(at).map_or("", |token| &self.text[token.start..token.end])
+        self.tokens
+            .get(at)
+            .map_or("", |token| &self.text[token.start..token.end])
     }
 
     pub fn is(&self, at: usize, sort: Sort) -> bool {
@@ -93,7 +103,10 @@ impl Source {
         }
         let end = self.behind(place);
         if self.word(place) == "{" {
-            self.bodies.push(Piece { name, range: place + 1..end - 1 });
+            self.bodies.push(Piece {
+                name,
+                range: place + 1..end - 1,
+            });
         }
         end
     }
@@ -102,7 +115,10 @@ impl Source {
         let name = self.word(at + 1).to_string();
         let equals = self.next(at, &["="]);
         let end = self.next(equals, &[";"]);
-        self.constants.push(Piece { name, range: equals + 1..end });
+        self.constants.push(Piece {
+            name,
+            range: equals + 1..end,
+        });
         end
     }
 

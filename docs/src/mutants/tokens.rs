@@ -51,7 +51,8 @@ pub fn tokens(text: &str) -> Vec<Token> {
 
 /// Letters, digits and underlines: a word, or a number with the name of its type.
 fn run(rest: &str) -> usize {
-    rest.find(|c: char| !c.is_alphanumeric() && c != '_').unwrap_or(rest.len())
+    rest.find(|c: char| !c.is_alphanumeric() && c != '_')
+        .unwrap_or(rest.len())
 }
 
 /// A character in quotes; a lifetime has no second quote.
