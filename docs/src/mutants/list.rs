@@ -4,9 +4,11 @@ use crate::checks;
 use crate::mutant::{Mutant, Slip};
 use crate::operators;
 use crate::source::{Piece, Source};
+use std::collections::HashSet;
 use std::ops::Range;
 
-pub fn all(sources: &[Source]) -> Vec<Mutant> {
+/// Those of the functions that the program calls, by their symbols, and of the constants.
+pub fn all(sources: &[Source], called: &HashSet<String>) -> Vec<Mutant> {
     let enums: Vec<_> = sources.iter().flat_map(|source| source.enums.clone()).collect();
     let mut found = Vec::new();
     for (number, source) in sources.iter().enumerate() {
@@ -25,14 +27,19 @@ pub fn all(sources: &[Source]) -> Vec<Mutant> {
             .constants
             .iter()
             .filter(|constant| !only_sizes(sources, &constant.name));
-        for piece in constants.chain(&source.bodies) {
+        let bodies: Vec<&Piece> = source
+            .bodies
+            .iter()
+            .filter(|body| called.contains(&source.symbol(&body.name)))
+            .collect();
+        for piece in constants.chain(bodies.iter().copied()) {
             for at in piece.range.clone() {
                 for (slip, new) in operators::slips(source, at, &enums) {
                     keep(slip, piece, at..at + 1, new);
                 }
             }
         }
-        for piece in &source.bodies {
+        for piece in bodies {
             for (slip, range, new) in checks::slips(source, piece) {
                 keep(slip, piece, range, new);
             }

@@ -46,11 +46,11 @@ fn run(settings: &Settings) -> io::Result<bool> {
     for name in &names {
         sources.extend(crates.sources(name)?);
     }
-    let all = list::all(&sources);
-    println!("{} slips could be made in {}", all.len(), names.join(", "));
-    let drawn = list::drawn(all, settings.count, settings.seed);
     let rooms = rooms(settings, &kit, &crates)?;
     let limit = limit(&rooms[0], &settings.scripts)?;
+    let all = list::all(&sources, &rooms[0].called()?);
+    println!("{} slips could be made in {}", all.len(), names.join(", "));
+    let drawn = list::drawn(all, settings.count, settings.seed);
     let began = Instant::now();
     let log = File::create(settings.folder.join("fates.txt"))?;
     let fates = Trial::new(&sources, &settings.scripts, limit, log).all(&rooms, &drawn)?;

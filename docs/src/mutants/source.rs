@@ -95,6 +95,19 @@ impl Source {
         place
     }
 
+    /// The name of a function of this file in the program: its crate, its modules, its own.
+    pub fn symbol(&self, function: &str) -> String {
+        let stem = self.file.with_extension("");
+        let modules = stem.iter().map(|part| part.to_string_lossy().into_owned());
+        let modules = modules.filter(|module| module != "lib" && module != "mod");
+        let all: Vec<String> = [self.of.clone()]
+            .into_iter()
+            .chain(modules)
+            .chain([function.to_string()])
+            .collect();
+        all.join("::")
+    }
+
     fn function(&mut self, at: usize) -> usize {
         let name = self.word(at + 1).to_string();
         let mut place = self.next(at, &["{", ";"]);
