@@ -75,3 +75,16 @@ pub fn drawn(mut mutants: Vec<Mutant>, count: usize, seed: u64) -> Vec<Mutant> {
     mutants.truncate(count);
     mutants
 }
+
+/// Those that survived an earlier run, by its list of fates.
+pub fn survivors(sources: &[Source], mutants: Vec<Mutant>, fates: &str) -> Vec<Mutant> {
+    let survived: HashSet<&str> = fates
+        .lines()
+        .filter_map(|line| line.strip_prefix("survives\t"))
+        .collect();
+    let line = |mutant: &Mutant| format!("{}\t{}", mutant.slip.name(), mutant.title(&sources[mutant.source]));
+    mutants
+        .into_iter()
+        .filter(|mutant| survived.contains(line(mutant).as_str()))
+        .collect()
+}

@@ -50,7 +50,10 @@ fn run(settings: &Settings) -> io::Result<bool> {
     let limit = limit(&rooms[0], &settings.scripts)?;
     let all = list::all(&sources, &rooms[0].called()?);
     println!("{} slips could be made in {}", all.len(), names.join(", "));
-    let drawn = list::drawn(all, settings.count, settings.seed);
+    let drawn = match &settings.again {
+        Some(fates) => list::survivors(&sources, all, fates),
+        None => list::drawn(all, settings.count, settings.seed),
+    };
     let began = Instant::now();
     let log = File::create(settings.folder.join("fates.txt"))?;
     let fates = Trial::new(&sources, &settings.scripts, limit, log).all(&rooms, &drawn)?;

@@ -1,6 +1,7 @@
 //! What the words of the command say.
 
 use crate::play::Script;
+use std::fs;
 use std::io;
 use std::path::PathBuf;
 
@@ -12,6 +13,8 @@ pub struct Settings {
     pub count: usize,
     pub seed: u64,
     pub jobs: usize,
+    /// What an earlier run found: those that survived it, and no others, are tried.
+    pub again: Option<String>,
     pub scripts: Vec<Script>,
     /// None: all that hold the standard's work.
     pub crates: Vec<String>,
@@ -27,6 +30,7 @@ impl Settings {
             count: usize::MAX,
             seed: 1,
             jobs: 1,
+            again: None,
             scripts: Vec::new(),
             crates: Vec::new(),
         };
@@ -42,6 +46,7 @@ impl Settings {
                 "count" => settings.count = number(value)?,
                 "seed" => settings.seed = number(value)? as u64,
                 "jobs" => settings.jobs = number(value)?.max(1),
+                "again" => settings.again = Some(fs::read_to_string(value)?),
                 "script" => {
                     let (commands, answers) = value.split_once(',').ok_or(wrong(value))?;
                     settings.scripts.push(Script::read(commands, answers)?);
