@@ -15,7 +15,7 @@ mod tokens;
 mod trial;
 
 use crate::crates::Crates;
-use kit::{Kit, Room};
+use kit::{Kit, Room, FAST};
 use play::{Ending, Script};
 use settings::Settings;
 use std::fs::{self, File};
@@ -47,9 +47,12 @@ fn run(settings: &Settings) -> io::Result<bool> {
         sources.extend(crates.sources(name)?);
     }
     let rooms = rooms(settings, &kit, &crates)?;
-    let limit = limit(&rooms[0], &settings.scripts)?;
+    if !rooms[0].module()? {
+        return Err(io::Error::other("the front end does not take the program itself"));
+    }
     let all = list::all(&sources, &rooms[0].called()?);
     println!("{} slips could be made in {}", all.len(), names.join(", "));
+    let limit = limit(&rooms[0], &settings.scripts)?;
     let drawn = match &settings.again {
         Some(fates) => list::survivors(&sources, all, fates),
         None => list::drawn(all, settings.count, settings.seed),
@@ -75,9 +78,7 @@ fn rooms<'a>(settings: &Settings, kit: &'a Kit, crates: &Crates) -> io::Result<V
 
 /// The program itself must answer every script as expected; a mutant has ten times as long, and ten seconds.
 fn limit(room: &Room, scripts: &[Script]) -> io::Result<Duration> {
-    if !room.build()? {
-        return Err(io::Error::other("the program itself is not built"));
-    }
+    room.build(FAST)?;
     let mut longest = Duration::ZERO;
     for script in scripts {
         let began = Instant::now();

@@ -1,6 +1,6 @@
 //! The trial of mutants: each is built and played, and what became of it is kept.
 
-use crate::kit::Room;
+use crate::kit::{Room, FAST, SOON};
 use crate::mutant::Mutant;
 use crate::play::{Ending, Script};
 use crate::source::Source;
@@ -10,6 +10,9 @@ use std::io::{self, Write};
 use std::sync::Mutex;
 use std::thread;
 use std::time::Duration;
+
+/// How long a mutant is looked at that was made soon.
+const LOOK: Duration = Duration::from_secs(2);
 
 /// What became of a mutant.
 #[derive(Clone, Copy)]
@@ -65,7 +68,7 @@ impl<'a> Trial<'a> {
     fn one(&self, room: &Room, mutant: &Mutant) -> io::Result<Fate> {
         let source = &self.sources[mutant.source];
         room.write(&source.of, &source.file, &mutant.text(source))?;
-        let built = room.build()?;
+        let built = room.module()?;
         room.write(&source.of, &source.file, &source.text)?;
         let (fate, told) = match built.then(|| self.played(room, &source.of)).transpose()? {
             None => (Fate::NotBuilt, "not built"),
@@ -81,12 +84,26 @@ impl<'a> Trial<'a> {
     fn played(&self, room: &Room, of: &str) -> io::Result<Option<(usize, Ending)>> {
         let usual = || (0..self.scripts.len()).collect();
         let order: Vec<usize> = self.orders.lock().unwrap().get(of).cloned().unwrap_or_else(usual);
-        for &number in &order {
+        let Some((number, ending)) = self.told(room, &order)? else {
+            return Ok(None);
+        };
+        let rest = order.iter().copied().filter(|other| *other != number);
+        let order = [number].into_iter().chain(rest).collect();
+        self.orders.lock().unwrap().insert(of.to_string(), order);
+        Ok(Some((number, ending)))
+    }
+
+    /// Most die of the first script at once, and are not worth the time that a fast program takes to make.
+    fn told(&self, room: &Room, order: &[usize]) -> io::Result<Option<(usize, Ending)>> {
+        room.build(SOON)?;
+        let ending = self.scripts[order[0]].play(&room.program(), LOOK)?;
+        if matches!(ending, Ending::Differs | Ending::Crashed) {
+            return Ok(Some((order[0], ending)));
+        }
+        room.build(FAST)?;
+        for &number in order {
             let ending = self.scripts[number].play(&room.program(), self.limit)?;
             if ending != Ending::Same {
-                let rest = order.iter().copied().filter(|other| *other != number);
-                let order = [number].into_iter().chain(rest).collect();
-                self.orders.lock().unwrap().insert(of.to_string(), order);
                 return Ok(Some((number, ending)));
             }
         }
