@@ -8,6 +8,7 @@ mod list;
 mod mutant;
 mod operators;
 mod play;
+mod room;
 mod settings;
 mod source;
 mod tally;
@@ -15,8 +16,9 @@ mod tokens;
 mod trial;
 
 use crate::crates::Crates;
-use kit::{Kit, Room, FAST};
+use kit::{Kit, FAST};
 use play::{Ending, Script};
+use room::Room;
 use settings::Settings;
 use std::fs::{self, File};
 use std::io;
@@ -71,8 +73,8 @@ fn run(settings: &Settings) -> io::Result<bool> {
 
 /// One folder for each mutant that is built at a time.
 fn rooms<'a>(settings: &Settings, kit: &'a Kit, crates: &Crates) -> io::Result<Vec<Room<'a>>> {
-    let around = Path::new("docs/src/mutants/around.c");
-    let room = |job| Room::new(kit, crates, settings.folder.join(format!("room{job}")), around);
+    let os = Path::new("docs/src/mutants/os.c");
+    let room = |job| Room::new(kit, crates, settings.folder.join(format!("room{job}")), os);
     (0..settings.jobs).map(room).collect()
 }
 

@@ -1,8 +1,9 @@
 //! The trial of mutants: each is built and played, and what became of it is kept.
 
-use crate::kit::{Room, FAST, SOON};
+use crate::kit::{FAST, SOON};
 use crate::mutant::Mutant;
 use crate::play::{Ending, Script};
+use crate::room::Room;
 use crate::source::Source;
 use std::collections::HashMap;
 use std::fs::File;
