@@ -5,12 +5,13 @@ use crate::mutant::Mutant;
 use crate::play::{Ending, Script};
 use crate::room::Room;
 use crate::source::Source;
+use std::cmp::Reverse;
 use std::collections::HashMap;
 use std::fs::File;
 use std::io::{self, Write};
 use std::sync::Mutex;
 use std::thread;
-use std::time::Duration;
+use std::time::{Duration, Instant};
 
 /// How long a mutant is looked at that was made soon.
 const LOOK: Duration = Duration::from_secs(2);
@@ -28,20 +29,20 @@ pub struct Trial<'a> {
     sources: &'a [Source],
     scripts: &'a [Script],
     limit: Duration,
-    /// For each crate the scripts in the order in which they are played: the one that killed last comes first.
-    orders: Mutex<HashMap<String, Vec<usize>>>,
+    /// For each crate how many mutants each script killed: what killed most is played first.
+    kills: Mutex<HashMap<String, Vec<usize>>>,
     /// Has each mutant as soon as it was tried.
     log: Mutex<File>,
 }
 
 impl<'a> Trial<'a> {
     pub fn new(sources: &'a [Source], scripts: &'a [Script], limit: Duration, log: File) -> Trial<'a> {
-        let (orders, log) = (Mutex::new(HashMap::new()), Mutex::new(log));
+        let (kills, log) = (Mutex::new(HashMap::new()), Mutex::new(log));
         Trial {
             sources,
             scripts,
             limit,
-            orders,
+            kills,
             log,
         }
     }
@@ -81,25 +82,30 @@ impl<'a> Trial<'a> {
         Ok(fate)
     }
 
-    /// The first script that tells the mutant from the program.
+    /// The script that tells the mutant from the program.
     fn played(&self, room: &Room, of: &str) -> io::Result<Option<(usize, Ending)>> {
-        let usual = || (0..self.scripts.len()).collect();
-        let order: Vec<usize> = self.orders.lock().unwrap().get(of).cloned().unwrap_or_else(usual);
-        let Some((number, ending)) = self.told(room, &order)? else {
-            return Ok(None);
-        };
-        let rest = order.iter().copied().filter(|other| *other != number);
-        let order = [number].into_iter().chain(rest).collect();
-        self.orders.lock().unwrap().insert(of.to_string(), order);
-        Ok(Some((number, ending)))
+        let none = || vec![0; self.scripts.len()];
+        let kills = self.kills.lock().unwrap().get(of).cloned().unwrap_or_else(none);
+        let mut order: Vec<usize> = (0..self.scripts.len()).collect();
+        order.sort_by_key(|number| Reverse(kills[*number]));
+        let killer = self.killer(room, &order)?;
+        if let Some((number, _)) = killer {
+            self.kills.lock().unwrap().entry(of.to_string()).or_insert_with(none)[number] += 1;
+        }
+        Ok(killer)
     }
 
-    /// Most die of the first script at once, and are not worth the time that a fast program takes to make.
-    fn told(&self, room: &Room, order: &[usize]) -> io::Result<Option<(usize, Ending)>> {
+    /// Most die at once, and are not worth the time that a fast program takes to make.
+    fn killer(&self, room: &Room, order: &[usize]) -> io::Result<Option<(usize, Ending)>> {
         room.build(SOON)?;
-        let ending = self.scripts[order[0]].play(&room.program(), LOOK)?;
-        if matches!(ending, Ending::Differs | Ending::Crashed) {
-            return Ok(Some((order[0], ending)));
+        let end = Instant::now() + LOOK;
+        for &number in order {
+            let left = end.saturating_duration_since(Instant::now());
+            match self.scripts[number].play(&room.program(), left)? {
+                Ending::Same => {}
+                Ending::Late => break,
+                ending => return Ok(Some((number, ending))),
+            }
         }
         room.build(FAST)?;
         for &number in order {
