@@ -12,31 +12,31 @@ mod messages;
 mod plain_aes;
 
 // Of the second program, the tag, and what makes the messages that it accepts.
-#[path = "../second/chaining.rs"]
+#[path = "../second/standard/chaining.rs"]
 #[allow(dead_code)]
 mod chaining;
-#[path = "../second/cmac.rs"]
+#[path = "../second/standard/cmac.rs"]
 #[allow(dead_code)]
 mod cmac;
-#[path = "../second/frames.rs"]
+#[path = "../second/standard/frames.rs"]
 #[allow(dead_code)]
 mod frames;
 #[path = "../second/hex.rs"]
 #[allow(dead_code)]
 mod hex;
-#[path = "../second/memory.rs"]
+#[path = "../second/standard/memory.rs"]
 #[allow(dead_code)]
 mod memory;
-#[path = "../second/reader.rs"]
+#[path = "../second/standard/messages.rs"]
 #[allow(dead_code)]
 mod reader;
-#[path = "../second/session.rs"]
+#[path = "../second/standard/session.rs"]
 #[allow(dead_code)]
 mod session;
-#[path = "../second/sheet.rs"]
+#[path = "../second/standard/sheet.rs"]
 #[allow(dead_code)]
 mod sheet;
-#[path = "../second/tag.rs"]
+#[path = "../second/standard/tag.rs"]
 #[allow(dead_code)]
 mod tag;
 

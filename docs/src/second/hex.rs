@@ -5,7 +5,8 @@ pub fn hex(bytes: &[u8]) -> String {
     bytes.iter().map(|b| format!("{b:02x}")).collect()
 }
 
-/// The bytes of hexadecimal text. Blanks between digits are skipped, so that a vector can be laid out as its paper has it.
+/// The bytes of hexadecimal text. Blanks between digits are skipped, so that a vector can be laid out as its paper
+/// has it.
 pub fn bytes(text: &str) -> Vec<u8> {
     let digits: Vec<u32> = text
         .chars()
@@ -18,7 +19,9 @@ pub fn bytes(text: &str) -> Vec<u8> {
 
 /// The 16 bytes of a key, an IV or a block.
 pub fn block(text: &str) -> [u8; 16] {
-    bytes(text).try_into().unwrap_or_else(|_| panic!("not 16 bytes: {text}"))
+    bytes(text)
+        .try_into()
+        .unwrap_or_else(|_| panic!("not 16 bytes: {text}"))
 }
 
 /// Up to 16 bytes as a number, most significant first.
