@@ -54,20 +54,18 @@ fn run(settings: &Settings) -> io::Result<bool> {
     }
     let all = list::all(&sources, &rooms[0].called()?);
     println!("{} slips could be made in {}", all.len(), names.join(", "));
-    let limit = limit(&rooms[0], &settings.scripts)?;
+    let limits = limits(&rooms[0], &settings.scripts)?;
     let drawn = match &settings.again {
         Some(fates) => list::survivors(&sources, all, fates),
         None => list::drawn(all, settings.count, settings.seed),
     };
     let began = Instant::now();
     let log = File::create(settings.folder.join("fates.txt"))?;
-    let fates = Trial::new(&sources, &settings.scripts, limit, log).all(&rooms, &drawn)?;
+    let fates = Trial::new(&sources, &settings.scripts, limits, log).all(&rooms, &drawn)?;
     let document = fs::read_to_string("docs/MUTANTS.md").unwrap_or_default();
     let explained = tally::told(&sources, &settings.scripts, &fates, &document);
-    println!(
-        "{:.1} s a mutant",
-        began.elapsed().as_secs_f64() / fates.len().max(1) as f64
-    );
+    let seconds = began.elapsed().as_secs_f64();
+    println!("{:.1} s a mutant", seconds / fates.len().max(1) as f64);
     Ok(explained)
 }
 
@@ -78,23 +76,18 @@ fn rooms<'a>(settings: &Settings, kit: &'a Kit, crates: &Crates) -> io::Result<V
     (0..settings.jobs).map(room).collect()
 }
 
-/// The program itself must answer every script as expected; a mutant has ten times as long, and ten seconds.
-fn limit(room: &Room, scripts: &[Script]) -> io::Result<Duration> {
+/// The program itself must answer every script as expected; a mutant has four times as long, and five seconds.
+fn limits(room: &Room, scripts: &[Script]) -> io::Result<Vec<Duration>> {
     room.build(FAST)?;
-    let mut longest = Duration::ZERO;
+    let mut limits = Vec::new();
     for script in scripts {
-        let began = Instant::now();
+        let (name, began) = (&script.name, Instant::now());
         if script.play(&room.program(), Duration::from_secs(3600))? != Ending::Same {
-            let name = &script.name;
             return Err(io::Error::other(format!("the program itself fails the script {name}")));
         }
         let took = began.elapsed();
-        println!(
-            "the program itself answers {} in {:.2} s",
-            script.name,
-            took.as_secs_f64()
-        );
-        longest = longest.max(took);
+        println!("the program itself answers {name} in {:.2} s", took.as_secs_f64());
+        limits.push(took * 4 + Duration::from_secs(5));
     }
-    Ok(longest * 10 + Duration::from_secs(10))
+    Ok(limits)
 }

@@ -28,7 +28,8 @@ pub enum Fate {
 pub struct Trial<'a> {
     sources: &'a [Source],
     scripts: &'a [Script],
-    limit: Duration,
+    /// How long a mutant may take for each script.
+    limits: Vec<Duration>,
     /// For each crate how many mutants each script killed: what killed most is played first.
     kills: Mutex<HashMap<String, Vec<usize>>>,
     /// Has each mutant as soon as it was tried.
@@ -36,12 +37,12 @@ pub struct Trial<'a> {
 }
 
 impl<'a> Trial<'a> {
-    pub fn new(sources: &'a [Source], scripts: &'a [Script], limit: Duration, log: File) -> Trial<'a> {
+    pub fn new(sources: &'a [Source], scripts: &'a [Script], limits: Vec<Duration>, log: File) -> Trial<'a> {
         let (kills, log) = (Mutex::new(HashMap::new()), Mutex::new(log));
         Trial {
             sources,
             scripts,
-            limit,
+            limits,
             kills,
             log,
         }
@@ -109,7 +110,7 @@ impl<'a> Trial<'a> {
         }
         room.build(FAST)?;
         for &number in order {
-            let ending = self.scripts[number].play(&room.program(), self.limit)?;
+            let ending = self.scripts[number].play(&room.program(), self.limits[number])?;
             if ending != Ending::Same {
                 return Ok(Some((number, ending)));
             }
