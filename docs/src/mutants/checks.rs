@@ -1,7 +1,7 @@
 //! Slips in whole checks: one dropped, two exchanged, a condition negated; a call dropped, two arms exchanged.
 
 use crate::mutant::Slip;
-use crate::source::{Piece, Source};
+use crate::source::Source;
 use crate::tokens::Sort;
 use std::ops::Range;
 
@@ -15,9 +15,9 @@ struct Check {
     end: usize,
 }
 
-pub fn slips(source: &Source, body: &Piece) -> Vec<Replaced> {
+pub fn slips(source: &Source, body: Range<usize>) -> Vec<Replaced> {
     let mut found = Vec::new();
-    for at in body.range.clone() {
+    for at in body {
         match source.word(at) {
             "if" => {
                 found.extend(negated(source, at));

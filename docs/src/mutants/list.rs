@@ -2,62 +2,40 @@
 
 use crate::checks;
 use crate::mutant::{Mutant, Slip};
-use crate::operators;
-use crate::source::{Piece, Source};
+use crate::operators::{self, Names};
+use crate::source::Source;
 use std::collections::HashSet;
 use std::ops::Range;
 
-/// Those of the functions that the program calls, by their symbols, and of the constants.
+/// Those of the functions that the program calls, by their symbols.
 pub fn all(sources: &[Source], called: &HashSet<String>) -> Vec<Mutant> {
-    let enums: Vec<_> = sources.iter().flat_map(|source| source.enums.clone()).collect();
+    let names = Names::of(sources);
     let mut found = Vec::new();
     for (number, source) in sources.iter().enumerate() {
-        let mut keep = |slip: Slip, piece: &Piece, range: Range<usize>, new: String| {
-            let (start, end) = (source.tokens[range.start].start, source.tokens[range.end - 1].end);
-            found.push(Mutant {
-                slip,
-                source: number,
-                place: piece.name.clone(),
-                start,
-                end,
-                new,
-            });
-        };
-        let constants = source
-            .constants
-            .iter()
-            .filter(|constant| !only_sizes(sources, &constant.name));
-        let bodies: Vec<&Piece> = source
-            .bodies
-            .iter()
-            .filter(|body| called.contains(&source.symbol(&body.name)))
-            .collect();
-        for piece in constants.chain(bodies.iter().copied()) {
-            for at in piece.range.clone() {
-                for (slip, new) in operators::slips(source, at, &enums) {
-                    keep(slip, piece, at..at + 1, new);
+        let functions = source.functions.iter().enumerate();
+        for (place, function) in functions.filter(|(_, function)| called.contains(&source.symbol(function))) {
+            let mut keep = |slip: Slip, range: Range<usize>, new: String| {
+                let (start, end) = (source.tokens[range.start].start, source.tokens[range.end - 1].end);
+                found.push(Mutant {
+                    slip,
+                    source: number,
+                    function: place,
+                    start,
+                    end,
+                    new,
+                });
+            };
+            for at in function.body.clone() {
+                for (slip, new) in operators::slips(source, at, &names) {
+                    keep(slip, at..at + 1, new);
                 }
             }
-        }
-        for piece in bodies {
-            for (slip, range, new) in checks::slips(source, piece) {
-                keep(slip, piece, range, new);
+            for (slip, range, new) in checks::slips(source, function.body.clone()) {
+                keep(slip, range, new);
             }
         }
     }
     found
-}
-
-/// A constant that is nothing but the length of arrays: `[.. ; NAME]` wherever code names it.
-fn only_sizes(sources: &[Source], name: &str) -> bool {
-    let mut places = sources
-        .iter()
-        .flat_map(|source| (1..source.tokens.len()).map(move |at| (source, at)));
-    places.all(|(source, at)| {
-        let (before, after) = (source.word(at - 1), source.word(at + 1));
-        let named = matches!(before, "const" | "::");
-        source.word(at) != name || named || (before == ";" && after == "]")
-    })
 }
 
 /// The first `count` of the mutants in an order drawn from the seed (splitmix64).

@@ -14,18 +14,24 @@ mod source;
 mod tally;
 mod tokens;
 mod trial;
+mod woven;
 
 use crate::crates::Crates;
 use kit::{Kit, FAST};
+use mutant::Mutant;
 use play::{Ending, Script};
 use room::Room;
 use settings::Settings;
+use source::Source;
+use std::collections::HashSet;
 use std::fs::{self, File};
 use std::io;
 use std::path::Path;
 use std::process::ExitCode;
+use std::sync::Mutex;
 use std::time::{Duration, Instant};
-use trial::Trial;
+use trial::{Fate, Trial};
+use woven::{Numbered, Woven};
 
 fn main() -> ExitCode {
     match Settings::read(std::env::args().skip(1)).and_then(|settings| run(&settings)) {
@@ -48,32 +54,38 @@ fn run(settings: &Settings) -> io::Result<bool> {
     for name in &names {
         sources.extend(crates.sources(name)?);
     }
-    let rooms = rooms(settings, &kit, &crates)?;
-    if !rooms[0].module()? {
+    let os = Path::new("docs/src/mutants/os.c");
+    let room = Room::new(&kit, &crates, settings.folder.join("room"), os)?;
+    if !room.module()? {
         return Err(io::Error::other("the front end does not take the program itself"));
     }
-    let all = list::all(&sources, &rooms[0].called()?);
+    let all = list::all(&sources, &room.called()?);
     println!("{} slips could be made in {}", all.len(), names.join(", "));
-    let limits = limits(&rooms[0], &settings.scripts)?;
     let drawn = match &settings.again {
         Some(fates) => list::survivors(&sources, all, fates),
         None => list::drawn(all, settings.count, settings.seed),
     };
+    let trial = Trial {
+        sources: &sources,
+        scripts: &settings.scripts,
+        limits: limits(&room, &settings.scripts)?,
+        log: Mutex::new(File::create(settings.folder.join("fates.txt"))?),
+    };
     let began = Instant::now();
-    let log = File::create(settings.folder.join("fates.txt"))?;
-    let fates = Trial::new(&sources, &settings.scripts, limits, log).all(&rooms, &drawn)?;
+    let mut fates = Vec::new();
+    for name in &names {
+        let mut own: Vec<&Mutant> = drawn
+            .iter()
+            .filter(|mutant| sources[mutant.source].of == *name)
+            .collect();
+        own.sort_by_key(|mutant| (mutant.source, mutant.function, mutant.start));
+        fates.extend(tried(&trial, &room, name, &own, settings.jobs)?);
+    }
     let document = fs::read_to_string("docs/MUTANTS.md").unwrap_or_default();
     let explained = tally::told(&sources, &settings.scripts, &fates, &document);
     let seconds = began.elapsed().as_secs_f64();
     println!("{:.1} s a mutant", seconds / fates.len().max(1) as f64);
     Ok(explained)
-}
-
-/// One folder for each mutant that is built at a time.
-fn rooms<'a>(settings: &Settings, kit: &'a Kit, crates: &Crates) -> io::Result<Vec<Room<'a>>> {
-    let os = Path::new("docs/src/mutants/os.c");
-    let room = |job| Room::new(kit, crates, settings.folder.join(format!("room{job}")), os);
-    (0..settings.jobs).map(room).collect()
 }
 
 /// The program itself must answer every script as expected; a mutant has four times as long, and five seconds.
@@ -82,7 +94,7 @@ fn limits(room: &Room, scripts: &[Script]) -> io::Result<Vec<Duration>> {
     let mut limits = Vec::new();
     for script in scripts {
         let (name, began) = (&script.name, Instant::now());
-        if script.play(&room.program(), Duration::from_secs(3600))? != Ending::Same {
+        if script.play(&room.program(), 0, Duration::from_secs(3600))? != Ending::Same {
             return Err(io::Error::other(format!("the program itself fails the script {name}")));
         }
         let took = began.elapsed();
@@ -90,4 +102,68 @@ fn limits(room: &Room, scripts: &[Script]) -> io::Result<Vec<Duration>> {
         limits.push(took * 4 + Duration::from_secs(5));
     }
     Ok(limits)
+}
+
+/// The mutants of one crate, in one program.
+fn tried(trial: &Trial, room: &Room, of: &str, own: &[&Mutant], jobs: usize) -> io::Result<Vec<(Mutant, Fate)>> {
+    let all: Vec<Numbered> = own
+        .iter()
+        .enumerate()
+        .map(|(place, mutant)| (place + 1, *mutant))
+        .collect();
+    let mut refused = HashSet::new();
+    loop {
+        let taken: Vec<Numbered> = all
+            .iter()
+            .filter(|(number, _)| !refused.contains(number))
+            .copied()
+            .collect();
+        let Some(more) = built(room, trial.sources, of, &taken)? else {
+            break;
+        };
+        refused.extend(more);
+    }
+    room.build(FAST)?;
+    for source in trial.sources.iter().filter(|source| source.of == of) {
+        room.write(of, &source.file, &source.text)?;
+    }
+    let mut fates = Vec::new();
+    for (_, mutant) in all.iter().filter(|(number, _)| refused.contains(number)) {
+        trial.told(mutant, Fate::NotBuilt)?;
+        fates.push(((*mutant).clone(), Fate::NotBuilt));
+    }
+    let taken: Vec<Numbered> = all
+        .iter()
+        .filter(|(number, _)| !refused.contains(number))
+        .copied()
+        .collect();
+    fates.extend(trial.all(&room.program(), &taken, jobs)?);
+    Ok(fates)
+}
+
+/// Makes a module with these mutants of a crate; or says which of them the front end refuses.
+fn built(room: &Room, sources: &[Source], of: &str, mutants: &[Numbered]) -> io::Result<Option<Vec<usize>>> {
+    let mut files = Vec::new();
+    for (place, source) in sources.iter().enumerate().filter(|(_, source)| source.of == of) {
+        let own: Vec<Numbered> = mutants
+            .iter()
+            .filter(|(_, mutant)| mutant.source == place)
+            .copied()
+            .collect();
+        let woven = Woven::new(source, &own);
+        room.write(of, &source.file, &woven.text)?;
+        files.push((&source.file, woven));
+    }
+    if room.module()? {
+        return Ok(None);
+    }
+    let mut refused = Vec::new();
+    for (file, line) in room.refused(of)? {
+        let woven = files.iter().find(|(name, _)| **name == file);
+        refused.extend(woven.and_then(|(_, woven)| woven.at(line)));
+    }
+    match refused.is_empty() {
+        true => Err(io::Error::other(format!("the front end refuses the mutants of {of}"))),
+        false => Ok(Some(refused)),
+    }
 }

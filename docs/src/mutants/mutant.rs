@@ -3,7 +3,7 @@
 use crate::source::Source;
 
 /// What kind of slip it is.
-#[derive(Clone, Copy, PartialEq, Eq, PartialOrd, Ord)]
+#[derive(Clone, Copy)]
 pub enum Slip {
     Comparison,
     Literal,
@@ -35,44 +35,29 @@ impl Slip {
 #[derive(Clone)]
 pub struct Mutant {
     pub slip: Slip,
-    /// The place of its source in the list of sources.
+    /// The place of its source in the list of sources, and of its function in the source.
     pub source: usize,
-    /// The function or constant.
-    pub place: String,
+    pub function: usize,
+    /// What is replaced, by its place in the text, and what stands there instead.
     pub start: usize,
     pub end: usize,
     pub new: String,
 }
 
 impl Mutant {
-    /// The whole source text with the slip.
-    pub fn text(&self, source: &Source) -> String {
-        format!("{}{}{}", &source.text[..self.start], self.new, &source.text[self.end..])
-    }
-
     /// By what a reader finds it again, wherever it moves: the crate, the function, and its lines before and after.
     pub fn title(&self, source: &Source) -> String {
         let mut first = line_start(&source.text, self.start);
         while source.text[first..].trim_start().starts_with("return") {
             first = line_start(&source.text, first - 1); // with what it is the answer to
         }
-        let last = source.text[self.end..]
-            .find('\n')
-            .map_or(source.text.len(), |at| self.end + at);
-        let before = &source.text[first..last];
-        let after = format!(
-            "{}{}{}",
-            &source.text[first..self.start],
-            self.new,
-            &source.text[self.end..last]
-        );
-        format!(
-            "`{}::{}`: `{}` -> `{}`",
-            source.of,
-            self.place,
-            plain(before),
-            plain(&after)
-        )
+        let end = source.text[self.end..].find('\n');
+        let last = end.map_or(source.text.len(), |at| self.end + at);
+        let before = plain(&source.text[first..last]);
+        let (left, right) = (&source.text[first..self.start], &source.text[self.end..last]);
+        let after = plain(&format!("{left}{}{right}", self.new));
+        let name = &source.functions[self.function].name;
+        format!("`{}::{name}`: `{before}` -> `{after}`", source.of)
     }
 }
 

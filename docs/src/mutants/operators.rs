@@ -30,8 +30,25 @@ fn other_marks(mark: &str) -> (Slip, &'static [&'static str]) {
     }
 }
 
-/// What may stand in a token's place. `enums` are those of all sources.
-pub fn slips(source: &Source, at: usize, enums: &[(String, Vec<String>)]) -> Vec<(Slip, String)> {
+/// What the sources name, all together.
+pub struct Names {
+    /// The constants that are a number.
+    numbers: Vec<String>,
+    /// The enums, each with its variants.
+    enums: Vec<(String, Vec<String>)>,
+}
+
+impl Names {
+    pub fn of(sources: &[Source]) -> Names {
+        Names {
+            numbers: sources.iter().flat_map(|source| source.numbers.clone()).collect(),
+            enums: sources.iter().flat_map(|source| source.enums.clone()).collect(),
+        }
+    }
+}
+
+/// What may stand in a token's place.
+pub fn slips(source: &Source, at: usize, names: &Names) -> Vec<(Slip, String)> {
     let word = source.word(at);
     match source.tokens[at].sort {
         Sort::Number => numbers(source, at)
@@ -41,7 +58,8 @@ pub fn slips(source: &Source, at: usize, enums: &[(String, Vec<String>)]) -> Vec
         Sort::Mark => marks(source, at),
         Sort::Word if word == "true" => vec![(Slip::Literal, "false".to_string())],
         Sort::Word if word == "false" => vec![(Slip::Literal, "true".to_string())],
-        Sort::Word => variant(source, at, enums)
+        Sort::Word if names.numbers.iter().any(|name| name == word) => constant(source, at),
+        Sort::Word => variant(source, at, &names.enums)
             .into_iter()
             .map(|new| (Slip::Variant, new))
             .collect(),
@@ -77,10 +95,9 @@ fn alike(source: &Source, at: usize, other: &str) -> bool {
     }
 }
 
-/// One more and one less. The length of an array is its type's and no literal of the code; `.0` is a field.
+/// One more and one less. `.0` is a field.
 fn numbers(source: &Source, at: usize) -> Vec<String> {
-    let length = source.word(at - 1) == ";" && source.word(at + 1) == "]";
-    if length || source.word(at - 1) == "." {
+    if is_length(source, at) || source.word(at - 1) == "." {
         return Vec::new();
     }
     let word = source.word(at);
@@ -101,6 +118,21 @@ fn numbers(source: &Source, at: usize) -> Vec<String> {
         }
     };
     near.into_iter().flatten().map(written).collect()
+}
+
+/// A constant is one more or one less where it is used.
+fn constant(source: &Source, at: usize) -> Vec<(Slip, String)> {
+    let word = source.word(at);
+    if is_length(source, at) || source.word(at - 1) == "::" {
+        return Vec::new();
+    }
+    let near = [format!("({word} + 1)"), format!("({word} - 1)")];
+    near.into_iter().map(|new| (Slip::Literal, new)).collect()
+}
+
+/// `[.. ; LENGTH]`: it is the type's and no number of the code.
+fn is_length(source: &Source, at: usize) -> bool {
+    source.word(at - 1) == ";" && source.word(at + 1) == "]"
 }
 
 /// The variant after this one of the same enum. The variants of a match stand in its arms, which are exchanged.

@@ -1,15 +1,20 @@
-/* The C code that the kit's library os calls, for the machine that plays the scripts: the words of the command. */
+/* The C code that the kit's library os calls, for the machine that plays the scripts: the words of the command,
+ * and which mutant is played. */
 #include <errno.h>
 #include <stddef.h>
+#include <stdlib.h>
 #include <string.h>
 
 static int count;
 static char **words;
+static size_t mutant;
 
 __attribute__((constructor)) static void kept(int given_count, char **given)
 {
     count = given_count;
     words = given;
+    const char *named = getenv("MUTANT");
+    mutant = named ? (size_t)atol(named) : 0;
 }
 
 size_t rattle_arg_count(void)
@@ -33,4 +38,9 @@ ptrdiff_t rattle_arg(size_t i, char *room, size_t size)
 void rattle_set_errno(int error)
 {
     errno = error;
+}
+
+size_t mutant_played(void)
+{
+    return mutant;
 }

@@ -36,9 +36,10 @@ impl Script {
         })
     }
 
-    /// It stops at the first byte that differs, and after so long.
-    pub fn play(&self, program: &Path, limit: Duration) -> io::Result<Ending> {
+    /// Plays a mutant, by its number; 0 is the program itself. It stops at the first byte that differs, and after so long.
+    pub fn play(&self, program: &Path, mutant: usize, limit: Duration) -> io::Result<Ending> {
         let mut command = Command::new(program);
+        command.env("MUTANT", mutant.to_string());
         command
             .stdin(File::open(&self.commands)?)
             .stdout(Stdio::piped())

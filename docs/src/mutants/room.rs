@@ -1,7 +1,8 @@
-//! A folder in which one mutant after another is built: a copy of the sources, and the compiler that keeps the module.
+//! A folder in which programs are built: a copy of the sources, and the compiler that keeps the module.
 
 use crate::crates::{files, Crates, PROGRAM};
 use crate::kit::{done, quiet, Kit, SOON};
+use crate::woven::{ASKED, ASKS};
 use std::collections::HashSet;
 use std::fs;
 use std::io;
@@ -31,6 +32,10 @@ impl<'a> Room<'a> {
             }
             room.libraries.push((name, folder.join("lib.rt")));
         }
+        let asks = room.sources(ASKS);
+        fs::create_dir_all(&asks)?;
+        fs::write(asks.join("lib.rt"), ASKED)?;
+        room.libraries.push((ASKS.to_string(), asks.join("lib.rt")));
         Ok(room)
     }
 
@@ -46,6 +51,16 @@ impl<'a> Room<'a> {
         self.folder.join("program")
     }
 
+    /// The words that name the sources.
+    fn words(&self, command: &mut Command) {
+        command
+            .arg(self.sources(PROGRAM).join("main.rt"))
+            .args(["--crate-name", PROGRAM]);
+        for (name, file) in &self.libraries {
+            command.arg("--lib").arg(format!("{name}={}", file.display()));
+        }
+    }
+
     /// Makes a module of what stands in the room, and says whether the front end takes it.
     pub fn module(&self) -> io::Result<bool> {
         let module = self.folder.join("module.bc");
@@ -53,15 +68,26 @@ impl<'a> Room<'a> {
             fs::remove_file(&module)?;
         }
         let mut command = self.kit.front();
-        command.arg("--toolchain").arg(&self.folder);
-        command
-            .arg(self.sources(PROGRAM).join("main.rt"))
-            .args(["--crate-name", PROGRAM]);
-        for (name, file) in &self.libraries {
-            command.arg("--lib").arg(format!("{name}={}", file.display()));
-        }
+        self.words(command.arg("--toolchain").arg(&self.folder));
         quiet(&mut command)?; // it fails, since the program does nothing
         Ok(module.exists())
+    }
+
+    /// The lines of a crate that the front end refuses, each with its file.
+    pub fn refused(&self, of: &str) -> io::Result<Vec<(PathBuf, usize)>> {
+        let mut command = self.kit.printer();
+        self.words(&mut command);
+        let said = String::from_utf8_lossy(&command.output()?.stderr).into_owned();
+        let start = format!("{}/", self.sources(of).display());
+        let place = |line: &str| {
+            let (file, rest) = line.strip_prefix(&start)?.split_once(':')?;
+            Some((PathBuf::from(file), rest.split(':').next()?.parse().ok()?))
+        };
+        Ok(said
+            .lines()
+            .filter(|line| line.contains(": error"))
+            .filter_map(place)
+            .collect())
     }
 
     /// Makes a program of the module.

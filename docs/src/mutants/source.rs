@@ -1,4 +1,4 @@
-//! What of a source file is code: the bodies of functions and the values of constants. Contracts are none of it.
+//! What of a source file is code: the bodies of its functions. Contracts are none of it.
 
 use crate::tokens::{tokens, Sort, Token};
 use std::ops::Range;
@@ -7,37 +7,41 @@ use std::path::PathBuf;
 /// The clauses between a function's head and its body.
 const CLAUSES: [&str; 3] = ["requires", "ensures", "ghost"];
 
-/// A function's body, or a constant's value, as a range of tokens.
-pub struct Piece {
+/// A function; the ranges are of tokens.
+pub struct Function {
     pub name: String,
-    pub range: Range<usize>,
+    /// From the name to the contract: parameters and answer.
+    pub head: Range<usize>,
+    pub parameters: Vec<String>,
+    pub answers: bool,
+    /// Between the brackets.
+    pub body: Range<usize>,
 }
 
 pub struct Source {
+    /// The crate.
     pub of: String,
     /// The file, from the crate's folder on.
     pub file: PathBuf,
     pub text: String,
     pub tokens: Vec<Token>,
-    pub bodies: Vec<Piece>,
-    pub constants: Vec<Piece>,
+    pub functions: Vec<Function>,
+    /// The constants that are a number.
+    pub numbers: Vec<String>,
     /// Each enum with those of its variants that carry nothing.
     pub enums: Vec<(String, Vec<String>)>,
 }
 
 impl Source {
     pub fn new(of: &str, file: PathBuf, text: String) -> Source {
-        let tokens = tokens(&text);
-        let of = of.to_string();
-        let (bodies, constants, enums) = (Vec::new(), Vec::new(), Vec::new());
         let mut source = Source {
-            of,
+            of: of.to_string(),
             file,
+            tokens: tokens(&text),
             text,
-            tokens,
-            bodies,
-            constants,
-            enums,
+            functions: Vec::new(),
+            numbers: Vec::new(),
+            enums: Vec::new(),
         };
         let mut at = 0;
         while at < source.tokens.len() {
@@ -96,42 +100,53 @@ impl Source {
     }
 
     /// The name of a function of this file in the program: its crate, its modules, its own.
-    pub fn symbol(&self, function: &str) -> String {
+    pub fn symbol(&self, function: &Function) -> String {
         let stem = self.file.with_extension("");
         let modules = stem.iter().map(|part| part.to_string_lossy().into_owned());
-        let modules = modules.filter(|module| module != "lib" && module != "mod");
-        let all: Vec<String> = [self.of.clone()]
-            .into_iter()
-            .chain(modules)
-            .chain([function.to_string()])
-            .collect();
-        all.join("::")
+        let mut path = vec![self.of.clone()];
+        path.extend(modules.filter(|module| module != "lib" && module != "mod"));
+        path.push(function.name.clone());
+        path.join("::")
     }
 
     fn function(&mut self, at: usize) -> usize {
-        let name = self.word(at + 1).to_string();
-        let mut place = self.next(at, &["{", ";"]);
+        let open = self.next(at, &["("]);
+        let close = self.behind(open);
+        let mut place = self.next(close, &["{", ";"]);
+        let contract = CLAUSES.contains(&self.word(place - 1));
+        let head = at + 2..if contract { place - 1 } else { place };
         while CLAUSES.contains(&self.word(place - 1)) {
             place = self.next(self.behind(place), &["{", ";"]);
         }
         let end = self.behind(place);
         if self.word(place) == "{" {
-            self.bodies.push(Piece {
-                name,
-                range: place + 1..end - 1,
+            self.functions.push(Function {
+                name: self.word(at + 1).to_string(),
+                head,
+                parameters: self.parameters(open + 1..close - 1),
+                answers: self.word(close) == "->",
+                body: place + 1..end - 1,
             });
         }
         end
     }
 
+    fn parameters(&self, range: Range<usize>) -> Vec<String> {
+        let mut names = Vec::new();
+        let mut place = range.start;
+        while place < range.end {
+            names.push(self.word(place).to_string());
+            place = self.next(place, &[",", ")"]) + 1;
+        }
+        names
+    }
+
     fn constant(&mut self, at: usize) -> usize {
-        let name = self.word(at + 1).to_string();
         let equals = self.next(at, &["="]);
         let end = self.next(equals, &[";"]);
-        self.constants.push(Piece {
-            name,
-            range: equals + 1..end,
-        });
+        if end == equals + 2 && self.is(equals + 1, Sort::Number) {
+            self.numbers.push(self.word(at + 1).to_string());
+        }
         end
     }
 
