@@ -4,7 +4,8 @@
 #include <stdlib.h>
 #include <string.h>
 
-enum { GUARD = 32, MOST = 256, GUARD_BYTE = 0xC3, FRESH_BYTE = 0xA5 };
+/* The guard's length is odd, so that all that is lent stands at an odd place. */
+enum { GUARD = 33, MOST = 256, GUARD_BYTE = 0xC3, FRESH_BYTE = 0xA5 };
 
 struct loan {
     uint8_t *all;    /* guard, bytes, guard */

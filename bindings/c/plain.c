@@ -11,7 +11,13 @@ void builder_refusals(void)
     uint8_t *m = lent(ROUALINT_MESSAGE_ROOM);
     const uint8_t *enc = bytes(ENC0), *mac = bytes(MAC0), *i = bytes(ICHALLENGE), *irnd = bytes(IRND), *word = bytes("AABB");
     const size_t room = ROUALINT_MESSAGE_ROOM;
-    EXPECT(roualint_build_tam1(0, i, m, room - 1) == 0, "a room of 175 bytes");
+    EXPECT(roualint_build_tam1(0, i, m, room - 1) == 0, "TAM1 into 175 bytes");
+    EXPECT(roualint_build_tam2(enc, mac, 16, 0, 1, 0, i, 0, 0, 0, 0, m, room - 1) == 0, "TAM2 into 175 bytes");
+    EXPECT(roualint_build_iam1(0, m, room - 1) == 0, "IAM1 into 175 bytes");
+    EXPECT(roualint_build_iam2(enc, mac, 16, 0, irnd, i, m, room - 1) == 0, "IAM2 into 175 bytes");
+    EXPECT(roualint_build_iam3(enc, mac, 16, 1, 0, 0, 0, 0, 0, irnd, i, word, 2, m, room - 1) == 0, "IAM3 into 175 bytes");
+    EXPECT(roualint_build_mam1(0, i, m, room - 1) == 0, "MAM1 into 175 bytes");
+    EXPECT(roualint_build_mam2(enc, mac, 16, 0, i, i, m, room - 1) == 0, "MAM2 into 175 bytes");
     EXPECT(roualint_build_tam2(enc, mac, 15, 0, 1, 0, i, 0, 0, 0, 0, m, room) == 0, "a MAC key of 15 bytes");
     EXPECT(roualint_build_tam2(enc, mac, 0, 0, 1, 0, i, 0, 0, 0, 2, m, room) == 0, "ProtMode 2 and no MAC key");
     EXPECT(roualint_build_tam2(enc, mac, 16, 2, 1, 0, i, 0, 0, 0, 0, m, room) == 0, "BlockSize 2");

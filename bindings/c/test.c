@@ -111,6 +111,7 @@ static void interrogator_authentication(void)
     answers(&b, m, n, TCHALLENGE, TCHALLENGE, ROUALINT_IAM_INIT);
     EXPECT(is_hex(b.tag->bytes, 16, "0101" TCHALLENGE "00000000"), "state, KeyID and TChallenge are held");
     accepts(judge(ENC1, MAC1, m, n, b.room, b.length, ROUALINT_DATA_ROOM), "", ROUALINT_NO_DATA, TCHALLENGE);
+    rejects(judge(ENC1, MAC1, m, n, b.room, b.length, ROUALINT_DATA_ROOM - 1), ROUALINT_DATA_ROOM - 1, ROUALINT_OWN_MESSAGE);
 
     /* 7: the tag stays as it was. */
     waiting = *b.tag;
@@ -122,6 +123,7 @@ static void interrogator_authentication(void)
     is_built(m, n, IAM2);
     lets_in(&b, m, n, 0);
     accepts(judge(ENC1, MAC1, m, n, b.room, 0, ROUALINT_DATA_ROOM), "", ROUALINT_NO_DATA, "");
+    rejects(judge(ENC1, MAC1, m, n, b.room, 0, ROUALINT_DATA_ROOM - 1), ROUALINT_DATA_ROOM - 1, ROUALINT_OWN_MESSAGE);
     EXPECT(roualint_power_up(b.tag) == 0 && roualint_state(b.tag) == ROUALINT_INITIAL, "power-up");
 
     /* Another Purpose is handed out as it came. */
@@ -149,6 +151,7 @@ static void mutual_authentication(void)
     answers(&b, m, n, VON_BRAUN, "47D77088E9143699215C9D162D8A310A 566F6E204272", ROUALINT_MAM_INIT);
     EXPECT(is_hex(b.tag->bytes, 16, "0201" VON_BRAUN "96C69664"), "state, KeyID, TChallenge and IChallenge[31:0] are held");
     accepts(judge(ENC1, MAC1, m, n, b.room, b.length, ROUALINT_DATA_ROOM), "", ROUALINT_NO_DATA, VON_BRAUN);
+    rejects(judge(ENC1, MAC1, m, n, b.room, b.length, ROUALINT_DATA_ROOM - 1), ROUALINT_DATA_ROOM - 1, ROUALINT_OWN_MESSAGE);
     memset(m, 0xA5, ROUALINT_MESSAGE_ROOM);
     n = roualint_build_mam2(bytes(ENC1), bytes(MAC1), 16, 0, bytes(ICHALLENGE), bytes(VON_BRAUN), m, ROUALINT_MESSAGE_ROOM);
     is_built(m, n, "90 F537798C9E30CF1999E3C52A7994BD93");

@@ -1,5 +1,3 @@
-// What the programs share.
-pub mod draws; // draws.rt: the generator, and the digest of what it made
-pub mod numbers; // numbers.rt: numbers and bytes with an answer for all arguments
-pub mod pen; // pen.rt: drawn numbers, and a place to write
-pub mod print; // print.rt: words, numbers and bytes on standard output
+// What the parts of the command line share.
+pub mod numbers; // numbers.rt: numbers with an answer for all arguments
+pub mod print; // print.rt: words on standard output

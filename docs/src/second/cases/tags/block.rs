@@ -66,7 +66,6 @@ fn any(draws: &mut Draws, setup: &Setup, failing: &[Check]) -> Fields {
         // With the most filler.
         0 if failing.contains(&Check::Filler) => draws.one_of(&[7, 15]),
         0 => 16,
-        1 => 1 + draws.below(4),
         _ => 1 + draws.below(16),
     };
     let protmode = match failing.contains(&Check::Mode) {

@@ -104,8 +104,11 @@ fn turns_held(script: &mut Script) {
         for kind in KINDS {
             script.often(&format!("{state}: {kind:?} refused, then the proof"), EACH_ALONE);
         }
-        for kind in [Kind::Tam1, Kind::Tam2] {
-            script.often(&format!("{state}: {kind:?} accepted, then the proof"), EACH_ALONE);
+        for what in ["Tam1", "Tam2", "power"] {
+            script.often(&format!("{state}: {what} accepted, then the proof"), EACH_ALONE);
+        }
+        for what in ["any bytes", "no byte"] {
+            script.often(&format!("{state}: {what} refused, then the proof"), EACH_SELDOM);
         }
     }
     for purpose in 0..16 {
@@ -147,6 +150,7 @@ fn forms_held(script: &mut Script) {
         "starts on the last word of a lock",
         "is locked above word 255",
         "is in a lock of over 255 words",
+        "starts on the last word of a lock of over 700 words",
     ] {
         script.often(&format!("Iam3 {edge}"), EACH_SELDOM);
     }

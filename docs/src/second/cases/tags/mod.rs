@@ -19,7 +19,7 @@ use crate::hex::hex;
 use player::Player;
 use scene::Style;
 
-const TAGS: usize = 4800;
+const TAGS: usize = 5400;
 const MESSAGES: usize = 26;
 
 pub fn all(script: &mut Script) {

@@ -72,10 +72,14 @@ impl<'a> Player<'a> {
         let wrong = self.wrong(kind);
         self.lead_up(kind, &wrong);
         let (held, before) = (self.open, self.tag().session);
-        let given = match self.draws.below(64) {
-            0 => self.any_bytes(),
-            1 => self.call(Vec::new(), &wrong, &[]),
-            _ => self.send(kind, &wrong),
+        let (what, given) = match self.draws.below(64) {
+            0 => ("any bytes".to_string(), self.any_bytes()),
+            1 => ("no byte".to_string(), self.call(Vec::new(), &wrong, &[])),
+            2 | 3 => {
+                self.script.expect("power", "ok");
+                ("power".to_string(), 0)
+            }
+            _ => (format!("{kind:?}"), self.send(kind, &wrong)),
         };
         let (Session::IamInit(..) | Session::MamInit(..)) = before else {
             return;
@@ -88,7 +92,7 @@ impl<'a> Player<'a> {
                 _ => self.draws.one_of(&[Kind::Iam2, Kind::Iam3]),
             };
             self.send(second, &[]);
-            tally::survival(self.script, before.name(), kind, given);
+            tally::survival(self.script, before.name(), &what, given);
         }
     }
 
@@ -99,10 +103,18 @@ impl<'a> Player<'a> {
             .copied()
             .filter(|&check| self.shows(check))
             .collect();
-        let count = [0, 0, 1, 1, 2, 2][self.draws.below(6)];
+        let count = self.draws.one_of(if kind == Kind::Tam2 {
+            &[0, 0, 0, 1, 2, 2]
+        } else {
+            &[0, 0, 1, 1, 2, 2]
+        });
         let mut wrong: Vec<Check> = (0..count).map(|_| self.draws.one_of(&can)).collect();
         if kind == Kind::Iam3 && count == 1 && self.draws.once_in(2) {
             wrong = vec![self.draws.one_of(&IN_THE_PROOF)];
+        }
+        // Locks far behind are on few tags.
+        if kind == Kind::Iam3 && self.tag().setup.words.iter().any(|&words| words > 255) && self.draws.once_in(2) {
+            wrong = vec![Check::Lock];
         }
         if self.draws.once_in(if count == 0 { 12 } else { 6 }) {
             wrong.insert(0, self.draws.one_of(&BENCH));

@@ -1,6 +1,6 @@
 //! A tag to try messages on: a drawn sheet that keeps every rule, most of it of use.
 
-use crate::cases::draft::{self, Draft, MOST_WORDS};
+use crate::cases::draft::{self, Draft, Record, MOST_WORDS};
 use crate::cases::draws::Draws;
 
 /// A feature is left out once in so many sheets: BlockSize 1, Rev 0, Rev 1, IAM, IAM3, MAM, the ProtModes.
@@ -37,7 +37,18 @@ pub fn drawn(draws: &mut Draws, style: Style) -> Draft {
     if style != Style::Small {
         whole(draws, &mut draft);
     }
+    if style == Style::Huge && draws.once_in(2) {
+        draft.locks = long_lock(draws, words);
+    }
     draft
+}
+
+/// One lock over an area, or over nearly all of it, most often with room for a block behind it.
+fn long_lock(draws: &mut Draws, words: [usize; 2]) -> Vec<Record> {
+    let area = draws.below(2);
+    let before = draws.below(3) * draws.below(8);
+    let behind = if draws.once_in(3) { 0 } else { 16 + draws.below(80) };
+    vec![draft::lock(area as u8, before, words[area] - before - behind)]
 }
 
 /// One profile of the first is a whole area, so that there is room for much.

@@ -117,6 +117,10 @@ fn fields(tag: &Tag, kind: Kind, call: &Call, failing: &[Check], what: &mut Vec<
             "starts on the last word of a lock",
             locks().any(|(_, lock)| start + 1 == lock.first + lock.words),
         );
+        edge(
+            "starts on the last word of a lock of over 700 words",
+            locks().any(|(_, lock)| lock.words > 700 && start + 1 == lock.first + lock.words),
+        );
         edge("is locked above word 255", start > 255);
         edge(
             "is in a lock of over 255 words",
@@ -129,8 +133,9 @@ fn fields(tag: &Tag, kind: Kind, call: &Call, failing: &[Check], what: &mut Vec<
     }
 }
 
-/// In this state a message was given this number; then came the proof for the challenge that was held.
-pub fn survival(script: &mut Script, state: &str, kind: Kind, number: u8) {
+/// In this state a message was given this number, or the tag was powered up; then came the proof for the challenge that
+/// was held.
+pub fn survival(script: &mut Script, state: &str, what: &str, number: u8) {
     let refused = if number == 0 { "accepted" } else { "refused" };
-    script.count(format!("{state}: {kind:?} {refused}, then the proof"));
+    script.count(format!("{state}: {what} {refused}, then the proof"));
 }
