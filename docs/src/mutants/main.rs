@@ -61,7 +61,7 @@ fn run(settings: &Settings) -> io::Result<bool> {
     }
     let all = list::all(&sources, &room.called()?);
     println!("{} slips could be made in {}", all.len(), names.join(", "));
-    let drawn = match &settings.again {
+    let mut drawn = match &settings.again {
         Some(fates) => list::survivors(&sources, all, fates),
         None => list::drawn(all, settings.count, settings.seed),
     };
@@ -72,15 +72,8 @@ fn run(settings: &Settings) -> io::Result<bool> {
         log: Mutex::new(File::create(settings.folder.join("fates.txt"))?),
     };
     let began = Instant::now();
-    let mut fates = Vec::new();
-    for name in &names {
-        let mut own: Vec<&Mutant> = drawn
-            .iter()
-            .filter(|mutant| sources[mutant.source].of == *name)
-            .collect();
-        own.sort_by_key(|mutant| (mutant.source, mutant.function, mutant.start));
-        fates.extend(tried(&trial, &room, name, &own, settings.jobs)?);
-    }
+    drawn.sort_by_key(|mutant| (mutant.source, mutant.function)); // those of a function one after the other
+    let fates = tried(&trial, &room, &drawn, settings.jobs)?;
     let document = fs::read_to_string("docs/MUTANTS.md").unwrap_or_default();
     let explained = tally::told(&sources, &settings.scripts, &fates, &document);
     let seconds = began.elapsed().as_secs_f64();
@@ -104,66 +97,49 @@ fn limits(room: &Room, scripts: &[Script]) -> io::Result<Vec<Duration>> {
     Ok(limits)
 }
 
-/// The mutants of one crate, in one program.
-fn tried(trial: &Trial, room: &Room, of: &str, own: &[&Mutant], jobs: usize) -> io::Result<Vec<(Mutant, Fate)>> {
-    let all: Vec<Numbered> = own
+/// All mutants in one program.
+fn tried(trial: &Trial, room: &Room, drawn: &[Mutant], jobs: usize) -> io::Result<Vec<(Mutant, Fate)>> {
+    let mut taken: Vec<Numbered> = drawn
         .iter()
         .enumerate()
-        .map(|(place, mutant)| (place + 1, *mutant))
+        .map(|(place, mutant)| (place + 1, mutant))
         .collect();
-    let mut refused = HashSet::new();
-    loop {
-        let taken: Vec<Numbered> = all
-            .iter()
-            .filter(|(number, _)| !refused.contains(number))
-            .copied()
-            .collect();
-        let Some(more) = built(room, trial.sources, of, &taken)? else {
-            break;
-        };
-        refused.extend(more);
+    let mut fates = Vec::new();
+    while let Some(refused) = refused(room, trial.sources, &taken)? {
+        for (_, mutant) in taken.iter().filter(|(number, _)| refused.contains(number)) {
+            trial.told(mutant, Fate::NotBuilt)?;
+            fates.push(((*mutant).clone(), Fate::NotBuilt));
+        }
+        taken.retain(|(number, _)| !refused.contains(number));
     }
     room.build(FAST)?;
-    for source in trial.sources.iter().filter(|source| source.of == of) {
-        room.write(of, &source.file, &source.text)?;
-    }
-    let mut fates = Vec::new();
-    for (_, mutant) in all.iter().filter(|(number, _)| refused.contains(number)) {
-        trial.told(mutant, Fate::NotBuilt)?;
-        fates.push(((*mutant).clone(), Fate::NotBuilt));
-    }
-    let taken: Vec<Numbered> = all
-        .iter()
-        .filter(|(number, _)| !refused.contains(number))
-        .copied()
-        .collect();
     fates.extend(trial.all(&room.program(), &taken, jobs)?);
     Ok(fates)
 }
 
-/// Makes a module with these mutants of a crate; or says which of them the front end refuses.
-fn built(room: &Room, sources: &[Source], of: &str, mutants: &[Numbered]) -> io::Result<Option<Vec<usize>>> {
+/// Makes a module with these mutants; or says which of them the front end refuses.
+fn refused(room: &Room, sources: &[Source], mutants: &[Numbered]) -> io::Result<Option<HashSet<usize>>> {
     let mut files = Vec::new();
-    for (place, source) in sources.iter().enumerate().filter(|(_, source)| source.of == of) {
+    for (place, source) in sources.iter().enumerate() {
         let own: Vec<Numbered> = mutants
             .iter()
             .filter(|(_, mutant)| mutant.source == place)
             .copied()
             .collect();
         let woven = Woven::new(source, &own);
-        room.write(of, &source.file, &woven.text)?;
-        files.push((&source.file, woven));
+        room.write(&source.of, &source.file, &woven.text)?;
+        files.push((source, woven));
     }
     if room.module()? {
         return Ok(None);
     }
-    let mut refused = Vec::new();
-    for (file, line) in room.refused(of)? {
-        let woven = files.iter().find(|(name, _)| **name == file);
+    let mut refused = HashSet::new();
+    for (of, file, line) in room.refused()? {
+        let woven = files.iter().find(|(source, _)| source.of == of && source.file == file);
         refused.extend(woven.and_then(|(_, woven)| woven.at(line)));
     }
     match refused.is_empty() {
-        true => Err(io::Error::other(format!("the front end refuses the mutants of {of}"))),
+        true => Err(io::Error::other("the front end refuses the mutants")),
         false => Ok(Some(refused)),
     }
 }

@@ -36,7 +36,8 @@ impl Script {
         })
     }
 
-    /// Plays a mutant, by its number; 0 is the program itself. It stops at the first byte that differs, and after so long.
+    /// Plays a mutant, by its number; 0 is the program itself.
+    /// It stops at the first byte that differs, and after so long.
     pub fn play(&self, program: &Path, mutant: usize, limit: Duration) -> io::Result<Ending> {
         let mut command = Command::new(program);
         command.env("MUTANT", mutant.to_string());

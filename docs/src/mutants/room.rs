@@ -73,15 +73,17 @@ impl<'a> Room<'a> {
         Ok(module.exists())
     }
 
-    /// The lines of a crate that the front end refuses, each with its file.
-    pub fn refused(&self, of: &str) -> io::Result<Vec<(PathBuf, usize)>> {
+    /// The lines that the front end refuses: crate, file and number.
+    pub fn refused(&self) -> io::Result<Vec<(String, PathBuf, usize)>> {
         let mut command = self.kit.printer();
         self.words(&mut command);
         let said = String::from_utf8_lossy(&command.output()?.stderr).into_owned();
-        let start = format!("{}/", self.sources(of).display());
+        let start = format!("{}/", self.folder.join("crates").display());
         let place = |line: &str| {
-            let (file, rest) = line.strip_prefix(&start)?.split_once(':')?;
-            Some((PathBuf::from(file), rest.split(':').next()?.parse().ok()?))
+            let (of, rest) = line.strip_prefix(&start)?.split_once('/')?;
+            let (file, rest) = rest.split_once(':')?;
+            let number = rest.split(':').next()?.parse().ok()?;
+            Some((of.to_string(), PathBuf::from(file), number))
         };
         Ok(said
             .lines()

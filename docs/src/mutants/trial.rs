@@ -5,6 +5,7 @@ use crate::play::{Ending, Script};
 use crate::source::Source;
 use crate::woven::Numbered;
 use std::cmp::Reverse;
+use std::collections::HashMap;
 use std::fs::File;
 use std::io::{self, Write};
 use std::path::Path;
@@ -35,17 +36,24 @@ impl Trial<'_> {
     pub fn all(&self, program: &Path, mutants: &[Numbered], jobs: usize) -> io::Result<Vec<(Mutant, Fate)>> {
         let next = Mutex::new(mutants.iter());
         let fates = Mutex::new(Vec::new());
-        let kills = Mutex::new(vec![0; self.scripts.len()]);
+        let kills: Mutex<HashMap<&str, Vec<usize>>> = Mutex::new(HashMap::new()); // of each crate, by the script
         let work = || -> io::Result<()> {
             loop {
                 let Some((number, mutant)) = next.lock().unwrap().next() else {
                     return Ok(());
                 };
+                let of = self.sources[mutant.source].of.as_str();
+                let most = kills
+                    .lock()
+                    .unwrap()
+                    .get(of)
+                    .cloned()
+                    .unwrap_or(vec![0; self.scripts.len()]);
                 let mut order: Vec<usize> = (0..self.scripts.len()).collect();
-                order.sort_by_key(|script| Reverse(kills.lock().unwrap()[*script])); // what killed most comes first
+                order.sort_by_key(|script| Reverse(most[*script])); // what killed most comes first
                 let fate = self.played(program, *number, &order)?;
                 if let Fate::Killed(script, _) = fate {
-                    kills.lock().unwrap()[script] += 1;
+                    kills.lock().unwrap().entry(of).or_insert(vec![0; self.scripts.len()])[script] += 1;
                 }
                 self.told(mutant, fate)?;
                 fates.lock().unwrap().push(((*mutant).clone(), fate));
