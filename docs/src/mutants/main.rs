@@ -29,7 +29,7 @@ use std::io;
 use std::path::Path;
 use std::process::ExitCode;
 use std::sync::Mutex;
-use std::time::{Duration, Instant};
+use std::time::Instant;
 use trial::{Fate, Trial};
 use woven::{Numbered, Woven};
 
@@ -81,18 +81,18 @@ fn run(settings: &Settings) -> io::Result<bool> {
     Ok(explained)
 }
 
-/// The program itself must answer every script as expected; a mutant has four times as long, and five seconds.
-fn limits(room: &Room, scripts: &[Script]) -> io::Result<Vec<Duration>> {
+/// The program itself must answer every script as expected; a mutant has four times as long, and a second.
+fn limits(room: &Room, scripts: &[Script]) -> io::Result<Vec<u64>> {
     room.build(FAST)?;
     let mut limits = Vec::new();
     for script in scripts {
-        let (name, began) = (&script.name, Instant::now());
-        if script.play(&room.program(), 0, Duration::from_secs(3600))? != Ending::Same {
+        let (name, before) = (&script.name, play::spent()?);
+        if script.play(&room.program(), 0, 3600)? != Ending::Same {
             return Err(io::Error::other(format!("the program itself fails the script {name}")));
         }
-        let took = began.elapsed();
-        println!("the program itself answers {name} in {:.2} s", took.as_secs_f64());
-        limits.push(took * 4 + Duration::from_secs(5));
+        let took = play::spent()? - before;
+        println!("the program itself answers {name} in {took:.2} s of the processor's time");
+        limits.push((took * 4.0) as u64 + 2);
     }
     Ok(limits)
 }

@@ -5,9 +5,9 @@ use std::io::{self, Read};
 use std::os::unix::process::ExitStatusExt;
 use std::path::{Path, PathBuf};
 use std::process::{Command, Stdio};
-use std::sync::mpsc;
-use std::thread;
-use std::time::Duration;
+
+/// What ends a program that took more of the processor's time than it was given.
+const KILLED: [i32; 2] = [9, 24];
 
 pub struct Script {
     pub name: String,
@@ -28,58 +28,64 @@ impl Script {
     /// `commands` and `answers` are files.
     pub fn read(commands: &str, answers: &str) -> io::Result<Script> {
         let stem = Path::new(commands).file_stem().unwrap_or_default();
-        let name = stem.to_string_lossy().into_owned();
         Ok(Script {
-            name,
+            name: stem.to_string_lossy().into_owned(),
             commands: PathBuf::from(commands),
             answers: fs::read(answers)?,
         })
     }
 
-    /// Plays a mutant, by its number; 0 is the program itself.
-    /// It stops at the first byte that differs, and after so long.
-    pub fn play(&self, program: &Path, mutant: usize, limit: Duration) -> io::Result<Ending> {
-        let mut command = Command::new(program);
-        command.env("MUTANT", mutant.to_string());
+    /// Plays a mutant, by its number; 0 is the program itself. It stops at the first byte that differs, and after so
+    /// many seconds of the processor's time.
+    pub fn play(&self, program: &Path, mutant: usize, limit: u64) -> io::Result<Ending> {
+        let mut command = Command::new("sh");
         command
-            .stdin(File::open(&self.commands)?)
-            .stdout(Stdio::piped())
-            .stderr(Stdio::null());
-        let mut child = command.spawn()?;
-        let id = child.id().to_string();
-        let (ended, end) = mpsc::channel::<()>();
-        let guard = thread::spawn(move || {
-            let late = end.recv_timeout(limit) == Err(mpsc::RecvTimeoutError::Timeout);
-            late && Command::new("kill").args(["-9", &id]).status().is_ok()
-        });
-        let same = child.stdout.take().map_or(Ok(false), |out| self.holds(out));
-        if !matches!(same, Ok(true)) {
-            let _ = child.kill(); // it may be over already
+            .arg("-c")
+            .arg(format!("ulimit -t {limit} && exec \"$0\""))
+            .arg(program);
+        command
+            .env("MUTANT", mutant.to_string())
+            .stdin(File::open(&self.commands)?);
+        let mut child = command.stdout(Stdio::piped()).stderr(Stdio::null()).spawn()?;
+        let (same, whole) = child.stdout.take().map_or(Ok((false, false)), |out| self.holds(out))?;
+        if !same {
+            child.kill()?;
         }
-        drop(ended);
-        let late = guard.join().unwrap_or(false);
         let status = child.wait()?;
-        let crashed = status.signal().is_some_and(|signal| signal != 9);
-        Ok(match same? {
-            _ if late => Ending::Late,
-            _ if crashed => Ending::Crashed,
-            true if status.success() => Ending::Same,
-            _ => Ending::Differs,
+        Ok(match status.signal() {
+            _ if !same => Ending::Differs,
+            Some(signal) if KILLED.contains(&signal) => Ending::Late,
+            Some(_) => Ending::Crashed,
+            None if whole && status.success() => Ending::Same,
+            None => Ending::Differs,
         })
     }
 
-    fn holds(&self, mut out: impl Read) -> io::Result<bool> {
+    /// Whether what is written is the answers' beginning, and whether it is all of them.
+    fn holds(&self, mut out: impl Read) -> io::Result<(bool, bool)> {
         let mut place = 0;
         let mut part = [0; 65536];
         loop {
             let n = out.read(&mut part)?;
             if n == 0 {
-                return Ok(place == self.answers.len());
+                return Ok((true, place == self.answers.len()));
             }
             if !self.answers[place..].starts_with(&part[..n]) {
-                return Ok(false);
+                return Ok((false, false));
             }
             place += n;
         }
     }
+}
+
+/// The processor's time that all plays took so far, in seconds: what the system tells of this program's children.
+pub fn spent() -> io::Result<f64> {
+    let told = fs::read_to_string("/proc/self/stat")?;
+    let fields = told.rsplit(')').next().unwrap_or("").split_whitespace();
+    let ticks: f64 = fields
+        .skip(13)
+        .take(2)
+        .filter_map(|field| field.parse::<f64>().ok())
+        .sum();
+    Ok(ticks / 100.0)
 }

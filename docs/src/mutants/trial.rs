@@ -11,7 +11,6 @@ use std::io::{self, Write};
 use std::path::Path;
 use std::sync::Mutex;
 use std::thread;
-use std::time::Duration;
 
 /// What became of a mutant.
 #[derive(Clone, Copy)]
@@ -25,8 +24,8 @@ pub enum Fate {
 pub struct Trial<'a> {
     pub sources: &'a [Source],
     pub scripts: &'a [Script],
-    /// How long a mutant may take for each script.
-    pub limits: Vec<Duration>,
+    /// How many seconds of the processor's time a mutant may take for each script.
+    pub limits: Vec<u64>,
     /// Has each mutant as soon as it was tried.
     pub log: Mutex<File>,
 }
@@ -50,7 +49,7 @@ impl Trial<'_> {
                     .cloned()
                     .unwrap_or(vec![0; self.scripts.len()]);
                 let mut order: Vec<usize> = (0..self.scripts.len()).collect();
-                order.sort_by_key(|script| Reverse(most[*script])); // what killed most comes first
+                order[1..].sort_by_key(|script| Reverse(most[*script])); // the shortest, then what killed most
                 let fate = self.played(program, *number, &order)?;
                 if let Fate::Killed(script, _) = fate {
                     kills.lock().unwrap().entry(of).or_insert(vec![0; self.scripts.len()])[script] += 1;
