@@ -71,13 +71,18 @@ fn run(settings: &Settings) -> io::Result<bool> {
         limits: limits(&room, &settings.scripts)?,
         log: Mutex::new(File::create(settings.folder.join("fates.txt"))?),
     };
-    let began = Instant::now();
+    let (began, before) = (Instant::now(), play::spent()?);
     drawn.sort_by_key(|mutant| (mutant.source, mutant.function)); // those of a function one after the other
     let fates = tried(&trial, &room, &drawn, settings.jobs)?;
     let document = fs::read_to_string("docs/MUTANTS.md").unwrap_or_default();
     let explained = tally::told(&sources, &settings.scripts, &fates, &document);
-    let seconds = began.elapsed().as_secs_f64();
-    println!("{:.1} s a mutant", seconds / fates.len().max(1) as f64);
+    let tried = fates.len().max(1) as f64;
+    let (seconds, spent) = (began.elapsed().as_secs_f64(), play::spent()? - before);
+    println!(
+        "{:.1} s a mutant, {:.1} s of the processor's time",
+        seconds / tried,
+        spent / tried
+    );
     Ok(explained)
 }
 
@@ -113,6 +118,11 @@ fn tried(trial: &Trial, room: &Room, drawn: &[Mutant], jobs: usize) -> io::Resul
         taken.retain(|(number, _)| !refused.contains(number));
     }
     room.build(FAST)?;
+    if trial.scripts[0].play(&room.program(), 0, trial.limits[0])? != Ending::Same {
+        return Err(io::Error::other(
+            "a program that plays no mutant is not the program itself",
+        ));
+    }
     fates.extend(trial.all(&room.program(), &taken, jobs)?);
     Ok(fates)
 }
