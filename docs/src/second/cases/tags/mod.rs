@@ -4,6 +4,7 @@
 
 mod block;
 mod checks;
+mod first_bytes;
 mod held;
 mod lending;
 mod player;
@@ -43,5 +44,6 @@ pub fn all(script: &mut Script) {
             player.turn();
         }
     }
+    first_bytes::all(script);
     held::all(script);
 }
