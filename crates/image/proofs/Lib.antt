@@ -1,0 +1,5 @@
+pub mod Tables
+pub mod Laid
+pub mod Reading
+pub mod Said
+pub mod ReadBack
