@@ -3,3 +3,7 @@ pub mod Laid
 pub mod Reading
 pub mod Said
 pub mod ReadBack
+pub mod Sessions
+pub mod Stays
+pub mod Examples
+pub mod Fits
