@@ -1,43 +1,69 @@
--- Zeros are no tag's; the image of the smallest sheet is one, and a run over it is a tag's run.
-use mathlib.Core.Path.{_≡_, ap}
-use mathlib.Core.Bool.{true, false}
+-- The smallest sheet: its image is a tag's, and a run over it is a tag's run.
+use mathlib.Core.Path.{_≡_, subst, ap}
+use mathlib.Core.Bool.{true}
 use mathlib.Core.List.{List, [], _∷_}
-use Prim.Native.Nat.{ℕ}
+use Prim.Native.Nat.{ℕ, _<_}
 use native.Mathlib.Omega.{arith}
-use lib.ListN.{replicate}
-use Rattle.ground.specs.Choice.{both}
+use Rattle.ground.specs.Bytes.{Bytes}
+use Rattle.ground.proofs.Bytes.{bytes-none, bytes-cons}
 use Rattle.sheet.specs.declared.Reading.{Reading}
-use Rattle.sheet.specs.Setups.{emptySetup}
-use Rattle.sheet.specs.Within.{Bytes}
-use Rattle.sheet.proofs.Examples.{example-11, example-12}
-use Rattle.tag.specs.States.{keyFits}
+use Rattle.sheet.specs.Limits.{keyLimit}
+use Rattle.sheet.specs.Setups.{Setup, emptySetup}
+use Rattle.sheet.specs.Sheet.{Accepted}
+use Rattle.sheet.proofs.Examples.{smallest, example-11, said-11}
 use Rattle.entry.specs.Sessions.{cleared}
 use Rattle.tag.specs.States.{poweredUp}
-use Rattle.tag.proofs.Holding.{holds-fits, powered-up-holds}
 use Rattle.tag.specs.Plays.{Brought, sentAll}
 use Rattle.tag.specs.Runs.{run}
-use Rattle.capi.specs.Image.{imageOf, sheetIn, tagIn, accepts, isTag}
+use Rattle.image.specs.Image.{isTag}
+use Rattle.image.specs.Kept.{sheetImage}
 use Rattle.capi.specs.Run.{Left, SendsAll, leftAll}
-use Rattle.capi.proofs.ReadBack.{is-tag-back}
-use Rattle.capi.proofs.Runs.{sheet-run}
-use Rattle.capi.proofs.Sessions.{cleared-sized}
+use Rattle.capi.proofs.Runs.{sheet-tag, sheet-run}
 
-abbrev zeros : List ℕ
-zeros = replicate 827 0
+smallest-accepted : Accepted keyLimit smallest
+smallest-accepted = ap (λ (r : Reading). r .verdict) (example-11 keyLimit)
 
-pub zeros-none : isTag zeros ≡ false
-unfolding isTag sheetIn
-zeros-none = ap (λ (r : Reading). both (accepts (r .verdict)) (keyFits (tagIn zeros .setup) (tagIn zeros .session .state) (tagIn zeros .session .keyid))) example-12
+abbrev EachSmall : List ℕ → Type 0
+EachSmall [] = Unit
+EachSmall (x ∷ s) = (x < 256) × EachSmall s
 
-abbrev smallest : List ℕ
-smallest = 0x01 ∷ 0x00 ∷ 0x00 ∷ 0x02 ∷ 0x00 ∷ 0x00 ∷ 0x00 ∷ 0x00 ∷ 0x06 ∷ []
+small-bytes : (s : List ℕ) → EachSmall s → Bytes s
+small-bytes [] h = bytes-none
+small-bytes (x ∷ s) (h, t) = bytes-cons x s h (small-bytes s t)
 
 smallest-bytes : Bytes smallest
-smallest-bytes = (omega arith, (omega arith, (omega arith, (omega arith, (omega arith, (omega arith, (omega arith, (omega arith, (omega arith, tt)))))))))
+smallest-bytes =
+    small-bytes smallest (
+      omega arith,
+      (
+        omega arith,
+        (
+          omega arith,
+          (
+            omega arith,
+            (
+              omega arith,
+              (
+                omega arith,
+                (
+                  omega arith,
+                  (
+                    omega arith,
+                    (omega arith, tt),
+                  ),
+                ),
+              ),
+            ),
+          ),
+        ),
+      ),
+    )
 
-pub smallest-tag : isTag (imageOf cleared smallest) ≡ true
-unfolding poweredUp
-smallest-tag = is-tag-back smallest cleared cleared-sized (omega arith) emptySetup example-11 (holds-fits emptySetup cleared (powered-up-holds emptySetup))
+pub smallest-tag : isTag (sheetImage cleared smallest) ≡ true
+smallest-tag = sheet-tag smallest smallest-bytes smallest-accepted
 
-pub smallest-run : (bs : List Brought) (zs : List Left) → SendsAll (imageOf cleared smallest) [] [] bs zs → zs ≡ leftAll smallest bs (run (poweredUp emptySetup) [] [] (sentAll bs))
-smallest-run bs zs = sheet-run smallest emptySetup smallest-bytes example-11 bs zs [] []
+pub smallest-run : (bs : List Brought) (zs : List Left) → SendsAll (sheetImage cleared smallest) [] [] bs zs
+    → zs ≡ leftAll smallest bs (run (poweredUp emptySetup) [] [] (sentAll bs))
+smallest-run bs zs h =
+    subst (λ (x : Setup). zs ≡ leftAll smallest bs (run (poweredUp x) [] [] (sentAll bs))) (said-11 keyLimit)
+    (sheet-run smallest smallest-bytes smallest-accepted bs zs [] [] h)

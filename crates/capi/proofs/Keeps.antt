@@ -1,52 +1,42 @@
 -- What the functions over a kept tag leave, by what they found.
 use mathlib.Core.Path.{_≡_, sym, ap, _∙_, subst}
 use mathlib.Core.Bool.{true, false}
-use mathlib.Core.List.{List, [], _∷_}
-use Prim.Native.Nat.{ℕ, zero, suc, _*_, _<_, _≤_}
-use lib.ListN.{length, getD}
+use mathlib.Core.List.{List}
+use Prim.Native.Nat.{ℕ, _*_}
 use Rattle.sheet.specs.declared.Fault.{Fault as SheetFault}
-use Rattle.sheet.specs.declared.Reading.{Reading}
-use Rattle.sheet.specs.declared.Setup.{Setup}
+use Rattle.sheet.specs.declared.Sizes.{Sizes}
+use Rattle.sheet.specs.declared.Terms.{Terms}
+use Rattle.sheet.specs.declared.Verdict.{Verdict}
 use Rattle.sheet.specs.declared.Verdict.the-variants.{Whole, Refused}
 use Rattle.sheet.specs.Kinds.{numberOf}
+use Rattle.sheet.specs.Limits.{keyLimit}
 use Rattle.sheet.specs.Sheet.{readOf, readNumber, readPlace}
-use Rattle.sheet.specs.Within.{Bytes}
-use Rattle.sheet.proofs.Lengths.{longest, longest-is}
+use Rattle.offer.specs.Outcomes.{numberGiven, replyLength}
+use Rattle.entry.specs.declared.Session.{Session}
+use Rattle.entry.specs.Sessions.{cleared}
 use Rattle.tag.specs.declared.Stepped.{Stepped}
 use Rattle.tag.specs.declared.Tag.{Tag}
 use Rattle.tag.specs.Answers.{Answer, Call, answerOf, refused}
 use Rattle.tag.specs.Reactions.{lent, Steps}
-use Rattle.entry.specs.Sessions.{cleared}
-use Rattle.tag.specs.States.{poweredUp}
-use Rattle.offer.specs.Outcomes.{numberGiven, replyLength}
-use Rattle.capi.specs.Image.{kept, imageOf, tagIn, isTag}
+use Rattle.tag.specs.States.{KeyedTag, keyed}
+use Rattle.image.specs.Image.{kept, sessionIn, termsIn, tableIn, keyedIn, isTag}
+use Rattle.image.specs.Kept.{Laid}
 use Rattle.capi.specs.Kept.{SetUp, PoweredUp, AreasOf, purposeGiven, answerIn, Answered}
 
 -- ---- a sheet
 
-all-bytes : (s : List ℕ) → ((i : ℕ) → getD s i 0 < 256) → Bytes s
-all-bytes [] f = tt
-all-bytes (x ∷ s) f = (f zero, all-bytes s (λ i. f (suc i)))
-
-module _ (sheet : List ℕ) (q : Reading) (e : q ≡ readOf sheet) where
-  pub sheet-refused : (image : List ℕ) (f : SheetFault) (at r : ℕ) → q .verdict ≡ Refused f at → r ≡ numberOf f → SetUp sheet image r at image
+module _ (sheet image after : List ℕ) (q : Verdict) (h : Laid sheet image q after) where
+  pub set-up-refused : (f : SheetFault) (at r : ℕ) → q ≡ Refused f at → r ≡ numberOf f → SetUp sheet image r at after
   unfolding readNumber readPlace
-  sheet-refused image f at r h n =
-      let v : readOf sheet .verdict ≡ Refused f at = sym (ap (λ (x : Reading). x .verdict) e) ∙ h in
-      record { number = simp v n; place = simp v; holds = simp v }
+  set-up-refused f at r e n =
+      let v : readOf keyLimit sheet .verdict ≡ Refused f at = sym (h .verdict) ∙ e in
+      record { number = simp v n; place = simp v; holds = h .holds }
 
-  module _ (h : q .verdict ≡ Whole) where
-    -- no accepted sheet is longer
-    pub sheet-short : ((i : ℕ) → getD sheet i 0 < 256) → length sheet ≤ 809
-    sheet-short b =
-        let w : readOf sheet ≡ record { verdict = Whole; setup = q .setup } = sym e ∙ (λ i. record { verdict = h i; setup = q .setup }) in
-        rw longest-is at (longest sheet (q .setup) (all-bytes sheet b) w)
-
-    pub sheet-accepted : (image after : List ℕ) → after ≡ imageOf cleared sheet → SetUp sheet image 0 0 after
-    unfolding readNumber readPlace
-    sheet-accepted image after n =
-        let v : readOf sheet .verdict ≡ Whole = sym (ap (λ (x : Reading). x .verdict) e) ∙ h in
-        record { number = simp v; place = simp v; holds = simp v n }
+  pub set-up-whole : q ≡ Whole → SetUp sheet image 0 0 after
+  unfolding readNumber readPlace
+  set-up-whole e =
+      let v : readOf keyLimit sheet .verdict ≡ Whole = sym (h .verdict) ∙ e in
+      record { number = simp v; place = simp v; holds = h .holds }
 
 -- ---- an image that is no tag's
 
@@ -57,34 +47,48 @@ module _ (image : List ℕ) (e : isTag image ≡ false) where
   pub areas-none : AreasOf image 7 0 0
   areas-none = record { number = simp e; first = simp e; second = simp e }
 
-  pub answer-none : (message draws room identity user : List ℕ) → Answered image (answerIn image (lent message draws room identity user)) room 7 0 255 image room identity user
+  pub answer-none : (message draws room identity user : List ℕ)
+      → Answered image (answerIn image (lent message draws room identity user)) room 7 0 255 image room identity user
   unfolding refused
-  answer-none message draws room identity user =
-      record { number = simp e; long = simp e; given = simp e; holds = simp e; sent = simp e; identity = simp e; user = simp e }
+  answer-none message draws room identity user = record {
+    number = simp e;
+    long = simp e;
+    given = simp e;
+    holds = simp e;
+    sent = simp e;
+    identity = simp e;
+    user = simp e;
+  }
 
 -- ---- a tag's
 
 module _ (image : List ℕ) (e : isTag image ≡ true) where
-  pub power-some : (setup : Setup) (woken : Tag) (after : List ℕ) → woken ≡ poweredUp setup → after ≡ kept (woken .session) image → PoweredUp image 0 after
-  unfolding poweredUp
-  power-some setup woken after w h = record { number = simp e; holds = simp e (h ∙ ap (λ (t : Tag). kept (t .session) image) w) }
+  pub power-some : (s : Session) (after : List ℕ) → s ≡ cleared → after ≡ kept s image → PoweredUp image 0 after
+  power-some s after w h = record { number = simp e; holds = simp e (h ∙ ap (λ (z : Session). kept z image) w) }
 
-  module _ (t : Tag) (f : t ≡ tagIn image) where
-    pub areas-some : (identity user : ℕ) → identity ≡ t .setup .sizes .identity * 2 → user ≡ t .setup .sizes .user * 2 → AreasOf image 0 identity user
-    areas-some identity user g h = record {
-      number = simp e;
-      first = simp e (g ∙ ap (λ (x : Tag). x .setup .sizes .identity * 2) f);
-      second = simp e (h ∙ ap (λ (x : Tag). x .setup .sizes .user * 2) f);
-    }
+  pub areas-some : (z : Sizes) (identity user : ℕ) → z ≡ termsIn image .sizes → identity ≡ z .identity * 2
+      → user ≡ z .user * 2 → AreasOf image 0 identity user
+  areas-some z identity user f g h = record {
+    number = simp e;
+    first = simp e (g ∙ ap (λ (x : Sizes). x .identity * 2) f);
+    second = simp e (h ∙ ap (λ (x : Sizes). x .user * 2) f);
+  }
 
-    pub answer-of : (c : Call) → answerIn image c ≡ answerOf c t
-    answer-of c = simp e (ap (answerOf c) (sym f))
+  pub answer-of : (t : KeyedTag) → t ≡ keyedIn image → (c : Call) → answerIn image c ≡ answerOf c t
+  answer-of t f c = simp e (ap (answerOf c) (sym f))
 
-    pub answer-some : (c : Call) (room : List ℕ) (s : Stepped) (r told purpose : ℕ) (after reply i u : List ℕ) → Steps (answerOf c t) t room s reply i u
-        → r ≡ numberGiven (s .outcome) → told ≡ replyLength (s .outcome) → purpose ≡ purposeGiven (s .outcome) → after ≡ kept (s .tag .session) image
-        → Answered image (answerIn image c) room r told purpose after reply i u
-    answer-some c room s r told purpose after reply i u h n l p k =
-        subst (λ (a : Answer). Answered image a room r told purpose after reply i u) (sym (answer-of c))
+  module _ (t : Tag) (keys : List ℕ) (f : t .terms ≡ termsIn image) (g : t .session ≡ sessionIn image)
+      (i : keys ≡ tableIn image) where
+    keyed-is : keyed t keys ≡ keyedIn image
+    keyed-is j = keyed (record { terms = f j; session = g j }) (i j)
+
+    pub answer-some : (c : Call) (room : List ℕ) (s : Stepped) (r told purpose : ℕ) (after reply a u : List ℕ)
+        → Steps (answerOf c (keyed t keys)) t room s reply a u → r ≡ numberGiven (s .outcome)
+        → told ≡ replyLength (s .outcome) → purpose ≡ purposeGiven (s .outcome) → after ≡ kept (s .tag .session) image
+        → Answered image (answerIn image c) room r told purpose after reply a u
+    answer-some c room s r told purpose after reply a u h n l p k =
+        subst (λ (x : Answer). Answered image x room r told purpose after reply a u)
+        (sym (answer-of (keyed t keys) keyed-is c))
         (record {
           number = n ∙ ap numberGiven (h .outcome);
           long = l ∙ ap replyLength (h .outcome);

@@ -1,8 +1,5 @@
-pub mod Images
 pub mod Keeps
 pub mod Answers
-pub mod Sessions
-pub mod ReadBack
 pub mod Runs
 pub mod Stays
 pub mod Examples

@@ -2,40 +2,42 @@
 use mathlib.Core.Path.{_≡_, refl, sym, ap, ap₂, _∙_, subst}
 use mathlib.Core.Bool.{Bool, true}
 use mathlib.Core.List.{List, [], _∷_}
-use Prim.Native.Nat.{ℕ, _≤_}
+use Prim.Native.Nat.{ℕ}
 use contract.Lifetimes.{Lfts}
 use borrow.Fn.Kinds.{Dens, resT, endedOf}
 use denote.Triple.Clauses.{AtExit}
 use denote.Ref.{now}
-use lib.ListN.{length}
+use Rattle.ground.specs.Bytes.{Bytes}
 use Rattle.ground.specs.Choice.{pick}
 use Rattle.modes.specs.Room.{over}
-use Rattle.sheet.specs.declared.Reading.{Reading}
-use Rattle.sheet.specs.declared.Setup.{Setup}
-use Rattle.sheet.specs.Sheet.{readOf, whole}
-use Rattle.sheet.specs.Within.{Bytes}
-use Rattle.sheet.proofs.Lengths.{longest, longest-is}
+use Rattle.sheet.specs.declared.Terms.{Terms}
+use Rattle.sheet.specs.KeyTable.{keyTable}
+use Rattle.sheet.specs.Limits.{keyLimit}
+use Rattle.sheet.specs.Setups.{Setup}
+use Rattle.sheet.specs.Sheet.{readOf, saidOf, Accepted}
+use Rattle.offer.specs.Outcomes.{numberGiven, replyLength}
 use Rattle.entry.specs.declared.Session.{Session}
-use Rattle.tag.specs.declared.Tag.{Tag}
+use Rattle.entry.specs.Sessions.{cleared}
 use Rattle.tag.specs.Answers.{Answer, Call, answerOf}
 use Rattle.tag.specs.Plays.{Brought, sentAll}
 use Rattle.tag.specs.Reactions.{lent}
 use Rattle.tag.specs.Runs.{run}
-use Rattle.entry.specs.Sessions.{cleared}
-use Rattle.tag.specs.States.{poweredUp}
-use Rattle.offer.specs.Outcomes.{numberGiven, replyLength}
+use Rattle.tag.specs.States.{KeyedTag, keyed, poweredUp}
 use Rattle.tag.proofs.Holding.{Holds, holds-fits, powered-up-holds, answer-holds}
-use Rattle.capi.specs.Image.{kept, imageOf, accepts, isTag}
+use Rattle.image.specs.Image.{kept, keyedIn, tagIn, tableIn, isTag}
+use Rattle.image.specs.Kept.{accepts, sheetImage, Fits}
+use Rattle.image.proofs.ReadBack.{kept-again, tag-back, table-back, is-tag-back}
+use Rattle.image.proofs.Said.{said-fits}
+use Rattle.image.proofs.Sessions.{cleared-fits, answer-fits}
 use Rattle.capi.specs.Kept.{SetUp, PoweredUp, purposeGiven, answerIn}
-use Rattle.capi.specs.Run.{Left, Sends, SendsAll, leftOf, leftAll, Sized}
+use Rattle.capi.specs.Run.{Left, Sends, SendsAll, leftOf, leftAll}
 use Rattle.capi.proofs.Keeps.{answer-of}
-use Rattle.capi.proofs.ReadBack.{kept-again, tag-back, is-tag-back}
-use Rattle.capi.proofs.Sessions.{cleared-sized, answer-sized}
 use Rattle.capi.proofs.kept.roualint_message.Reads as message
 use Rattle.capi.proofs.kept.roualint_message.Kinds as message-kinds
 
 -- A call, as the run has it, is the contract that the checker reads from the source of `roualint_message`.
-pub send-is-message : (κs : Lfts 8) (a : Dens κs message-kinds.ps) (r : resT message-kinds.r κs .Denot) (e : AtExit (endedOf 8 message-kinds.ps message-kinds.r) κs)
+pub send-is-message : (κs : Lfts 8) (a : Dens κs message-kinds.ps) (r : resT message-kinds.r κs .Denot)
+    (e : AtExit (endedOf 8 message-kinds.ps message-kinds.r) κs)
     → message.Post κs a r e
     ≡ Sends (now (a .0)) (now (a .1 .1 .1 .1 .0)) (now (a .1 .1 .1 .1 .1 .0))
     (record { message = now (a .1 .0); draws = now (a .1 .1 .0); room = now (a .1 .1 .1 .0) })
@@ -50,29 +52,45 @@ pub send-is-message : (κs : Lfts 8) (a : Dens κs message-kinds.ps) (r : resT m
     })
 send-is-message κs a r e = refl
 
-module _ (sheet : List ℕ) (x : Setup) (y : Bytes sheet) (e : readOf sheet ≡ whole x) where
-  short : length sheet ≤ 809
-  short = rw longest-is at (longest sheet x y e)
+module _ (sheet : List ℕ) (y : Bytes sheet) (e : Accepted keyLimit sheet) where
+  abbrev terms : Terms
+  terms = readOf keyLimit sheet .terms
 
-  abbrev tagOf : Session → Tag
-  tagOf s = record { setup = x; session = s }
+  abbrev table : List ℕ
+  table = keyTable sheet (readOf keyLimit sheet .keys)
 
-  module _ (s : Session) (w : Sized s) (k : Holds x s) where
-    tag-there : isTag (imageOf s sheet) ≡ true
-    tag-there = is-tag-back sheet s w short x e (holds-fits x s k)
+  abbrev tagOf : Session → KeyedTag
+  tagOf s = record { setup = saidOf keyLimit sheet; session = s }
 
-    answered : (c : Call) → answerIn (imageOf s sheet) c ≡ answerOf c (tagOf s)
-    answered c = answer-of (imageOf s sheet) tag-there (tagOf s) (sym (tag-back sheet s w short x e)) c
+  module _ (s : Session) (w : Fits s) (k : Holds (saidOf keyLimit sheet .keys) s) where
+    abbrev image : List ℕ
+    image = sheetImage s sheet
+
+    pub tag-there : isTag image ≡ true
+    unfolding saidOf
+    tag-there =
+        is-tag-back s w terms table (said-fits sheet y e) (holds-fits (saidOf keyLimit sheet .keys) s k)
+
+    said-back : tagOf s ≡ keyedIn image
+    unfolding saidOf
+    said-back =
+        let h = said-fits sheet y e in
+        sym (λ i. keyed (tag-back s w terms table h i) (table-back s w terms table h i))
+
+    answered : (c : Call) → answerIn image c ≡ answerOf c (tagOf s)
+    answered c = answer-of image tag-there (tagOf s) said-back c
 
     -- what one call leaves
-    sent : (identity user : List ℕ) (b : Brought) (z : Left) → Sends (imageOf s sheet) identity user b z
+    sent : (identity user : List ℕ) (b : Brought) (z : Left) → Sends image identity user b z
         → z ≡ leftOf sheet b (answerOf (lent (b .message) (b .draws) (b .room) identity user) (tagOf s))
     sent identity user b z h =
         let c = lent (b .message) (b .draws) (b .room) identity user in
         let a = answerOf c (tagOf s) in
         let g = answered c in
-        let n : z .image ≡ imageOf (a .session) sheet
-        = h .holds ∙ ap₂ (λ (t : Bool) (d : Answer). pick t (kept (d .session) (imageOf s sheet)) (imageOf s sheet)) tag-there g ∙ kept-again sheet (a .session) s (answer-sized c (tagOf s) w) w in
+        let n : z .image ≡ sheetImage (a .session) sheet
+        = h .holds
+        ∙ ap₂ (λ (t : Bool) (d : Answer). pick t (kept (d .session) image) image) tag-there g
+        ∙ kept-again terms table (a .session) s (answer-fits c (tagOf s) w) w in
         λ j. record {
           number = (h .number ∙ ap (λ (d : Answer). numberGiven (d .outcome)) g) j;
           told = (h .long ∙ ap (λ (d : Answer). replyLength (d .outcome)) g) j;
@@ -84,16 +102,22 @@ module _ (sheet : List ℕ) (x : Setup) (y : Bytes sheet) (e : readOf sheet ≡ 
         }
 
     -- what a power-up leaves: what `roualint_sheet` makes
-    pub power-back : (r : ℕ) (after : List ℕ) → PoweredUp (imageOf s sheet) r after → after ≡ imageOf cleared sheet
+    pub power-back : (r : ℕ) (after : List ℕ) → PoweredUp image r after → after ≡ sheetImage cleared sheet
     power-back r after h =
-        h .holds ∙ ap (λ (b : Bool). pick b (kept cleared (imageOf s sheet)) (imageOf s sheet)) tag-there ∙ kept-again sheet cleared s cleared-sized w
+        h .holds
+        ∙ ap (λ (b : Bool). pick b (kept cleared image) image) tag-there
+        ∙ kept-again terms table cleared s cleared-fits w
 
   -- what `roualint_sheet` makes of an accepted sheet, whatever the image was
-  pub sheet-made : (image : List ℕ) (r at : ℕ) (after : List ℕ) → SetUp sheet image r at after → after ≡ imageOf cleared sheet
-  sheet-made image r at after h = h .holds ∙ ap (λ (q : Reading). pick (accepts (q .verdict)) (imageOf cleared sheet) image) e
+  pub sheet-made : (image : List ℕ) (r at : ℕ) (after : List ℕ) → SetUp sheet image r at after
+      → after ≡ sheetImage cleared sheet
+  sheet-made image r at after h =
+      h .holds ∙ ap (λ (b : Bool). pick b (sheetImage cleared sheet) image) (ap accepts e)
 
   -- what a run leaves
-  pub all-sent : (bs : List Brought) (zs : List Left) (s : Session) (w : Sized s) (k : Holds x s) (identity user : List ℕ) → SendsAll (imageOf s sheet) identity user bs zs
+  pub all-sent : (bs : List Brought) (zs : List Left) (s : Session) (w : Fits s)
+      (k : Holds (saidOf keyLimit sheet .keys) s) (identity user : List ℕ)
+      → SendsAll (sheetImage s sheet) identity user bs zs
       → zs ≡ leftAll sheet bs (run (tagOf s) identity user (sentAll bs))
   unfolding SendsAll leftAll run sentAll
   all-sent [] [] s w k identity user h = refl
@@ -103,10 +127,16 @@ module _ (sheet : List ℕ) (x : Setup) (y : Bytes sheet) (e : readOf sheet ≡ 
       let c = lent (b .message) (b .draws) (b .room) identity user in
       let q = sent s w k identity user b z h in
       let g = subst (λ (l : Left). SendsAll (l .image) (l .identity) (l .user) bs zs) q hs in
-      λ j. q j ∷ all-sent bs zs _ (answer-sized c (tagOf s) w) (answer-holds c (tagOf s) k) _ _ g j
+      λ j. q j ∷ all-sent bs zs _ (answer-fits c (tagOf s) w) (answer-holds c (tagOf s) k) _ _ g j
 
   -- from what `roualint_sheet` makes of the sheet
-  pub sheet-run : (bs : List Brought) (zs : List Left) (identity user : List ℕ) → SendsAll (imageOf cleared sheet) identity user bs zs
-      → zs ≡ leftAll sheet bs (run (poweredUp x) identity user (sentAll bs))
+  pub sheet-tag : isTag (sheetImage cleared sheet) ≡ true
   unfolding poweredUp
-  sheet-run bs zs identity user = all-sent bs zs cleared cleared-sized (powered-up-holds x) identity user
+  sheet-tag = tag-there cleared cleared-fits (powered-up-holds (saidOf keyLimit sheet))
+
+  pub sheet-run : (bs : List Brought) (zs : List Left) (identity user : List ℕ)
+      → SendsAll (sheetImage cleared sheet) identity user bs zs
+      → zs ≡ leftAll sheet bs (run (poweredUp (saidOf keyLimit sheet)) identity user (sentAll bs))
+  unfolding poweredUp
+  sheet-run bs zs identity user =
+      all-sent bs zs cleared cleared-fits (powered-up-holds (saidOf keyLimit sheet)) identity user

@@ -1,4 +1,3 @@
-pub mod Image
 pub mod Kept
 pub mod Run
 pub mod Reader

@@ -1,18 +1,18 @@
-// The functions that a program in C or Rust links (`rt staticlib capi`). Nothing checks the caller: it must pass what the parameters' types say.
+// The functions that a program in C or Rust links (`rt staticlib capi`). Nothing checks the caller: it must pass what the
+// parameters' types say.
 ghost use mathlib.Core.Path.{_≡_};
 ghost use Rattle.aes.specs.AesEnc.{aesEnc};
 ghost use Rattle.aes_inverse.specs.AesDec.{aesDec};
-ghost use Rattle.capi.specs.Image.{imageLength};
+ghost use Rattle.image.specs.Places.{imageLength};
 
-mod image; // image.rt: a tag as the bytes that its caller keeps
-pub mod kept; // kept.rt: the functions over such a tag
+pub mod kept; // kept.rt: the functions over a tag that its caller keeps, as an image of bytes
 mod given; // given.rt: what the reader's side is given and answers, as numbers
 pub mod build; // build.rt: each message of the reader's side
 pub mod judge; // judge.rt: the judge of a reply
 pub mod chain; // chain.rt: chaining and the MAC
 
-/// How many bytes a kept tag has: 827.
-/// Ruled out: the length of one sheet; an image with no room for the longest sheet.
+/// How many bytes a kept tag has: 793.
+/// Ruled out: the length of one tag's; an image with no room for sixteen key records.
 #[no_mangle]
 pub extern "C" fn roualint_tag_bytes() -> usize
     ensures { λ r. ⌜ r ≡ imageLength ⌝ }

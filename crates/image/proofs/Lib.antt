@@ -1,0 +1,9 @@
+pub mod Tables
+pub mod Laid
+pub mod Reading
+pub mod Said
+pub mod ReadBack
+pub mod Sessions
+pub mod Stays
+pub mod Examples
+pub mod Fits

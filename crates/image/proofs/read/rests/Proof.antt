@@ -1,0 +1,52 @@
+-- `read::rests` meets its contract.
+use Rattle.image.proofs.Reading.{waits, held-same}
+use borrow.Author.Needs.{needs}
+use Rattle.image.proofs.read.rests.Statement.{statement}
+use Rattle.image.proofs.read.rests.Tie as tie
+
+shared-slice-read-state-of : tie.Need-shared-slice-read-state-of
+shared-slice-read-state-of c = search needs
+
+state-of-requires : tie.Need-state-of-requires
+state-of-requires c κs = search needs
+
+at-rest-requires : tie.Need-at-rest-requires
+at-rest-requires c κs = search needs
+
+returns : tie.Need-returns
+returns c = waits (c .before .before .before .before .before .args .image .now) (c .before .before .before .before .before .pre) _ _ (c .before .before .state-of .ensures)
+    (c .before .at-rest .ensures) (c .if1 .taken)
+
+sub-same : tie.Need-sub-same
+sub-same c = search needs
+
+part-same-start : tie.Need-part-same-start
+part-same-start c = search needs
+
+part-same-end : tie.Need-part-same-end
+part-same-end c = search needs
+
+slice-aggregate-same : tie.Need-slice-aggregate-same
+slice-aggregate-same c = search needs
+
+same-requires : tie.Need-same-requires
+same-requires c κs = search needs
+
+returns-2 : tie.Need-returns-2
+returns-2 c = held-same (c .before .before .before .before .before .before .before .before .args .image .now) (c .before .before .before .before .before .before .before .before .pre) _ _ (c .before .before .before .before .before .state-of .ensures)
+    (c .before .before .before .before .at-rest .ensures) (c .before .before .before .if1 .left) _ (c .same .ensures)
+
+pub rests-spec : {M : Type 1} → statement M
+rests-spec =
+    tie.close
+    (tie.spec
+    shared-slice-read-state-of
+    state-of-requires
+    at-rest-requires
+    returns
+    sub-same
+    part-same-start
+    part-same-end
+    slice-aggregate-same
+    same-requires
+    returns-2)
