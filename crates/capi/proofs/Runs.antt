@@ -19,9 +19,9 @@ use Rattle.offer.specs.Outcomes.{numberGiven, replyLength}
 use Rattle.entry.specs.declared.Session.{Session}
 use Rattle.entry.specs.Sessions.{cleared}
 use Rattle.tag.specs.Answers.{Answer, Call, answerOf}
-use Rattle.tag.specs.Plays.{Brought, sentAll}
+use Rattle.tag.specs.Plays.{Brought, Doing, Step, Wake, eventsOf}
 use Rattle.tag.specs.Reactions.{lent}
-use Rattle.tag.specs.Runs.{run}
+use Rattle.tag.specs.Runs.{PowerUp, answerTo, run}
 use Rattle.tag.specs.States.{KeyedTag, keyed, poweredUp}
 use Rattle.tag.proofs.Holding.{Holds, holds-fits, powered-up-holds, answer-holds}
 use Rattle.image.specs.Image.{kept, keyedIn, tagIn, tableIn, isTag}
@@ -30,10 +30,12 @@ use Rattle.image.proofs.ReadBack.{kept-again, tag-back, table-back, is-tag-back
 use Rattle.image.proofs.Said.{said-fits}
 use Rattle.image.proofs.Sessions.{cleared-fits, answer-fits}
 use Rattle.capi.specs.Kept.{SetUp, PoweredUp, purposeGiven, answerIn}
-use Rattle.capi.specs.Run.{Left, Sends, SendsAll, leftOf, leftAll}
+use Rattle.capi.specs.Run.{Left, Sends, Wakes, CallsAll, leftOf, leftAll}
 use Rattle.capi.proofs.Keeps.{answer-of}
 use Rattle.capi.proofs.kept.roualint_message.Reads as message
 use Rattle.capi.proofs.kept.roualint_message.Kinds as message-kinds
+use Rattle.capi.proofs.kept.roualint_power_up.Reads as power-up
+use Rattle.capi.proofs.kept.roualint_power_up.Kinds as power-up-kinds
 
 -- A call, as the run has it, is the contract that the checker reads from the source of `roualint_message`.
 pub send-is-message : (κs : Lfts 8) (a : Dens κs message-kinds.ps) (r : resT message-kinds.r κs .Denot)
@@ -52,6 +54,12 @@ pub send-is-message : (κs : Lfts 8) (a : Dens κs message-kinds.ps) (r : resT m
     })
 send-is-message κs a r e = refl
 
+-- So is a power-up that of `roualint_power_up`.
+pub wake-is-power-up : (κs : Lfts 1) (a : Dens κs power-up-kinds.ps) (r : resT power-up-kinds.r κs .Denot)
+    (e : AtExit (endedOf 1 power-up-kinds.ps power-up-kinds.r) κs)
+    → power-up.Post κs a r e ≡ PoweredUp (now (a .0)) r (now (e .0))
+wake-is-power-up κs a r e = refl
+
 module _ (sheet : List ℕ) (y : Bytes sheet) (e : Accepted keyLimit sheet) where
   abbrev terms : Terms
   terms = readOf keyLimit sheet .terms
@@ -61,6 +69,10 @@ module _ (sheet : List ℕ) (y : Bytes sheet) (e : Accepted keyLimit sheet) wher
 
   abbrev tagOf : Session → KeyedTag
   tagOf s = record { setup = saidOf keyLimit sheet; session = s }
+
+  awake-holds : Holds (saidOf keyLimit sheet .keys) cleared
+  unfolding poweredUp
+  awake-holds = powered-up-holds (saidOf keyLimit sheet)
 
   module _ (s : Session) (w : Fits s) (k : Holds (saidOf keyLimit sheet .keys) s) where
     abbrev image : List ℕ
@@ -82,7 +94,7 @@ module _ (sheet : List ℕ) (y : Bytes sheet) (e : Accepted keyLimit sheet) wher
 
     -- what one call leaves
     sent : (identity user : List ℕ) (b : Brought) (z : Left) → Sends image identity user b z
-        → z ≡ leftOf sheet b (answerOf (lent (b .message) (b .draws) (b .room) identity user) (tagOf s))
+        → z ≡ leftOf sheet (Step b) (answerOf (lent (b .message) (b .draws) (b .room) identity user) (tagOf s))
     sent identity user b z h =
         let c = lent (b .message) (b .draws) (b .room) identity user in
         let a = answerOf c (tagOf s) in
@@ -108,6 +120,21 @@ module _ (sheet : List ℕ) (y : Bytes sheet) (e : Accepted keyLimit sheet) wher
         ∙ ap (λ (b : Bool). pick b (kept cleared image) image) tag-there
         ∙ kept-again terms table cleared s cleared-fits w
 
+    -- as one call of a run
+    woken : (identity user : List ℕ) (z : Left) → Wakes image identity user z
+        → z ≡ leftOf sheet Wake (answerTo (tagOf s) identity user PowerUp)
+    unfolding answerTo
+    woken identity user z h =
+        λ j. record {
+          number = (h .wakes .number ∙ ap (λ (t : Bool). pick t 0 7) tag-there) j;
+          told = h .told j;
+          purpose = h .purpose j;
+          image = power-back (z .number) (z .image) (h .wakes) j;
+          room = h .room j;
+          identity = h .identity j;
+          user = h .user j;
+        }
+
   -- what `roualint_sheet` makes of an accepted sheet, whatever the image was
   pub sheet-made : (image : List ℕ) (r at : ℕ) (after : List ℕ) → SetUp sheet image r at after
       → after ≡ sheetImage cleared sheet
@@ -115,28 +142,30 @@ module _ (sheet : List ℕ) (y : Bytes sheet) (e : Accepted keyLimit sheet) wher
       h .holds ∙ ap (λ (b : Bool). pick b (sheetImage cleared sheet) image) (ap accepts e)
 
   -- what a run leaves
-  pub all-sent : (bs : List Brought) (zs : List Left) (s : Session) (w : Fits s)
+  pub all-called : (ds : List Doing) (zs : List Left) (s : Session) (w : Fits s)
       (k : Holds (saidOf keyLimit sheet .keys) s) (identity user : List ℕ)
-      → SendsAll (sheetImage s sheet) identity user bs zs
-      → zs ≡ leftAll sheet bs (run (tagOf s) identity user (sentAll bs))
-  unfolding SendsAll leftAll run sentAll
-  all-sent [] [] s w k identity user h = refl
-  all-sent [] (z ∷ zs) s w k identity user h = absurd h
-  all-sent (b ∷ bs) [] s w k identity user h = absurd h
-  all-sent (b ∷ bs) (z ∷ zs) s w k identity user (h, hs) =
+      → CallsAll (sheetImage s sheet) identity user ds zs
+      → zs ≡ leftAll sheet ds (run (tagOf s) identity user (eventsOf ds))
+  unfolding CallsAll leftAll run answerTo eventsOf
+  all-called [] [] s w k identity user h = refl
+  all-called [] (z ∷ zs) s w k identity user h = absurd h
+  all-called (d ∷ ds) [] s w k identity user h = absurd h
+  all-called (Step b ∷ ds) (z ∷ zs) s w k identity user (h, hs) =
       let c = lent (b .message) (b .draws) (b .room) identity user in
       let q = sent s w k identity user b z h in
-      let g = subst (λ (l : Left). SendsAll (l .image) (l .identity) (l .user) bs zs) q hs in
-      λ j. q j ∷ all-sent bs zs _ (answer-fits c (tagOf s) w) (answer-holds c (tagOf s) k) _ _ g j
+      let g = subst (λ (l : Left). CallsAll (l .image) (l .identity) (l .user) ds zs) q hs in
+      λ j. q j ∷ all-called ds zs _ (answer-fits c (tagOf s) w) (answer-holds c (tagOf s) k) _ _ g j
+  all-called (Wake ∷ ds) (z ∷ zs) s w k identity user (h, hs) =
+      let q = woken s w k identity user z h in
+      let g = subst (λ (l : Left). CallsAll (l .image) (l .identity) (l .user) ds zs) q hs in
+      λ j. q j ∷ all-called ds zs cleared cleared-fits awake-holds _ _ g j
 
   -- from what `roualint_sheet` makes of the sheet
   pub sheet-tag : isTag (sheetImage cleared sheet) ≡ true
-  unfolding poweredUp
-  sheet-tag = tag-there cleared cleared-fits (powered-up-holds (saidOf keyLimit sheet))
+  sheet-tag = tag-there cleared cleared-fits awake-holds
 
-  pub sheet-run : (bs : List Brought) (zs : List Left) (identity user : List ℕ)
-      → SendsAll (sheetImage cleared sheet) identity user bs zs
-      → zs ≡ leftAll sheet bs (run (poweredUp (saidOf keyLimit sheet)) identity user (sentAll bs))
+  pub sheet-run : (ds : List Doing) (zs : List Left) (identity user : List ℕ)
+      → CallsAll (sheetImage cleared sheet) identity user ds zs
+      → zs ≡ leftAll sheet ds (run (poweredUp (saidOf keyLimit sheet)) identity user (eventsOf ds))
   unfolding poweredUp
-  sheet-run bs zs identity user =
-      all-sent bs zs cleared cleared-fits (powered-up-holds (saidOf keyLimit sheet)) identity user
+  sheet-run ds zs identity user = all-called ds zs cleared cleared-fits awake-holds identity user
