@@ -20,7 +20,7 @@ extern "C" {
 
 /* ---- sizes in bytes ---- */
 
-#define ROUALINT_TAG 827          /* a kept tag */
+#define ROUALINT_TAG 793          /* a kept tag */
 #define ROUALINT_DRAWS 10         /* the random bytes that come with each message to the tag */
 #define ROUALINT_REPLY_ROOM 172   /* the room for a reply, at least */
 #define ROUALINT_MESSAGE_ROOM 176 /* the room for a message that is built, at least */
@@ -63,7 +63,7 @@ extern "C" {
 #define ROUALINT_IAM_INIT 1
 #define ROUALINT_MAM_INIT 2
 #define ROUALINT_IA_OK 3
-#define ROUALINT_NO_TAG 255 /* bytes that are no tag's have no state */
+#define ROUALINT_NO_TAG 255 /* a first byte over 3 is no state */
 
 #define ROUALINT_NO_DATA 0
 #define ROUALINT_UNPROVED 1
@@ -78,12 +78,19 @@ extern "C" {
  *     1          KeyID that is held
  *     2 to 11    TChallenge that is held
  *     12 to 15   IChallenge[31:0] that is held
- *     16, 17     the length of the sheet, most significant byte first
- *     18 to 826  the sheet; roualint_sheet sets the bytes behind it to zero, and no other function writes there
- * It can be copied, stored and compared like any bytes: of tags that roualint_sheet made, two have the same sheet and the
- * same session just where their bytes are equal. Bytes are no tag's where the state is over 3, the sheet is refused, or a
- * challenge waits (state 1 or 2) for a KeyID that no record of the sheet has; all zeros are none. Each function reads the
- * sheet anew.
+ *     16, 17     features, as in the sheet's record 01 behind its kind byte
+ *     18 to 21   the sizes of the areas, as in record 02
+ *     22 to 117  sixteen profiles of 6 bytes: 1 where there is one, area, base, words; zeros where there is none
+ *     118        how many locks there are
+ *     119 to 198 sixteen locks of 5 bytes, as in record 05; zeros where there is none
+ *     199, 200   how many key records there are
+ *     201 to 792 the key records, 37 bytes each, as they stand in the sheet, and zeros behind them
+ * Numbers go most significant byte first. roualint_sheet writes all of it, and every other function the first sixteen bytes
+ * alone. It can be copied, stored and compared like any bytes: of tags that roualint_sheet made, two have the same sheet and
+ * the same session just where their bytes are equal. Bytes are no tag's where the state is over 3, there are more than 16
+ * locks or more than 16 key records, a challenge waits (state 1 or 2) for a KeyID that no record has, or anything is held
+ * in state 0 or 3. All others are taken at their word, sheet or no sheet: what is proved of a message holds of the setup
+ * that the bytes say. All zeros are the tag of the smallest sheet, which offers nothing.
  *
  * That is all that is asked: the library can't tell a stored tag from bytes that were made by hand. They are the standard's
  * tag where roualint_sheet made them and only these functions changed them since (theorem sheet-run in
@@ -93,7 +100,7 @@ typedef struct roualint_tag {
     uint8_t bytes[ROUALINT_TAG];
 } roualint_tag;
 
-/* How many bytes a kept tag has: 827. */
+/* How many bytes a kept tag has: 793. */
 size_t roualint_tag_bytes(void);
 
 /* A sheet becomes a tag at its power-up: 0, and *place is 0. A refused sheet: 30 to 35, and the tag stays as it was; *place,
@@ -105,7 +112,8 @@ uint8_t roualint_sheet(const uint8_t *sheet, size_t sheet_length, roualint_tag *
  * stay. Bytes that are no tag's: 7, and they stay as they are. */
 uint8_t roualint_power_up(roualint_tag *tag);
 
-/* The tag's state, 0 to 3; 255 for bytes that are no tag's. */
+/* The tag's state, 0 to 3; 255 where it is over 3. Only the first byte is read: whether the bytes are a tag's, the other
+ * functions tell by number 7. */
 uint8_t roualint_state(const roualint_tag *tag);
 
 /* The sizes in bytes of the two areas that the tag wants lent: 0. Bytes that are no tag's: 7, and both sizes are 0. */

@@ -15,6 +15,13 @@ static void sizes(void)
     EXPECT(roualint_tag_bytes() == sizeof(roualint_tag), "the library's tag has as many bytes as the header's");
 }
 
+/* Are the bytes a tag's, by the areas that it tells? */
+static int is_tag(const roualint_tag *tag)
+{
+    size_t identity, user;
+    return roualint_areas(tag, &identity, &user) == 0;
+}
+
 static void sheets(void)
 {
     struct bench b = annex_f();
@@ -22,8 +29,11 @@ static void sheets(void)
     size_t n, place = 99, identity = 99, user = 99;
     const uint8_t *sheet = hex(SHEET, &n);
     EXPECT(are_all(b.tag->bytes, 16, 0), "the session of a new tag");
-    EXPECT(b.tag->bytes[16] == 0 && b.tag->bytes[17] == 90, "the sheet's length, most significant byte first");
-    EXPECT(memcmp(b.tag->bytes + 18, sheet, n) == 0 && are_all(b.tag->bytes + 18 + n, ROUALINT_TAG - 18 - n, 0), "the sheet, and zeros");
+    EXPECT(memcmp(b.tag->bytes + 16, sheet + 1, 2) == 0 && memcmp(b.tag->bytes + 18, sheet + 4, 4) == 0, "features and sizes");
+    EXPECT(are_all(b.tag->bytes + 22, 6, 0) && is_hex(b.tag->bytes + 28, 6, "010000000009"), "profile 1 of sixteen");
+    EXPECT(are_all(b.tag->bytes + 34, 165, 0), "no other profile, and no lock");
+    EXPECT(is_hex(b.tag->bytes + 199, 2, "0002") && memcmp(b.tag->bytes + 201, sheet + 8, 74) == 0, "the key records");
+    EXPECT(are_all(b.tag->bytes + 275, ROUALINT_TAG - 275, 0), "zeros behind them");
     EXPECT(roualint_state(b.tag) == ROUALINT_INITIAL, "a new tag is in Initial");
     EXPECT(roualint_areas(b.tag, &identity, &user) == 0 && identity == 18 && user == 0, "the areas' sizes");
 
@@ -37,19 +47,38 @@ static void sheets(void)
     /* A shorter sheet leaves nothing of the longer one. */
     sheet = hex(OPENING "06", &n);
     EXPECT(roualint_sheet(sheet, n, b.tag, &place) == 0 && place == 0, "a sheet of three records");
-    EXPECT(b.tag->bytes[17] == 9 && are_all(b.tag->bytes + 27, ROUALINT_TAG - 27, 0), "no byte of the older sheet is left");
+    EXPECT(are_all(b.tag->bytes + 22, ROUALINT_TAG - 22, 0), "no byte of the older sheet is left");
+    sheet = hex("01 0000 02 0000 0000 06", &n);
+    EXPECT(roualint_sheet(sheet, n, b.tag, &place) == 0 && are_all(b.tag->bytes, ROUALINT_TAG, 0), "zeros are the smallest sheet's tag");
 
-    memset(none, 0, sizeof *none);
-    EXPECT(roualint_state(none) == ROUALINT_NO_TAG && roualint_power_up(none) == ROUALINT_BENCH_FAULT, "zeros are no tag");
-    EXPECT(roualint_areas(none, &identity, &user) == ROUALINT_BENCH_FAULT && identity == 0 && user == 0, "zeros have no areas");
-    EXPECT(are_all(none->bytes, ROUALINT_TAG, 0), "bytes that are no tag's stay");
+    memset(none, 0xFF, sizeof *none);
+    EXPECT(roualint_state(none) == ROUALINT_NO_TAG && roualint_power_up(none) == ROUALINT_BENCH_FAULT, "a state that is none");
+    EXPECT(roualint_areas(none, &identity, &user) == ROUALINT_BENCH_FAULT && identity == 0 && user == 0, "it has no areas");
+    EXPECT(are_all(none->bytes, ROUALINT_TAG, 0xFF), "bytes that are no tag's stay");
     before.bytes[0] = 4;
-    EXPECT(roualint_state(&before) == ROUALINT_NO_TAG, "a state that is none");
+    EXPECT(roualint_state(&before) == ROUALINT_NO_TAG && !is_tag(&before), "a fifth state");
     before.bytes[0] = ROUALINT_IAM_INIT;
     before.bytes[1] = 1;
-    EXPECT(roualint_state(&before) == ROUALINT_IAM_INIT, "a challenge that waits under a key of the sheet");
+    EXPECT(roualint_state(&before) == ROUALINT_IAM_INIT && is_tag(&before), "a challenge that waits under a key of the sheet");
     before.bytes[1] = 99;
-    EXPECT(roualint_state(&before) == ROUALINT_NO_TAG, "a challenge that waits under a key that no record has");
+    EXPECT(!is_tag(&before), "a challenge that waits under a key that no record has");
+    before.bytes[0] = ROUALINT_INITIAL;
+    before.bytes[1] = 1;
+    EXPECT(!is_tag(&before), "a KeyID that is held in Initial");
+    before.bytes[0] = ROUALINT_IA_OK;
+    before.bytes[1] = 0;
+    before.bytes[15] = 1;
+    EXPECT(!is_tag(&before), "a challenge that is held in IA-OK");
+    before.bytes[15] = 0;
+    EXPECT(is_tag(&before), "IA-OK");
+    before.bytes[118] = 17;
+    EXPECT(!is_tag(&before), "seventeen locks");
+    before.bytes[118] = 16;
+    EXPECT(is_tag(&before), "sixteen locks, of no words");
+    before.bytes[200] = 17;
+    EXPECT(!is_tag(&before), "seventeen key records");
+    before.bytes[200] = 16;
+    EXPECT(is_tag(&before), "sixteen key records");
     INTACT();
     lent_back();
 }

@@ -6,13 +6,13 @@ use crate::refusal::{Refusal, SheetRefusal};
 use core::fmt;
 
 /// How many bytes a tag has.
-pub const TAG_BYTES: usize = 827;
+pub const TAG_BYTES: usize = 793;
 
 /// The room for a reply.
 const REPLY_ROOM: usize = 172;
 
 /// A tag: what its sheet says, and its session. The bytes are those that include/roualint.h describes, so that a tag can be
-/// stored and read back. A value of this type always has one of the four states and a sheet that is accepted. One that
+/// stored and read back. A value of this type always has one of the four states, and a key for a challenge that waits. One that
 /// [`Tag::new`] made is the standard's tag from then on (theorem sheet-run in crates/capi/proofs/Runs.antt), also where it
 /// was stored in between; of bytes from elsewhere see [`Tag::from_bytes`].
 #[derive(Clone, PartialEq, Eq)]
@@ -68,8 +68,8 @@ impl Tag {
         Refusal::check(number).map_err(|refusal| SheetRefusal { refusal, place })
     }
 
-    /// The tag of these bytes. Number 7 where the state is over 3, the sheet is refused, or a challenge waits for a KeyID that
-    /// no record of the sheet has.
+    /// The tag of these bytes. Number 7 where the state is over 3, there are more than 16 locks or more than 16 key records, a
+    /// challenge waits for a KeyID that no record has, or anything is held in Initial or IA-OK.
     ///
     /// That is all that is asked: the library can't tell a stored tag from bytes that were made by hand. So keep the bytes, like
     /// the keys they hold, where nobody else writes. Bytes from elsewhere are safe to pass: every call returns and keeps to its
@@ -90,7 +90,7 @@ impl Tag {
     pub fn power_up(&mut self) {
         // The tag is borrowed for writing, and nothing else is lent.
         let number = unsafe { ffi::roualint_power_up(&mut self.bytes) };
-        debug_assert_eq!(number, 0, "state and sheet are those of a tag");
+        debug_assert_eq!(number, 0, "the bytes are a tag's");
     }
 
     /// The state.
@@ -101,7 +101,7 @@ impl Tag {
             1 => State::IamInit,
             2 => State::MamInit,
             3 => State::IaOk,
-            _ => unreachable!("state and sheet are those of a tag"),
+            _ => unreachable!("the bytes are a tag's"),
         }
     }
 
@@ -110,7 +110,7 @@ impl Tag {
         let mut areas = Areas { identity: 0, user: 0 };
         // The tag is only read; the two sizes are places of their own.
         let number = unsafe { ffi::roualint_areas(&self.bytes, &mut areas.identity, &mut areas.user) };
-        debug_assert_eq!(number, 0, "state and sheet are those of a tag");
+        debug_assert_eq!(number, 0, "the bytes are a tag's");
         areas
     }
 

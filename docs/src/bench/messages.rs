@@ -14,7 +14,7 @@ use std::hint::black_box;
 use std::time::Instant;
 
 /// The bytes of a kept tag.
-const IMAGE: usize = 827;
+const IMAGE: usize = 793;
 
 #[link(name = "capi", kind = "static")]
 extern "C" {

@@ -38,14 +38,13 @@ fn sheets() {
     let sheet = annex_f_sheet();
     let mut tag = Tag::new(&sheet).expect("Annex F's sheet");
     let bytes = tag.as_bytes();
-    assert_eq!(
-        (sheet.len(), &bytes[16..18]),
-        (90, &[0, 90][..]),
-        "the sheet's length, most significant byte first"
-    );
+    assert!(bytes[..16] == [0; 16], "the session");
+    assert!(bytes[16..18] == sheet[1..3] && bytes[18..22] == sheet[4..8], "features and sizes");
+    assert!(bytes[22..28] == [0; 6] && bytes[28..34] == [1, 0, 0, 0, 0, 9], "profile 1 of sixteen");
+    assert!(bytes[34..199].iter().all(|&b| b == 0), "no other profile, and no lock");
     assert!(
-        bytes[..16] == [0; 16] && bytes[18..108] == sheet && bytes[108..].iter().all(|&b| b == 0),
-        "session, sheet and zeros"
+        bytes[199..201] == [0, 2] && bytes[201..275] == sheet[8..82] && bytes[275..].iter().all(|&b| b == 0),
+        "the key records, and zeros"
     );
     assert_eq!(
         (tag.state(), tag.areas()),
@@ -72,7 +71,7 @@ fn sheets() {
     }
     assert_eq!(tag, before, "a refused sheet leaves the tag as it was");
     tag.set_up(&hex(&[OPENING, "06"].concat())).expect("three records");
-    assert!(tag.as_bytes()[27..].iter().all(|&b| b == 0), "no byte of the older sheet is left");
+    assert!(tag.as_bytes()[22..].iter().all(|&b| b == 0), "no byte of the older sheet is left");
 
     let mut bytes = *before.as_bytes();
     assert_eq!(Tag::from_bytes(bytes).as_ref(), Ok(&before), "bytes of a tag");
@@ -84,7 +83,18 @@ fn sheets() {
         Some(7),
         "a challenge that waits under a key that no record has"
     );
-    assert_eq!(number(Tag::from_bytes([0; TAG_BYTES])), Some(7), "zeros");
+    (bytes[0], bytes[1]) = (0, 1);
+    assert_eq!(number(Tag::from_bytes(bytes)), Some(7), "a KeyID that is held in Initial");
+    bytes[1] = 0;
+    for (place, most) in [(118, 16), (200, 16)] {
+        let said = bytes[place];
+        bytes[place] = most + 1;
+        assert_eq!(number(Tag::from_bytes(bytes)), Some(7), "one lock, one key record more than there is room for");
+        bytes[place] = said;
+    }
+    assert_eq!(Tag::from_bytes(bytes).as_ref(), Ok(&before), "the tag again");
+    let smallest = Tag::new(&hex("01 0000 02 0000 0000 06")).expect("the smallest sheet");
+    assert_eq!(Tag::from_bytes([0; TAG_BYTES]).as_ref(), Ok(&smallest), "zeros are its tag");
 }
 
 fn tag_authentication() {
