@@ -45,7 +45,8 @@ struct judged {
     uint8_t *challenge;
 };
 
-struct judged judge(const char *enc, const char *mac, const uint8_t *m, size_t n, const uint8_t *reply, size_t k, size_t room);
+struct judged judge(const char *enc, const char *mac, const uint8_t *m, size_t n, const uint8_t *reply, size_t k,
+                    size_t room);
 
 /* Accepted, with these data of this worth, or with this challenge. Refused by this number, with nothing handed over. */
 void accepts(struct judged j, const char *data, uint8_t worth, const char *challenge);

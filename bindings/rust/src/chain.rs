@@ -1,5 +1,5 @@
-//! The cipher, its four forms of chaining, and the MAC. Chaining and the MAC use stack for each block: with 8 MB they were run
-//! over 57,000 and 37,000 blocks, and a longer input ends the program.
+//! The cipher, its four forms of chaining, and the MAC. Chaining and the MAC use stack for each block: with 8 MB they
+//! were run over 57,000 and 37,000 blocks, and a longer input ends the program.
 
 use crate::ffi;
 use crate::refusal::Refusal;
@@ -23,29 +23,37 @@ pub fn aes_dec(key: &Block, block: &Block) -> Block {
     output
 }
 
-/// CBC_ENC_AES (3.1.8) into the room's first bytes, as many as the input has. Number 8, and the room as it was, where the
-/// input is no whole number of blocks or the room is shorter.
+/// CBC_ENC_AES (3.1.8) into the room's first bytes, as many as the input has. Number 8, and the room as it was, where
+/// the input is no whole number of blocks or the room is shorter.
 pub fn cbc_enc_aes(iv: &Block, key: &Block, input: &[u8], room: &mut [u8]) -> Result<(), Refusal> {
     // Slices have the bytes they say, and the room is borrowed for writing.
-    Refusal::check(unsafe { ffi::roualint_cbc_enc_aes(iv, key, input.as_ptr(), input.len(), room.as_mut_ptr(), room.len()) })
+    Refusal::check(unsafe {
+        ffi::roualint_cbc_enc_aes(iv, key, input.as_ptr(), input.len(), room.as_mut_ptr(), room.len())
+    })
 }
 
 /// CBC_DEC_AES (3.1.11), by AES-ENC; refused as [`cbc_enc_aes`] is.
 pub fn cbc_dec_aes(iv: &Block, key: &Block, input: &[u8], room: &mut [u8]) -> Result<(), Refusal> {
     // As above.
-    Refusal::check(unsafe { ffi::roualint_cbc_dec_aes(iv, key, input.as_ptr(), input.len(), room.as_mut_ptr(), room.len()) })
+    Refusal::check(unsafe {
+        ffi::roualint_cbc_dec_aes(iv, key, input.as_ptr(), input.len(), room.as_mut_ptr(), room.len())
+    })
 }
 
 /// CBC_ENC_AES_INV (3.1.10), by AES-DEC; refused as [`cbc_enc_aes`] is. [`cbc_dec_aes`] undoes it.
 pub fn cbc_enc_aes_inv(iv: &Block, key: &Block, input: &[u8], room: &mut [u8]) -> Result<(), Refusal> {
     // As above.
-    Refusal::check(unsafe { ffi::roualint_cbc_enc_aes_inv(iv, key, input.as_ptr(), input.len(), room.as_mut_ptr(), room.len()) })
+    Refusal::check(unsafe {
+        ffi::roualint_cbc_enc_aes_inv(iv, key, input.as_ptr(), input.len(), room.as_mut_ptr(), room.len())
+    })
 }
 
 /// CBC_DEC_AES_INV (3.1.9), by AES-DEC; refused as [`cbc_enc_aes`] is, which it undoes.
 pub fn cbc_dec_aes_inv(iv: &Block, key: &Block, input: &[u8], room: &mut [u8]) -> Result<(), Refusal> {
     // As above.
-    Refusal::check(unsafe { ffi::roualint_cbc_dec_aes_inv(iv, key, input.as_ptr(), input.len(), room.as_mut_ptr(), room.len()) })
+    Refusal::check(unsafe {
+        ffi::roualint_cbc_dec_aes_inv(iv, key, input.as_ptr(), input.len(), room.as_mut_ptr(), room.len())
+    })
 }
 
 /// CMAC-96 (3.1.13). Number 8 where the input is no whole number of blocks, or none.

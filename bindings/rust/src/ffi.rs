@@ -1,7 +1,8 @@
 //! The functions of `libcapi.a`, as include/roualint.h has them.
 //!
-//! What each asks of its caller: pointers that are not null, to as many bytes as the length behind them says; and no byte
-//! that may be written overlaps another that is lent. Rust's references and slices give just that. No pointer is kept.
+//! What each asks of its caller: pointers that are not null, to as many bytes as the length behind them says; and no
+//! byte that may be written overlaps another that is lent. Rust's references and slices give just that. No pointer is
+//! kept.
 
 use crate::chain::Block;
 use crate::tag::TAG_BYTES;
@@ -105,8 +106,22 @@ extern "C" {
 
     pub fn roualint_aes_enc(key: &Block, block: &mut Block);
     pub fn roualint_aes_dec(key: &Block, block: &mut Block);
-    pub fn roualint_cbc_enc_aes(iv: &Block, key: &Block, input: *const u8, input_length: usize, room: *mut u8, room_length: usize) -> u8;
-    pub fn roualint_cbc_dec_aes(iv: &Block, key: &Block, input: *const u8, input_length: usize, room: *mut u8, room_length: usize) -> u8;
+    pub fn roualint_cbc_enc_aes(
+        iv: &Block,
+        key: &Block,
+        input: *const u8,
+        input_length: usize,
+        room: *mut u8,
+        room_length: usize,
+    ) -> u8;
+    pub fn roualint_cbc_dec_aes(
+        iv: &Block,
+        key: &Block,
+        input: *const u8,
+        input_length: usize,
+        room: *mut u8,
+        room_length: usize,
+    ) -> u8;
     pub fn roualint_cbc_enc_aes_inv(
         iv: &Block,
         key: &Block,
@@ -123,5 +138,11 @@ extern "C" {
         room: *mut u8,
         room_length: usize,
     ) -> u8;
-    pub fn roualint_cmac_96(key: &Block, input: *const u8, input_length: usize, room: *mut u8, room_length: usize) -> u8;
+    pub fn roualint_cmac_96(
+        key: &Block,
+        input: *const u8,
+        input_length: usize,
+        room: *mut u8,
+        room_length: usize,
+    ) -> u8;
 }

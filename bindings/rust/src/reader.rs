@@ -129,7 +129,14 @@ impl Reader {
     }
 
     /// IAM3: the same answer, with data to be written.
-    pub fn build_iam3(&self, custom: Custom, purpose: u8, irnd: &[u8; 4], tchallenge: &[u8; 10], words: &[u8]) -> Built {
+    pub fn build_iam3(
+        &self,
+        custom: Custom,
+        purpose: u8,
+        irnd: &[u8; 4],
+        tchallenge: &[u8; 10],
+        words: &[u8],
+    ) -> Built {
         let mac = self.mac();
         // As above; keys, IRnd, challenge and words are only read.
         built(|room| unsafe {
@@ -241,6 +248,8 @@ impl Worth {
 /// Whether there is a MAC key: the keys are nobody's to print.
 impl fmt::Debug for Reader {
     fn fmt(&self, f: &mut fmt::Formatter<'_>) -> fmt::Result {
-        f.debug_struct("Reader").field("mac", &self.mac.is_some()).finish_non_exhaustive()
+        f.debug_struct("Reader")
+            .field("mac", &self.mac.is_some())
+            .finish_non_exhaustive()
     }
 }

@@ -28,7 +28,10 @@ impl Refusal {
 
     /// What it means, and where to look first.
     pub fn text(self) -> &'static str {
-        NUMBERS.lines().find_map(|line| self.explained(line)).unwrap_or("no such number")
+        NUMBERS
+            .lines()
+            .find_map(|line| self.explained(line))
+            .unwrap_or("no such number")
     }
 
     /// What a line says behind this number.
@@ -51,8 +54,8 @@ impl Error for Refusal {}
 pub struct SheetRefusal {
     /// 30 to 35.
     pub refusal: Refusal,
-    /// Counted from 0: the place of the kind byte of the record that is refused; for 35 of the first byte behind the end
-    /// record; for 30, where no record is there, the sheet's length.
+    /// Counted from 0: the place of the kind byte of the record that is refused; for 35 of the first byte behind the
+    /// end record; for 30, where no record is there, the sheet's length.
     pub place: usize,
 }
 

@@ -11,10 +11,10 @@ pub const TAG_BYTES: usize = 793;
 /// The room for a reply.
 const REPLY_ROOM: usize = 172;
 
-/// A tag: what its sheet says, and its session. The bytes are those that include/roualint.h describes, so that a tag can be
-/// stored and read back. A value of this type always has one of the four states, and a key for a challenge that waits. One that
-/// [`Tag::new`] made is the standard's tag from then on (theorem sheet-run in crates/capi/proofs/Runs.antt), also where it
-/// was stored in between; of bytes from elsewhere see [`Tag::from_bytes`].
+/// A tag: what its sheet says, and its session. The bytes are those that include/roualint.h describes, so that a tag
+/// can be stored and read back. A value of this type always has one of the four states, and a key for a challenge that
+/// waits. One that [`Tag::new`] made is the standard's tag from then on (theorem sheet-run in
+/// crates/capi/proofs/Runs.antt), also where it was stored in between; of bytes from elsewhere see [`Tag::from_bytes`].
 #[derive(Clone, PartialEq, Eq)]
 #[repr(transparent)]
 pub struct Tag {
@@ -68,12 +68,12 @@ impl Tag {
         Refusal::check(number).map_err(|refusal| SheetRefusal { refusal, place })
     }
 
-    /// The tag of these bytes. Number 7 where the state is over 3, there are more than 16 locks or more than 16 key records, a
-    /// challenge waits for a KeyID that no record has, or anything is held in Initial or IA-OK.
+    /// The tag of these bytes. Number 7 where the state is over 3, there are more than 16 locks or more than 16 key
+    /// records, a challenge waits for a KeyID that no record has, or anything is held in Initial or IA-OK.
     ///
-    /// That is all that is asked: the library can't tell a stored tag from bytes that were made by hand. So keep the bytes, like
-    /// the keys they hold, where nobody else writes. Bytes from elsewhere are safe to pass: every call returns and keeps to its
-    /// contract. But whoever makes the bytes chooses keys and challenges.
+    /// That is all that is asked: the library can't tell a stored tag from bytes that were made by hand. So keep the
+    /// bytes, like the keys they hold, where nobody else writes. Bytes from elsewhere are safe to pass: every call
+    /// returns and keeps to its contract. But whoever makes the bytes chooses keys and challenges.
     pub fn from_bytes(bytes: [u8; TAG_BYTES]) -> Result<Tag, Refusal> {
         let mut areas = (0, 0);
         // The bytes are only read; the two sizes are places of their own.
@@ -86,7 +86,8 @@ impl Tag {
         &self.bytes
     }
 
-    /// Power-up and reset: the tag is in Initial and holds nothing. The session's sixteen bytes are zeros, all others stay.
+    /// Power-up and reset: the tag is in Initial and holds nothing. The session's sixteen bytes are zeros, all others
+    /// stay.
     pub fn power_up(&mut self) {
         // The tag is borrowed for writing, and nothing else is lent.
         let number = unsafe { ffi::roualint_power_up(&mut self.bytes) };
@@ -114,9 +115,15 @@ impl Tag {
         areas
     }
 
-    /// One message, with ten random bytes and both areas. Refused: 1 to 7, and no byte of an area changes; after 1 to 6 the
-    /// tag is in Initial and holds nothing, after 7 it is as it was.
-    pub fn message(&mut self, message: &[u8], draws: &[u8], identity: &mut [u8], user: &mut [u8]) -> Result<Accepted, Refusal> {
+    /// One message, with ten random bytes and both areas. Refused: 1 to 7, and no byte of an area changes; after 1 to 6
+    /// the tag is in Initial and holds nothing, after 7 it is as it was.
+    pub fn message(
+        &mut self,
+        message: &[u8],
+        draws: &[u8],
+        identity: &mut [u8],
+        user: &mut [u8],
+    ) -> Result<Accepted, Refusal> {
         let mut room = [0; REPLY_ROOM];
         let (mut length, mut purpose) = (0, 0);
         // Slices have the bytes they say; what may be written is borrowed for it or stands here, so nothing overlaps.
@@ -154,6 +161,8 @@ impl Tag {
 /// The state alone: the keys are nobody's to print.
 impl fmt::Debug for Tag {
     fn fmt(&self, f: &mut fmt::Formatter<'_>) -> fmt::Result {
-        f.debug_struct("Tag").field("state", &self.state()).finish_non_exhaustive()
+        f.debug_struct("Tag")
+            .field("state", &self.state())
+            .finish_non_exhaustive()
     }
 }

@@ -1,6 +1,6 @@
 // One exchange of each kind, the two halves against each other: a script of the bench's own commands, with the tag, the
-// keys, the draws and the challenges of Annex F, so that a trainee finds many of the bytes in its tables. What it prints
-// is examples/demo.out.
+// keys, the draws and the challenges of Annex F, so that a trainee finds many of the bytes in its tables. What it
+// prints is examples/demo.out.
 use crate::input;
 
 pub fn played() {

@@ -1,5 +1,5 @@
-//! The plain AES of this bench, under the names by which the second program's modules call theirs. That one is written to
-//! be read and is slow; a tag over it would make any other look fast.
+//! The plain AES of this bench, under the names by which the second program's modules call theirs. That one is written
+//! to be read and is slow; a tag over it would make any other look fast.
 
 use crate::plain_aes;
 pub use crate::plain_aes::Block;

@@ -6,12 +6,17 @@ use crate::memory::Memory;
 use crate::reader::{asking, payload, plain, proving, writing};
 use crate::sheet::{self, Key};
 
-/// All features; 9 words of identity, 128 of user memory; the two records of Annex F, Table F.1; profiles 0 and 1 over one
-/// area each; the first four words of identity are locked.
-const SHEET: &str = "01 3F 0F  02 0009 0080
-    03 00 01 0002 000102030405060708090A0B0C0D0E0F 2B7E151628AED2A6ABF7158809CF4F3C
-    03 01 01 0007 0A1B2C3D4E5F6A7B8C9D0E1F2AB3C4D5 889900AABBCCDDEEFFAABBCCDDEEFF00
-    04 00 00 0000 0009  04 01 01 0000 0080  05 00 0000 0004  06";
+/// All features; 9 words of identity, 128 of user memory; profiles 0 and 1 over one area each; the first four words of
+/// identity are locked. The key records stand between the two parts.
+const OPENING: &str = "01 3F 0F  02 0009 0080";
+const END: &str = "04 00 00 0000 0009  04 01 01 0000 0080  05 00 0000 0004  06";
+
+/// The two keys of Annex F, Table F.1. The second is that of the last record, and the first that of all before it.
+const FIRST: &str = "01 0002 000102030405060708090A0B0C0D0E0F 2B7E151628AED2A6ABF7158809CF4F3C";
+const LAST: &str = "01 0007 0A1B2C3D4E5F6A7B8C9D0E1F2AB3C4D5 889900AABBCCDDEEFFAABBCCDDEEFF00";
+
+/// The KeyID of the last record, which the messages name.
+const KEYID: u8 = 0xf0;
 
 /// The ten bytes that the tag draws in each call. They are TChallenge of IAM1 and of MAM1.
 pub const DRAWS: [u8; 10] = [0x97, 0x86, 0xca, 0xfe, 0x01, 0xbb, 0x65, 0xdc, 0x23, 0x00];
@@ -37,8 +42,17 @@ impl Exchange {
     }
 }
 
-pub fn tag_sheet() -> Vec<u8> {
-    bytes(SHEET)
+/// The sheet of a tag with so many key records.
+pub fn tag_sheet(keys: u8) -> Vec<u8> {
+    let mut sheet = bytes(OPENING);
+    for keyid in 0..keys - 1 {
+        sheet.extend([0x03, keyid]);
+        sheet.extend(bytes(FIRST));
+    }
+    sheet.extend([0x03, KEYID]);
+    sheet.extend(bytes(LAST));
+    sheet.extend(bytes(END));
+    sheet
 }
 
 pub fn areas() -> Memory {
@@ -50,7 +64,7 @@ pub fn areas() -> Memory {
 
 /// Every kind; the custom data in blocks of 64 bits, one of them and 16.
 pub fn all() -> Vec<Exchange> {
-    let key = sheet::read(&tag_sheet()).expect("a good sheet").keys[1];
+    let key = sheet::read(&tag_sheet(2)).expect("a good sheet").keys[1];
     let one = |name: &str, kind, f| alone(name.to_string(), asking(kind, f));
     let iam1 = asking(Kind::Iam1, fields(0, 0));
     let mam1 = asking(Kind::Mam1, fields(0, 0));
@@ -99,11 +113,11 @@ fn counted(blocks: u128) -> &'static str {
     }
 }
 
-/// The second record's key, profile 1 from its first word on, Rev 1. What a kind has not is of no account.
+/// The last record's key, profile 1 from its first word on, Rev 1. What a kind has not is of no account.
 fn fields(protmode: u128, blockcount: u128) -> Fields {
     Fields {
         rev: 1,
-        keyid: 1,
+        keyid: KEYID.into(),
         ichallenge: number(&bytes(ICHALLENGE)),
         profile: 1,
         blockcount,

@@ -1,9 +1,10 @@
 //! Messages a second: the proved soft tag beside the second program's.
 //!
-//! Both sides are called through a pointer with an exchange and a number of times. Each reads the sheet once, and then so
-//! many times powers the tag up and sends it the messages of the exchange. The draws are given, so the same answer to a
-//! challenge is accepted each time. The proved tag is kept as the image of bytes that the library hands out: each of its
-//! calls, the power-up too, reads the sheet in it anew, and how long a power-up takes is told by itself.
+//! Both sides are called through a pointer with an exchange and a number of times. Each reads the sheet once, and then
+//! so many times powers the tag up and sends it the messages of the exchange. The draws are given, so the same answer
+//! to a challenge is accepted each time. The proved tag is kept as the image of bytes that the library hands out, and
+//! each of its calls takes the tag from there; how long a power-up takes is told by itself. The tag has two key
+//! records, and once more, of the proved tag, sixteen: the last is the one that is named.
 
 use crate::exchanges::{all, areas, tag_sheet, Exchange, DRAWS};
 use crate::memory::Memory;
@@ -45,9 +46,9 @@ struct Bench {
 }
 
 impl Bench {
-    fn new() -> Bench {
+    fn new(keys: u8) -> Bench {
         Bench {
-            sheet: tag_sheet(),
+            sheet: tag_sheet(keys),
             room: [0xa5; ROOM],
             memory: areas(),
         }
@@ -134,17 +135,25 @@ pub fn measure() -> Result<(), String> {
     if let Some(exchange) = all.iter().find(|exchange| !alike(exchange)) {
         return Err(exchange.name.clone());
     }
-    let mut best = vec![[0.0f64; 2]; all.len()];
+    let mut best = vec![[0.0f64; 3]; all.len()];
     for _ in 0..ROUNDS {
         for (figures, exchange) in best.iter_mut().zip(&all) {
-            figures[0] = figures[0].max(messages_a_second(rust, exchange));
-            figures[1] = figures[1].max(messages_a_second(rattle, exchange));
+            figures[0] = figures[0].max(messages_a_second(rust, exchange, 2));
+            figures[1] = figures[1].max(messages_a_second(rattle, exchange, 2));
+            figures[2] = figures[2].max(messages_a_second(rattle, exchange, 16));
         }
     }
     println!("messages a second, all of them accepted; best of {ROUNDS} rounds of {TIMES} exchanges");
-    println!("{:35}{:>12}{:>12}{:>15}", "", "Rust", "Rattle", "Rattle / Rust");
-    for ([rust, rattle], exchange) in best.into_iter().zip(&all) {
-        println!("{:35}{rust:>12.0}{rattle:>12.0}{:>15.2}", exchange.name, rattle / rust);
+    println!(
+        "{:35}{:>12}{:>12}{:>15}{:>12}{:>10}",
+        "", "Rust", "Rattle", "Rattle / Rust", "16 keys", "16 / 2"
+    );
+    for ([rust, rattle, many], exchange) in best.into_iter().zip(&all) {
+        let (ratio, keys) = (rattle / rust, many / rattle);
+        println!(
+            "{:35}{rust:>12.0}{rattle:>12.0}{ratio:>15.2}{many:>12.0}{keys:>10.2}",
+            exchange.name
+        );
     }
     let times = (0..ROUNDS).map(|_| nanoseconds_a_power_up());
     println!(
@@ -155,7 +164,7 @@ pub fn measure() -> Result<(), String> {
 }
 
 fn nanoseconds_a_power_up() -> f64 {
-    let mut tag = kept(&tag_sheet());
+    let mut tag = kept(&tag_sheet(2));
     let start = Instant::now();
     for _ in 0..TIMES {
         power_up(black_box(&mut tag));
@@ -163,17 +172,17 @@ fn nanoseconds_a_power_up() -> f64 {
     start.elapsed().as_secs_f64() * 1e9 / TIMES as f64
 }
 
-/// Whether both accept the exchange, reply the same and leave the same in the areas. The second message has no reply, so
-/// the room then holds that of the first.
+/// Whether both accept the exchange, reply the same and leave the same in the areas. The second message has no reply,
+/// so the room then holds that of the first.
 fn alike(exchange: &Exchange) -> bool {
-    let (mut one, mut other) = (Bench::new(), Bench::new());
+    let (mut one, mut other) = (Bench::new(2), Bench::new(2));
     let accepted = [rust(exchange, &mut one, 1), rattle(exchange, &mut other, 1)];
     let memories = [&one.memory, &other.memory].map(|memory| (&memory.identity, &memory.user));
     accepted == [1, 1] && one.room == other.room && memories[0] == memories[1]
 }
 
-fn messages_a_second(play: Play, exchange: &Exchange) -> f64 {
-    let mut bench = Bench::new();
+fn messages_a_second(play: Play, exchange: &Exchange, keys: u8) -> f64 {
+    let mut bench = Bench::new(keys);
     let start = Instant::now();
     let accepted = play(black_box(exchange), &mut bench, TIMES);
     let passed = start.elapsed();

@@ -47,7 +47,11 @@ const TEXTS: [(u8, &str); 15] = [
 pub fn number<T>(result: Result<T, Refusal>) -> Option<u8> {
     let refusal = result.err()?;
     let (number, text) = (refusal.number(), refusal.text());
-    let begins = TEXTS.iter().find(|entry| entry.0 == number).expect("a number that is tested").1;
+    let begins = TEXTS
+        .iter()
+        .find(|entry| entry.0 == number)
+        .expect("a number that is tested")
+        .1;
     assert!(
         text.starts_with(begins) && refusal.to_string() == format!("{number} {text}"),
         "{refusal}"
@@ -123,8 +127,14 @@ impl Bench {
     }
 
     pub fn send(&mut self, message: &[u8], draws: &str) -> Result<Accepted, Refusal> {
-        let answer = self.tag.message(message, &hex(draws), self.identity.lent(), self.user.lent());
-        assert_eq!((self.before, self.behind), (GUARD, GUARD), "around the tag nothing is written");
+        let answer = self
+            .tag
+            .message(message, &hex(draws), self.identity.lent(), self.user.lent());
+        assert_eq!(
+            (self.before, self.behind),
+            (GUARD, GUARD),
+            "around the tag nothing is written"
+        );
         self.identity.intact();
         self.user.intact();
         answer
@@ -157,7 +167,11 @@ impl Bench {
     /// Refused by this number: the tag is in Initial and holds nothing, and no byte of an area has changed.
     pub fn refuses(&mut self, message: &str, refusal: u8) {
         let (identity, user) = (self.identity.bytes().to_vec(), self.user.bytes().to_vec());
-        assert_eq!(number(self.send(&hex(message), &"00".repeat(10))), Some(refusal), "{message}");
+        assert_eq!(
+            number(self.send(&hex(message), &"00".repeat(10))),
+            Some(refusal),
+            "{message}"
+        );
         assert_eq!(self.tag.as_bytes()[..16], [0; 16], "a refusal ends in Initial");
         self.holds(&identity, &user);
     }

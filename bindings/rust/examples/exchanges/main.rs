@@ -1,10 +1,12 @@
-//! Both halves of the bench through the crate: exchanges of Annex F, refusals of each family, and that no byte outside of
-//! what is lent is written. Prints one line where all is well; else it panics, and the status is not 0.
+//! Both halves of the bench through the crate: exchanges of Annex F, refusals of each family, and that no byte outside
+//! of what is lent is written. Prints one line where all is well; else it panics, and the status is not 0.
 
 mod bench;
 mod chaining;
 
-use bench::{annex_f_sheet, array, hex, number, reader, Bench, IAM2, ICHALLENGE, IRND, OPENING, RFID, TCHALLENGE, VON_BRAUN};
+use bench::{
+    annex_f_sheet, array, hex, number, reader, Bench, IAM2, ICHALLENGE, IRND, OPENING, RFID, TCHALLENGE, VON_BRAUN,
+};
 use roualint::{Areas, BlockSize, Custom, Judgement, Reader, Refusal, State, Tag, Worth, TAG_BYTES};
 use std::mem::{align_of, size_of};
 
@@ -21,7 +23,11 @@ fn custom(size: BlockSize, profile: u8, offset: u16, count: u8, protmode: u8) ->
 /// An accepted reply with these data, or with this challenge.
 fn judged(judgement: Result<Judgement, Refusal>, data: &str, worth: Worth, challenge: Option<&str>) {
     let judgement = judgement.expect("accepted");
-    assert_eq!((judgement.data.to_vec(), judgement.worth), (hex(data), worth), "the data");
+    assert_eq!(
+        (judgement.data.to_vec(), judgement.worth),
+        (hex(data), worth),
+        "the data"
+    );
     assert_eq!(judgement.challenge, challenge.map(array), "the challenge");
 }
 
@@ -31,7 +37,11 @@ fn layout() {
         (TAG_BYTES, 1),
         "a tag has its bytes and nothing else"
     );
-    assert_eq!(Tag::library_bytes(), size_of::<Tag>(), "the library's tag has as many bytes");
+    assert_eq!(
+        Tag::library_bytes(),
+        size_of::<Tag>(),
+        "the library's tag has as many bytes"
+    );
 }
 
 fn sheets() {
@@ -39,8 +49,14 @@ fn sheets() {
     let mut tag = Tag::new(&sheet).expect("Annex F's sheet");
     let bytes = tag.as_bytes();
     assert!(bytes[..16] == [0; 16], "the session");
-    assert!(bytes[16..18] == sheet[1..3] && bytes[18..22] == sheet[4..8], "features and sizes");
-    assert!(bytes[22..28] == [0; 6] && bytes[28..34] == [1, 0, 0, 0, 0, 9], "profile 1 of sixteen");
+    assert!(
+        bytes[16..18] == sheet[1..3] && bytes[18..22] == sheet[4..8],
+        "features and sizes"
+    );
+    assert!(
+        bytes[22..28] == [0; 6] && bytes[28..34] == [1, 0, 0, 0, 0, 9],
+        "profile 1 of sixteen"
+    );
     assert!(bytes[34..199].iter().all(|&b| b == 0), "no other profile, and no lock");
     assert!(
         bytes[199..201] == [0, 2] && bytes[201..275] == sheet[8..82] && bytes[275..].iter().all(|&b| b == 0),
@@ -67,11 +83,18 @@ fn sheets() {
             (Some(refused), place),
             "a refused sheet"
         );
-        assert_eq!(refusal.to_string(), format!("{} (place {place})", refusal.refusal), "its text");
+        assert_eq!(
+            refusal.to_string(),
+            format!("{} (place {place})", refusal.refusal),
+            "its text"
+        );
     }
     assert_eq!(tag, before, "a refused sheet leaves the tag as it was");
     tag.set_up(&hex(&[OPENING, "06"].concat())).expect("three records");
-    assert!(tag.as_bytes()[22..].iter().all(|&b| b == 0), "no byte of the older sheet is left");
+    assert!(
+        tag.as_bytes()[22..].iter().all(|&b| b == 0),
+        "no byte of the older sheet is left"
+    );
 
     let mut bytes = *before.as_bytes();
     assert_eq!(Tag::from_bytes(bytes).as_ref(), Ok(&before), "bytes of a tag");
@@ -84,23 +107,40 @@ fn sheets() {
         "a challenge that waits under a key that no record has"
     );
     (bytes[0], bytes[1]) = (0, 1);
-    assert_eq!(number(Tag::from_bytes(bytes)), Some(7), "a KeyID that is held in Initial");
+    assert_eq!(
+        number(Tag::from_bytes(bytes)),
+        Some(7),
+        "a KeyID that is held in Initial"
+    );
     bytes[1] = 0;
     for (place, most) in [(118, 16), (200, 16)] {
         let said = bytes[place];
         bytes[place] = most + 1;
-        assert_eq!(number(Tag::from_bytes(bytes)), Some(7), "one lock, one key record more than there is room for");
+        assert_eq!(
+            number(Tag::from_bytes(bytes)),
+            Some(7),
+            "one lock, one key record more than there is room for"
+        );
         bytes[place] = said;
     }
     assert_eq!(Tag::from_bytes(bytes).as_ref(), Ok(&before), "the tag again");
     let smallest = Tag::new(&hex("01 0000 02 0000 0000 06")).expect("the smallest sheet");
-    assert_eq!(Tag::from_bytes([0; TAG_BYTES]).as_ref(), Ok(&smallest), "zeros are its tag");
+    assert_eq!(
+        Tag::from_bytes([0; TAG_BYTES]).as_ref(),
+        Ok(&smallest),
+        "zeros are its tag"
+    );
 }
 
 fn tag_authentication() {
     let (mut bench, reader, other) = (Bench::annex_f(), reader(0), reader(1));
     let message = reader.build_tam1(0, &array(ICHALLENGE)).expect("TAM1");
-    let tag = bench.answers(&message, "6D696372000000000000", "E920530CC781B20CFE1AB4A0144E7335", State::Initial);
+    let tag = bench.answers(
+        &message,
+        "6D696372000000000000",
+        "E920530CC781B20CFE1AB4A0144E7335",
+        State::Initial,
+    );
     judged(reader.judge(&message, &tag.reply), "", Worth::NoData, None);
     assert_eq!(number(reader.judge(&message, &tag.reply[1..])), Some(20));
     assert_eq!(number(other.judge(&message, &tag.reply)), Some(21));
@@ -124,7 +164,11 @@ fn tag_authentication() {
     let message = reader
         .build_tam2(true, 0, &array(ICHALLENGE), custom(BlockSize::Bits64, 1, 0, 1, 3))
         .expect("TAM2");
-    assert_eq!(*message, hex("2800 96564402375796C69664 100013"), "the message is Annex F's");
+    assert_eq!(
+        *message,
+        hex("2800 96564402375796C69664 100013"),
+        "the message is Annex F's"
+    );
     let reply = "67039773F2C3C8E8B1D29254BADEF7C9 B86966552DEE705111D4C077009D777C 6D725BCD8DC8FA5C83960148241958C2
         E3546DEA93F24EE9B9799A43";
     let tag = bench.answers(&message, RFID, reply, State::Initial);
@@ -200,24 +244,38 @@ fn interrogator_authentication() {
 fn mutual_authentication() {
     let (mut bench, reader) = (Bench::annex_f(), reader(1));
     let mam1 = reader.build_mam1(1, &array(ICHALLENGE)).expect("MAM1");
-    let tag = bench.answers(&mam1, VON_BRAUN, "47D77088E9143699215C9D162D8A310A 566F6E204272", State::MamInit);
+    let tag = bench.answers(
+        &mam1,
+        VON_BRAUN,
+        "47D77088E9143699215C9D162D8A310A 566F6E204272",
+        State::MamInit,
+    );
     assert_eq!(
         bench.tag.as_bytes()[..16],
         hex("0201 566F6E20427261756E20 96C69664"),
         "what is held"
     );
     judged(reader.judge(&mam1, &tag.reply), "", Worth::NoData, Some(VON_BRAUN));
-    let mam2 = reader.build_mam2(0, &array(ICHALLENGE), &array(VON_BRAUN)).expect("MAM2");
-    assert_eq!(*mam2, hex("90 F537798C9E30CF1999E3C52A7994BD93"), "the message is Annex F's");
+    let mam2 = reader
+        .build_mam2(0, &array(ICHALLENGE), &array(VON_BRAUN))
+        .expect("MAM2");
+    assert_eq!(
+        *mam2,
+        hex("90 F537798C9E30CF1999E3C52A7994BD93"),
+        "the message is Annex F's"
+    );
     bench.lets_in(&mam2, 0);
 
     // Another Purpose is handed out as it came.
     bench.send(&mam1, VON_BRAUN).expect("MAM1");
-    let mam2 = reader.build_mam2(14, &array(ICHALLENGE), &array(VON_BRAUN)).expect("MAM2");
+    let mam2 = reader
+        .build_mam2(14, &array(ICHALLENGE), &array(VON_BRAUN))
+        .expect("MAM2");
     bench.lets_in(&mam2, 14);
 }
 
-/// Profile 0 over words 4 to 271 of area 1: IAM3 writes there and TAM2 reads, in blocks of both sizes, with Offsets of two bytes.
+/// Profile 0 over words 4 to 271 of area 1: IAM3 writes there and TAM2 reads, in blocks of both sizes, with Offsets of
+/// two bytes.
 fn user_area() {
     let keys = "0A1B2C3D4E5F6A7B8C9D0E1F2AB3C4D5 889900AABBCCDDEEFFAABBCCDDEEFF00";
     let sheet = hex(&["01 3D 0F 02 0000 0110 03 01 01 0001", keys, "04 00 01 0004 010C 06"].concat());
@@ -266,7 +324,9 @@ fn user_area() {
 
     // Word 272 is behind the profile.
     bench.refuses("3801 96564402375796C69664 010C00", 3);
-    let short = bench.tag.message(&hex("4001"), &hex(TCHALLENGE), &mut [], &mut words[1..]);
+    let short = bench
+        .tag
+        .message(&hex("4001"), &hex(TCHALLENGE), &mut [], &mut words[1..]);
     assert_eq!(number(short), Some(7), "an area of 543 bytes");
 }
 
@@ -290,7 +350,10 @@ fn refusals() {
         "ProtMode 2 and no MAC key"
     );
     for (profile, offset, count, protmode) in [(16, 0, 0, 0), (0, 4096, 0, 0), (0, 0, 16, 0), (0, 0, 0, 4)] {
-        assert_eq!(tam2(&keyed, custom(BlockSize::Bits64, profile, offset, count, protmode)), Some(24));
+        assert_eq!(
+            tam2(&keyed, custom(BlockSize::Bits64, profile, offset, count, protmode)),
+            Some(24)
+        );
     }
     assert_eq!(number(keyed.build_iam2(16, &[0; 4], &[0; 10])), Some(24), "Purpose 16");
 }
@@ -304,5 +367,8 @@ fn main() {
     user_area();
     refusals();
     chaining::cipher_and_chaining();
-    println!("bindings/rust: Annex F's TAM1, TAM2, IAM2, IAM3 and MAM through both halves; Rev 0; Purposes; a user area; numbers and texts 1 to 3, 5 to 8, 20 to 24, 30, 32, 35; layout; guards");
+    println!(
+        "bindings/rust: Annex F's TAM1, TAM2, IAM2, IAM3 and MAM through both halves; Rev 0; Purposes; \
+         a user area; numbers and texts 1 to 3, 5 to 8, 20 to 24, 30, 32, 35; layout; guards"
+    );
 }
