@@ -1,5 +1,5 @@
--- A run of messages to a kept tag: each call is given the image and the areas that the last one left, and leaves what its
--- contract says.
+-- A run of messages to a kept tag: each call is given the image and the areas that the last one left, and leaves what
+-- its contract says.
 use mathlib.Core.List.{List, [], _∷_}
 use Prim.Native.Nat.{ℕ}
 use Rattle.modes.specs.Room.{over}
