@@ -1,4 +1,5 @@
--- No second answer fits the contracts of the exported functions: the cipher, chaining and the MAC, and a tag that is kept.
+-- No second answer fits the contracts of the exported functions: the cipher, chaining and the MAC, and a tag that is
+-- kept.
 use mathlib.Core.List.{List}
 use Prim.Native.Nat.{ℕ}
 use denote.Ref.{now}
@@ -39,22 +40,28 @@ aes-dec-one κs a x y s t p q = one p q
 pub tag-bytes-one : OneAnswer 0 tag-bytes-kinds.ps tag-bytes-kinds.r tag-bytes.Post ℕ (λ κs r s. r)
 tag-bytes-one κs a x y s t p q = one p q
 
-pub cbc-enc-aes-one : OneAnswer 4 cbc-enc-aes-kinds.ps cbc-enc-aes-kinds.r cbc-enc-aes.Post (ℕ × List ℕ) (λ κs r s. (r, now (s .1 .1 .1 .0)))
+pub cbc-enc-aes-one : OneAnswer 4 cbc-enc-aes-kinds.ps cbc-enc-aes-kinds.r cbc-enc-aes.Post (ℕ × List ℕ)
+    (λ κs r s. (r, now (s .1 .1 .1 .0)))
 cbc-enc-aes-one κs a x y s t p q i = (one (p .number) (q .number) i, one (p .leaves) (q .leaves) i)
 
-pub cbc-dec-aes-one : OneAnswer 4 cbc-dec-aes-kinds.ps cbc-dec-aes-kinds.r cbc-dec-aes.Post (ℕ × List ℕ) (λ κs r s. (r, now (s .1 .1 .1 .0)))
+pub cbc-dec-aes-one : OneAnswer 4 cbc-dec-aes-kinds.ps cbc-dec-aes-kinds.r cbc-dec-aes.Post (ℕ × List ℕ)
+    (λ κs r s. (r, now (s .1 .1 .1 .0)))
 cbc-dec-aes-one κs a x y s t p q i = (one (p .number) (q .number) i, one (p .leaves) (q .leaves) i)
 
-pub cbc-enc-aes-inv-one : OneAnswer 4 cbc-enc-aes-inv-kinds.ps cbc-enc-aes-inv-kinds.r cbc-enc-aes-inv.Post (ℕ × List ℕ) (λ κs r s. (r, now (s .1 .1 .1 .0)))
+pub cbc-enc-aes-inv-one : OneAnswer 4 cbc-enc-aes-inv-kinds.ps cbc-enc-aes-inv-kinds.r cbc-enc-aes-inv.Post (ℕ × List ℕ)
+    (λ κs r s. (r, now (s .1 .1 .1 .0)))
 cbc-enc-aes-inv-one κs a x y s t p q i = (one (p .number) (q .number) i, one (p .leaves) (q .leaves) i)
 
-pub cbc-dec-aes-inv-one : OneAnswer 4 cbc-dec-aes-inv-kinds.ps cbc-dec-aes-inv-kinds.r cbc-dec-aes-inv.Post (ℕ × List ℕ) (λ κs r s. (r, now (s .1 .1 .1 .0)))
+pub cbc-dec-aes-inv-one : OneAnswer 4 cbc-dec-aes-inv-kinds.ps cbc-dec-aes-inv-kinds.r cbc-dec-aes-inv.Post (ℕ × List ℕ)
+    (λ κs r s. (r, now (s .1 .1 .1 .0)))
 cbc-dec-aes-inv-one κs a x y s t p q i = (one (p .number) (q .number) i, one (p .leaves) (q .leaves) i)
 
-pub cmac-96-one : OneAnswer 3 cmac-96-kinds.ps cmac-96-kinds.r cmac-96.Post (ℕ × List ℕ) (λ κs r s. (r, now (s .1 .1 .0)))
+pub cmac-96-one : OneAnswer 3 cmac-96-kinds.ps cmac-96-kinds.r cmac-96.Post (ℕ × List ℕ)
+    (λ κs r s. (r, now (s .1 .1 .0)))
 cmac-96-one κs a x y s t p q i = (one (p .number) (q .number) i, one (p .leaves) (q .leaves) i)
 
-pub sheet-one : OneAnswer 3 sheet-kinds.ps sheet-kinds.r sheet.Post (ℕ × List ℕ × ℕ) (λ κs r s. (r, now (s .1 .0), now (s .1 .1 .0)))
+pub sheet-one : OneAnswer 3 sheet-kinds.ps sheet-kinds.r sheet.Post (ℕ × List ℕ × ℕ)
+    (λ κs r s. (r, now (s .1 .0), now (s .1 .1 .0)))
 sheet-one κs a x y s t p q i = (one (p .number) (q .number) i, one (p .holds) (q .holds) i, one (p .place) (q .place) i)
 
 pub power-up-one : OneAnswer 1 power-up-kinds.ps power-up-kinds.r power-up.Post (ℕ × List ℕ) (λ κs r s. (r, now (s .0)))
@@ -63,12 +70,23 @@ power-up-one κs a x y s t p q i = (one (p .number) (q .number) i, one (p .holds
 pub state-one : OneAnswer 1 state-kinds.ps state-kinds.r state.Post ℕ (λ κs r s. r)
 state-one κs a x y s t p q = one p q
 
-pub areas-one : OneAnswer 3 areas-kinds.ps areas-kinds.r areas.Post (ℕ × ℕ × ℕ) (λ κs r s. (r, now (s .1 .0), now (s .1 .1 .0)))
-areas-one κs a x y s t p q i = (one (p .number) (q .number) i, one (p .first) (q .first) i, one (p .second) (q .second) i)
+pub areas-one : OneAnswer 3 areas-kinds.ps areas-kinds.r areas.Post (ℕ × ℕ × ℕ)
+    (λ κs r s. (r, now (s .1 .0), now (s .1 .1 .0)))
+areas-one κs a x y s t p q i =
+    (one (p .number) (q .number) i, one (p .first) (q .first) i, one (p .second) (q .second) i)
 
 -- result, image, room, both areas, the reply's length, Purpose
-pub message-one : OneAnswer 8 message-kinds.ps message-kinds.r message.Post (ℕ × List ℕ × List ℕ × List ℕ × List ℕ × ℕ × ℕ)
-    (λ κs r s. (r, now (s .0), now (s .1 .1 .1 .0), now (s .1 .1 .1 .1 .0), now (s .1 .1 .1 .1 .1 .0), now (s .1 .1 .1 .1 .1 .1 .0), now (s .1 .1 .1 .1 .1 .1 .1 .0)))
+pub message-one : OneAnswer 8 message-kinds.ps message-kinds.r message.Post
+    (ℕ × List ℕ × List ℕ × List ℕ × List ℕ × ℕ × ℕ)
+    (λ κs r s. (
+      r,
+      now (s .0),
+      now (s .1 .1 .1 .0),
+      now (s .1 .1 .1 .1 .0),
+      now (s .1 .1 .1 .1 .1 .0),
+      now (s .1 .1 .1 .1 .1 .1 .0),
+      now (s .1 .1 .1 .1 .1 .1 .1 .0),
+    ))
 message-one κs a x y s t p q i = (
   one (p .number) (q .number) i,
   one (p .holds) (q .holds) i,

@@ -11,9 +11,10 @@ ghost use Rattle.memory.specs.Areas.{wordBytes};
 ghost use Rattle.tag.specs.Reactions.{lent};
 ghost use Rattle.capi.specs.Kept.{SetUp, PoweredUp, stateSaid, AreasOf, purposeGiven, answerIn, Answered};
 
-/// A sheet becomes a tag, powered up: 0, and the place is 0. A refused sheet: 30 to 35 with the place of its record, and
-/// the tag as it was.
-/// Ruled out: a tag changed by a refused sheet; a place of 0 for every refusal; bytes of an older tag left in the image.
+/// A sheet becomes a tag, powered up: 0, and the place is 0. A refused sheet: 30 to 35 with the place of its record,
+/// and the tag as it was.
+/// Ruled out: a tag changed by a refused sheet; a place of 0 for every refusal; bytes of an older tag left in the
+/// image.
 #[no_mangle]
 pub extern "C" fn roualint_sheet(sheet: &[u8], tag: &mut [u8; IMAGE], place: &mut usize) -> u8
     ensures { λ r. ⌜ SetUp (now (sheet .entry)) (now (tag .entry)) r (now (place .exit)) (now (tag .exit)) ⌝ }
@@ -40,8 +41,8 @@ pub extern "C" fn roualint_power_up(tag: &mut [u8; IMAGE]) -> u8
     0
 }
 
-/// The tag's state, from its first byte, which is all that is read: 0 Initial, 1 IAM-Init, 2 MAM-Init, 3 IA-OK; 255 where
-/// it is over 3.
+/// The tag's state, from its first byte, which is all that is read: 0 Initial, 1 IAM-Init, 2 MAM-Init, 3 IA-OK; 255
+/// where it is over 3.
 /// Ruled out: a byte over 3 taken for a state; 255 for a tag in IA-OK.
 #[no_mangle]
 pub extern "C" fn roualint_state(tag: &[u8; IMAGE]) -> u8
@@ -90,8 +91,8 @@ fn purpose_of(outcome: Outcome) -> u8
 }
 
 /// One message: 0, the reply in the room's first bytes with its length, and the Purpose of a reader that is let in (255
-/// where none is); or 1 to 7, with length 0 and no byte of room and areas changed. The tag holds its next session. Bytes
-/// that are no tag's: 7, and they stay as they are.
+/// where none is); or 1 to 7, with length 0 and no byte of room and areas changed. The tag holds its next session.
+/// Bytes that are no tag's: 7, and they stay as they are.
 /// Ruled out: a session that is not kept; a Purpose told of a reader that is not let in; a length told with a refusal.
 #[no_mangle]
 pub extern "C" fn roualint_message(

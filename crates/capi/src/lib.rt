@@ -1,5 +1,5 @@
-// The functions that a program in C or Rust links (`rt staticlib capi`). Nothing checks the caller: it must pass what the
-// parameters' types say.
+// The functions that a program in C or Rust links (`rt staticlib capi`). Nothing checks the caller: it must pass what
+// the parameters' types say.
 ghost use mathlib.Core.Path.{_≡_};
 ghost use Rattle.aes.specs.AesEnc.{aesEnc};
 ghost use Rattle.aes_inverse.specs.AesDec.{aesDec};

@@ -80,7 +80,8 @@ module _ (image : List ℕ) (long : 16 ≤ length image) (e : isTag image ≡ tr
   unfolding rests sessionIn atRest
   nothing-held z =
       let r : same (heldBytes (sessionIn image)) (replicate 15 0) ≡ true =
-      ap (λ (n : ℕ). implies (atRest (stateOf n)) (same (heldBytes (sessionIn image)) (replicate 15 0))) (sym z) ∙ at-rest in
+      ap (λ (n : ℕ). implies (atRest (stateOf n)) (same (heldBytes (sessionIn image)) (replicate 15 0))) (sym z)
+      ∙ at-rest in
       sym bytes-back
       ∙ ap₂ {C = List ℕ} (λ (n : ℕ) (l : List ℕ). n ∷ l)
       (ap (λ (n : ℕ). stateNumber (stateOf n)) z)

@@ -83,7 +83,8 @@ module _ {A : Type 0} (body : A → List ℕ) (long : ℕ) (even : (x : A) → l
         ∙ sym (bodies-join (take i xs) (getD xs i d ∷ []))
         ∙ ap (bodies body) (sym (ap (λ (k : ℕ). take k xs) a ∙ take-suc xs i d h)) in
         put-next (take at image ++ b) z image now after p n f g
-        ∙ ap (λ (l : List ℕ). over l image) (append-assoc (take at image) b z ∙ ap (λ (l : List ℕ). take at image ++ l) m)
+        ∙ ap (λ (l : List ℕ). over l image)
+        (append-assoc (take at image) b z ∙ ap (λ (l : List ℕ). take at image ++ l) m)
 
 -- ---- read again
 

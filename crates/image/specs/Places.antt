@@ -1,6 +1,6 @@
 -- Where the parts of an image stand: 793 bytes, in which a caller keeps a tag. Numbers go most significant first.
--- 0 state, 1 KeyID, 2 TChallenge, 12 IChallenge[31:0]; what the sheet says from 16 on. Each place is the end of the part
--- before it (proofs/Laid, `places`).
+-- 0 state, 1 KeyID, 2 TChallenge, 12 IChallenge[31:0]; what the sheet says from 16 on. Each place is the end of the
+-- part before it (proofs/Laid, `places`).
 use Prim.Native.Nat.{ℕ}
 
 -- the body of record 01, and that of record 02

@@ -136,7 +136,8 @@ fn slot_body(s: Slot) -> [u8; 6]
 fn lay_profiles(image: &mut [u8], profiles: [Slot; PROFILES])
     requires { ⌜ length (now image) ≡ imageLength ⌝ }
     ensures { λ _. ⌜ now (image .exit)
-        ≡ take profilesAt (now (image .entry)) ++ over (bodies slotBody profiles) (drop profilesAt (now (image .entry))) ⌝ }
+        ≡ take profilesAt (now (image .entry))
+        ++ over (bodies slotBody profiles) (drop profilesAt (now (image .entry))) ⌝ }
     ensures { λ _. ⌜ length profiles ≡ profileLimit ⌝ }
 {
     let mut i = 0;

@@ -22,12 +22,17 @@ key-table-requires c κs = search needs
 
 made-requires : tie.Need-made-requires
 made-requires c κs =
-    laid-fits _ _ (c .before .before .before .before .read .ensures .0) (c .before .before .enum-told .given .1) _ (c .key-table .ensures)
-    (λ i. omega (arith, c .before .before .before .before .before .shared-slice-known .given i))
+    let t = c .before .before in
+    let r = t .before .before in
+    let bytes = r .before .shared-slice-known .given in
+    laid-fits _ _ (r .read .ensures .0) (t .enum-told .given .1) _ (c .key-table .ensures)
+    (λ i. omega (arith, bytes i))
 
 returns-2 : tie.Need-returns-2
 returns-2 c =
-    laid-whole _ _ (c .before .before .before .before .before .read .ensures .0) (c .before .before .before .enum-told .given .1) _ (c .before .key-table .ensures) _ _
+    let t = c .before .before .before in
+    let r = t .before .before in
+    laid-whole _ _ (r .read .ensures .0) (t .enum-told .given .1) _ (c .before .key-table .ensures) _ _
     (c .made .ensures)
 
 pub lay-spec : {M : Type 1} → statement M

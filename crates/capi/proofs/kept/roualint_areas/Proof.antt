@@ -22,7 +22,8 @@ bytes-of-requires-2 c κs = search needs
 
 returns-2 : tie.Need-returns-2
 returns-2 c =
-    areas-some _ (yes (c .before .before .before .before .is-tag .ensures) (c .before .before .before .if1 .left)) _ _ _ (c .before .before .sizes .ensures)
+    let i = c .before .before .before in
+    areas-some _ (yes (i .before .is-tag .ensures) (i .if1 .left)) _ _ _ (c .before .before .sizes .ensures)
     (c .before .bytes-of .ensures) (c .bytes-of2 .ensures)
 
 pub roualint-areas-spec : {M : Type 1} → statement M

@@ -19,7 +19,8 @@ keep-requires c κs = search needs
 
 returns-2 : tie.Need-returns-2
 returns-2 c =
-    power-some _ (yes (c .before .before .before .before .is-tag .ensures) (c .before .before .before .if1 .left)) _ _ (c .before .cleared .ensures) (c .keep .ensures)
+    let i = c .before .before .before in
+    power-some _ (yes (i .before .is-tag .ensures) (i .if1 .left)) _ _ (c .before .cleared .ensures) (c .keep .ensures)
 
 pub roualint-power-up-spec : {M : Type 1} → statement M
 roualint-power-up-spec =

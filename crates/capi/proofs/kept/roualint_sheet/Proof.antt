@@ -14,7 +14,9 @@ number-requires : tie.Need-number-requires
 number-requires c κs = search needs
 
 returns : tie.Need-returns
-returns c = set-up-refused _ _ _ _ (c .before .before .before .before .lay .ensures) _ _ _ (c .before .before .verdict .given .1) (c .number .ensures)
+returns c =
+    let l = c .before .before .before .before .lay in
+    set-up-refused _ _ _ _ (l .ensures) _ _ _ (c .before .before .verdict .given .1) (c .number .ensures)
 
 enum-told : tie.Need-enum-told
 enum-told c = search needs

@@ -27,7 +27,9 @@ cast-records : tie.Need-cast-records
 cast-records c = search needs
 
 returns-3 : tie.Need-returns-3
-returns-3 c = not-keys _ (c .before .before .before .before .if1 .left) (c .before .before .if2 .left) _ (c .before .word-at .ensures) (c .if3 .taken)
+returns-3 c =
+    let j = c .before .before in
+    not-keys _ (j .before .before .if1 .left) (j .if2 .left) _ (c .before .word-at .ensures) (c .if3 .taken)
 
 session-requires : tie.Need-session-requires
 session-requires c κs = search needs
@@ -40,18 +42,26 @@ key-held-requires c κs = search needs
 
 returns-4 : tie.Need-returns-4
 returns-4 c =
-    not-held _ (c .before .before .before .before .before .before .before .before .if1 .left) (c .before .before .before .before .before .before .if2 .left) _ (c .before .before .before .before .before .word-at .ensures) (c .before .before .before .before .if3 .left) _ _ _
-    (c .before .before .before .session .ensures) (c .before .before .key-table .ensures) (c .before .key-held .ensures) (c .if4 .taken)
+    let t = c .before .before in
+    let k = t .before .before in
+    let j = k .before .before in
+    let i = j .before .before in
+    not-held _ (i .if1 .left) (j .if2 .left) _ (k .before .word-at .ensures) (k .if3 .left) _ _ _
+    (t .before .session .ensures) (t .key-table .ensures) (c .before .key-held .ensures) (c .if4 .taken)
 
 rests-requires : tie.Need-rests-requires
 rests-requires c κs = search needs
 
 returns-5 : tie.Need-returns-5
 returns-5 c =
-    let l = c .before .before .before .before .before .before .before .before .before .if1 .left in
-    is-held _ l (c .before .before .before .before .before .before .before .if2 .left) _ (c .before .before .before .before .before .before .word-at .ensures) (c .before .before .before .before .before .if3 .left) _ _ _
-    (c .before .before .before .before .session .ensures) (c .before .before .before .key-table .ensures) (c .before .before .key-held .ensures) (c .before .if4 .left)
-    _ (c .rests .ensures)
+    let h = c .before .before in
+    let t = h .before in
+    let k = t .before .before in
+    let j = k .before .before in
+    let i = j .before .before in
+    is-held _ (i .if1 .left) (j .if2 .left) _ (k .before .word-at .ensures) (k .if3 .left) _ _ _
+    (t .before .session .ensures) (t .key-table .ensures) (h .key-held .ensures) (c .before .if4 .left) _
+    (c .rests .ensures)
 
 pub is-tag-spec : {M : Type 1} → statement M
 is-tag-spec =

@@ -20,8 +20,9 @@ part-result-end : tie.Need-part-result-end
 part-result-end c = search needs
 
 returns : tie.Need-returns
-returns c = table-cut (c .before .before .before .before .args .image .now) (c .before .before .before .before .pre) _
-    (c .before .before .word-at .ensures) (c .before .if1 .taken)
+returns c =
+    let a = c .before .before .before .before in
+    table-cut (a .args .image .now) (a .pre) _ (c .before .before .word-at .ensures) (c .before .if1 .taken)
 
 mul-end : tie.Need-mul-end
 mul-end c = search needs
@@ -39,8 +40,9 @@ part-result-end-2 : tie.Need-part-result-end-2
 part-result-end-2 c = search needs
 
 returns-2 : tie.Need-returns-2
-returns-2 c = table-whole (c .before .before .before .before .args .image .now) (c .before .before .before .before .pre) _
-    (c .before .before .word-at .ensures)
+returns-2 c =
+    let a = c .before .before .before .before in
+    table-whole (a .args .image .now) (a .pre) _ (c .before .before .word-at .ensures)
 
 pub key-table-spec : {M : Type 1} → statement M
 key-table-spec =

@@ -62,7 +62,8 @@ loop-again c =
     let image = c .before .before .before .before .before .args .image .now in
     let k : 119 + 5 * (l .i + 1) ≡ 119 + 5 * l .i + 5 = omega arith in
     let m : 119 + 5 * l .i + 5 - (119 + 5 * l .i) ≡ 5 = omega arith in
-    let more = read-more lockOf 5 (saidIn lockOf 5 lockLimit (drop 119 image)) 16 image (l .table) (l .i) (l .inv .1) in (
+    let said = saidIn lockOf 5 lockLimit (drop 119 image) in
+    let more = read-more lockOf 5 said 16 image (l .table) (l .i) (l .inv .1) in (
       omega arith,
       simp length-set (omega arith),
       more _ _ _ _ (c .before .before .loop-test .taken) m k (c .lock-of .ensures) (l .inv .2),

@@ -61,7 +61,8 @@ loop-again c =
     let image = c .before .before .before .before .before .args .image .now in
     let k : 22 + 6 * (l .i + 1) ≡ 22 + 6 * l .i + 6 = omega arith in
     let m : 22 + 6 * l .i + 6 - (22 + 6 * l .i) ≡ 6 = omega arith in
-    let more = read-more slotIn 6 (saidIn slotIn 6 profileLimit (drop 22 image)) 16 image (l .slots) (l .i) (l .inv .1) in (
+    let said = saidIn slotIn 6 profileLimit (drop 22 image) in
+    let more = read-more slotIn 6 said 16 image (l .slots) (l .i) (l .inv .1) in (
       omega arith,
       simp length-set (omega arith),
       more _ _ _ _ (c .before .before .loop-test .taken) m k (c .slot-in .ensures) (l .inv .2),

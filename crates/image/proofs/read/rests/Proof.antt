@@ -14,8 +14,10 @@ at-rest-requires : tie.Need-at-rest-requires
 at-rest-requires c κs = search needs
 
 returns : tie.Need-returns
-returns c = waits (c .before .before .before .before .before .args .image .now) (c .before .before .before .before .before .pre) _ _ (c .before .before .state-of .ensures)
-    (c .before .at-rest .ensures) (c .if1 .taken)
+returns c =
+    let a = c .before .before .before .before .before in
+    waits (a .args .image .now) (a .pre) _ _ (c .before .before .state-of .ensures) (c .before .at-rest .ensures)
+    (c .if1 .taken)
 
 sub-same : tie.Need-sub-same
 sub-same c = search needs
@@ -33,8 +35,11 @@ same-requires : tie.Need-same-requires
 same-requires c κs = search needs
 
 returns-2 : tie.Need-returns-2
-returns-2 c = held-same (c .before .before .before .before .before .before .before .before .args .image .now) (c .before .before .before .before .before .before .before .before .pre) _ _ (c .before .before .before .before .before .state-of .ensures)
-    (c .before .before .before .before .at-rest .ensures) (c .before .before .before .if1 .left) _ (c .same .ensures)
+returns-2 c =
+    let i = c .before .before .before in
+    let a = i .before .before .before .before .before in
+    held-same (a .args .image .now) (a .pre) _ _ (i .before .before .state-of .ensures) (i .before .at-rest .ensures)
+    (i .if1 .left) _ (c .same .ensures)
 
 pub rests-spec : {M : Type 1} → statement M
 rests-spec =

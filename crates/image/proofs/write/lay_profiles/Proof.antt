@@ -68,7 +68,8 @@ loop-again c =
     let g = put-over (22 + 6 * l .i) (z .result) (l .image) (omega (arith, a .pre, n)) _ _ (p .ensures) in (
       omega arith,
       search needs,
-      lay-more slotBody 6 (λ s. profile-length _ (s .profile)) (a .args .t2) _ image 22 h (l .i) _ (z .result) (l .image) _
+      lay-more slotBody 6 (λ s. profile-length _ (s .profile)) (a .args .t2) _ image 22 h (l .i) _ (z .result)
+          (l .image) _
           (omega (arith, a .good .1 .0 .1 .0 .1)) refl (z .ensures) (l .inv .2) g,
     )
 

@@ -29,7 +29,9 @@ same-length : tie.Need-same-length
 same-length c = search needs
 
 returns : tie.Need-returns
-returns c = let a = c .before .before .before .before .before .before .before .before .before .before .before .before .before .before .before .before in
+returns c =
+    let b = c .before .before .before .before .before .before .before .before in
+    let a = b .before .before .before .before .before .before .before .before in
     let k = array-length 2 (a .args .t2) _ (a .good .1 .0) in
     let l = array-length 10 (a .args .t3) _ (a .good .1 .1 .0) in
     let m = array-length 4 (a .args .t4) _ (a .good .1 .1 .1 .0) in

@@ -36,7 +36,10 @@ lay-profiles-requires c κs = search needs
 
 cast-t25 : tie.Need-cast-t25
 unfolding lockLimit
-cast-t25 c = omega (arith, c .before .before .before .before .before .before .before .before .before .before .before .before .before .before .before .before .before .before .before .before .before .before .pre .1)
+cast-t25 c =
+    let b = c .before .before .before .before .before .before .before .before .before .before .before in
+    let a = b .before .before .before .before .before .before .before .before .before .before .before in
+    omega (arith, a .pre .1)
 
 slice-aggregate-put-3 : tie.Need-slice-aggregate-put-3
 slice-aggregate-put-3 c = search needs

@@ -28,8 +28,9 @@ low-requires-2 c κs = search needs
 returns : tie.Need-returns
 unfolding profileBody
 returns c =
-    let s = c .before .before .before .before .before .before .before .args .s in
-    let e : c .before .before .before .before .before .bit .result ≡ bitOf (s .present) = omega (arith, c .before .before .before .before .before .bit .ensures .0) in
+    let b = c .before .before .before .before .before in
+    let s = b .before .before .args .s in
+    let e : b .bit .result ≡ bitOf (s .present) = omega (arith, b .bit .ensures .0) in
     cc
 
 pub slot-body-spec : {M : Type 1} → statement M
