@@ -6,7 +6,7 @@ use Prim.Native.Nat.{ℕ}
 use native.Mathlib.Nat.{le-of-eq}
 use native.Mathlib.Omega.{arith}
 use borrow.Author.Tests.{eq-eqb}
-use lib.ListN.{length, take, replicate}
+use lib.ListN.{length, replicate}
 use lib.Seq.{take-all}
 use Rattle.ground.specs.Choice.{pick, both}
 use Rattle.field.specs.Block.{firstBlock}
@@ -23,7 +23,8 @@ use Rattle.reader_build.specs.Makes.{taken, Makes}
 use Rattle.capi.specs.Reader.{macGiven, keysOf, madeLength, worthNumber, findingOf, Builds, Finds}
 
 -- keys with a MAC key
-pub keys-with : (enc mac m : List ℕ) → length mac ≡ 16 → m ≡ firstBlock mac → _≡_ {A = Keys} (record { enc = enc; mac = true; mackey = m }) (keysOf enc mac)
+pub keys-with : (enc mac m : List ℕ) → length mac ≡ 16 → m ≡ firstBlock mac
+    → _≡_ {A = Keys} (record { enc = enc; mac = true; mackey = m }) (keysOf enc mac)
 unfolding keysOf
 keys-with enc mac m e f =
     let g : m ≡ mac = f ∙ first-block-is mac (omega arith) ∙ take-all 16 mac (le-of-eq e) in
@@ -36,12 +37,18 @@ told true n = refl
 told false n = refl
 
 module _ (fit : Bool) (message room : List ℕ) where
-  pub built : (a : Made) (r : ℕ) (after : List ℕ) → Makes fit message room a after → r ≡ madeLength a → Builds fit message room r after
-  built a r after h e = record { says = e ∙ ap madeLength (h .says) ∙ told (taken fit room) (length message); holds = h .holds }
+  pub built : (a : Made) (r : ℕ) (after : List ℕ) → Makes fit message room a after → r ≡ madeLength a
+      → Builds fit message room r after
+  built a r after h e = record {
+    says = e ∙ ap madeLength (h .says) ∙ told (taken fit room) (length message);
+    holds =
+        h .holds;
+  }
 
   -- where what is given is no key or no bit, nothing is built
   module _ (given : Bool) where
-    pub built-given : (a : Made) (r : ℕ) (after : List ℕ) → given ≡ true → Makes fit message room a after → r ≡ madeLength a → Builds (both given fit) message room r after
+    pub built-given : (a : Made) (r : ℕ) (after : List ℕ) → given ≡ true → Makes fit message room a after
+        → r ≡ madeLength a → Builds (both given fit) message room r after
     built-given a r after g h e = rw g (built a r after h e)
 
     pub not-given : given ≡ false → Builds (both given fit) message room 0 room
@@ -50,11 +57,14 @@ module _ (fit : Bool) (message room : List ℕ) where
 -- ---- the judge
 
 module _ (enc mac message reply room : List ℕ) where
-  pub no-mac : macGiven mac ≡ false → Finds (findingOf enc mac message reply (length room)) room 24 0 0 0 (replicate 10 0) room
+  pub no-mac : macGiven mac ≡ false → Finds (findingOf enc mac message reply (length room)) room 24 0 0 0
+      (replicate 10 0) room
   no-mac g = simp g (record { number = refl; long = refl; value = refl; flag = refl; came = refl; holds = refl })
 
-  pub judged : (keys : Keys) (j : Judgement) (r worth issued : ℕ) (after : List ℕ) → macGiven mac ≡ true → keys ≡ keysOf enc mac
-      → Judges (judgementOf keys message reply (length room)) room j after → r ≡ verdictNumber (j .verdict) → worth ≡ worthNumber (j .worth) → issued ≡ bit (j .issued)
+  pub judged : (keys : Keys) (j : Judgement) (r worth issued : ℕ) (after : List ℕ) → macGiven mac ≡ true
+      → keys ≡ keysOf enc mac
+      → Judges (judgementOf keys message reply (length room)) room j after → r ≡ verdictNumber (j .verdict)
+      → worth ≡ worthNumber (j .worth) → issued ≡ bit (j .issued)
       → Finds (findingOf enc mac message reply (length room)) room r (j .«data») worth issued (j .challenge) after
   judged keys j r worth issued after g k h n w i =
       simp (g, sym k)

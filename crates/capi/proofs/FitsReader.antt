@@ -23,13 +23,15 @@ use Rattle.capi.proofs.build.roualint_build_mam2.Kinds as mam2-kinds
 use Rattle.capi.proofs.judge.roualint_judge.Reads as judge
 use Rattle.capi.proofs.judge.roualint_judge.Kinds as judge-kinds
 
-one-built : (fit : Bool) (message room : List ℕ) (x y : ℕ) (s t : List ℕ) → Builds fit message room x s → Builds fit message room y t → _≡_ {A = ℕ × List ℕ} (x, s) (y, t)
+one-built : (fit : Bool) (message room : List ℕ) (x y : ℕ) (s t : List ℕ) → Builds fit message room x s
+    → Builds fit message room y t → _≡_ {A = ℕ × List ℕ} (x, s) (y, t)
 one-built fit message room x y s t p q i = (one (p .says) (q .says) i, one (p .holds) (q .holds) i)
 
 pub tam1-one : OneAnswer 2 tam1-kinds.ps tam1-kinds.r tam1.Post (ℕ × List ℕ) (λ κs r s. (r, now (s .1 .1 .0)))
 tam1-one κs a x y s t p q = one-built _ _ _ _ _ _ _ p q
 
-pub tam2-one : OneAnswer 4 tam2-kinds.ps tam2-kinds.r tam2.Post (ℕ × List ℕ) (λ κs r s. (r, now (s .1 .1 .1 .1 .1 .1 .1 .1 .1 .1 .0)))
+pub tam2-one : OneAnswer 4 tam2-kinds.ps tam2-kinds.r tam2.Post (ℕ × List ℕ)
+    (λ κs r s. (r, now (s .1 .1 .1 .1 .1 .1 .1 .1 .1 .1 .0)))
 tam2-one κs a x y s t p q = one-built _ _ _ _ _ _ _ p q
 
 pub iam1-one : OneAnswer 1 iam1-kinds.ps iam1-kinds.r iam1.Post (ℕ × List ℕ) (λ κs r s. (r, now (s .1 .0)))
@@ -38,7 +40,8 @@ iam1-one κs a x y s t p q = one-built _ _ _ _ _ _ _ p q
 pub iam2-one : OneAnswer 5 iam2-kinds.ps iam2-kinds.r iam2.Post (ℕ × List ℕ) (λ κs r s. (r, now (s .1 .1 .1 .1 .1 .0)))
 iam2-one κs a x y s t p q = one-built _ _ _ _ _ _ _ p q
 
-pub iam3-one : OneAnswer 6 iam3-kinds.ps iam3-kinds.r iam3.Post (ℕ × List ℕ) (λ κs r s. (r, now (s .1 .1 .1 .1 .1 .1 .1 .1 .1 .1 .1 .0)))
+pub iam3-one : OneAnswer 6 iam3-kinds.ps iam3-kinds.r iam3.Post (ℕ × List ℕ)
+    (λ κs r s. (r, now (s .1 .1 .1 .1 .1 .1 .1 .1 .1 .1 .1 .0)))
 iam3-one κs a x y s t p q = one-built _ _ _ _ _ _ _ p q
 
 pub mam1-one : OneAnswer 2 mam1-kinds.ps mam1-kinds.r mam1.Post (ℕ × List ℕ) (λ κs r s. (r, now (s .1 .1 .0)))
@@ -49,7 +52,15 @@ mam2-one κs a x y s t p q = one-built _ _ _ _ _ _ _ p q
 
 -- result, room, the data's length and worth, whether a challenge was issued, the challenge
 pub judge-one : OneAnswer 9 judge-kinds.ps judge-kinds.r judge.Post (ℕ × List ℕ × ℕ × ℕ × ℕ × List ℕ)
-    (λ κs r s. (r, now (s .1 .1 .1 .1 .0), now (s .1 .1 .1 .1 .1 .0), now (s .1 .1 .1 .1 .1 .1 .0), now (s .1 .1 .1 .1 .1 .1 .1 .0), now (s .1 .1 .1 .1 .1 .1 .1 .1 .0)))
+    (λ κs r s. (
+      r,
+      now (s .1 .1 .1 .1 .0),
+      now (s .1 .1 .1 .1 .1 .0),
+      now (s .1 .1 .1 .1 .1 .1 .0),
+      now
+          (s .1 .1 .1 .1 .1 .1 .1 .0),
+      now (s .1 .1 .1 .1 .1 .1 .1 .1 .0),
+    ))
 judge-one κs a x y s t p q i = (
   one (p .number) (q .number) i,
   one (p .holds) (q .holds) i,

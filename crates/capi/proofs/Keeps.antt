@@ -5,7 +5,6 @@ use mathlib.Core.List.{List}
 use Prim.Native.Nat.{ℕ, _*_}
 use Rattle.sheet.specs.declared.Fault.{Fault as SheetFault}
 use Rattle.sheet.specs.declared.Sizes.{Sizes}
-use Rattle.sheet.specs.declared.Terms.{Terms}
 use Rattle.sheet.specs.declared.Verdict.{Verdict}
 use Rattle.sheet.specs.declared.Verdict.the-variants.{Whole, Refused}
 use Rattle.sheet.specs.Kinds.{numberOf}

@@ -13,7 +13,6 @@ use Rattle.modes.specs.Room.{over}
 use Rattle.sheet.specs.declared.Terms.{Terms}
 use Rattle.sheet.specs.KeyTable.{keyTable}
 use Rattle.sheet.specs.Limits.{keyLimit}
-use Rattle.sheet.specs.Setups.{Setup}
 use Rattle.sheet.specs.Sheet.{readOf, saidOf, Accepted}
 use Rattle.offer.specs.Outcomes.{numberGiven, replyLength}
 use Rattle.entry.specs.declared.Session.{Session}
@@ -24,7 +23,7 @@ use Rattle.tag.specs.Reactions.{lent}
 use Rattle.tag.specs.Runs.{PowerUp, answerTo, run}
 use Rattle.tag.specs.States.{KeyedTag, keyed, poweredUp}
 use Rattle.tag.proofs.Holding.{Holds, holds-fits, powered-up-holds, answer-holds}
-use Rattle.image.specs.Image.{kept, keyedIn, tagIn, tableIn, isTag}
+use Rattle.image.specs.Image.{kept, keyedIn, isTag}
 use Rattle.image.specs.Kept.{accepts, sheetImage, Fits}
 use Rattle.image.proofs.ReadBack.{kept-again, tag-back, table-back, is-tag-back}
 use Rattle.image.proofs.Said.{said-fits}

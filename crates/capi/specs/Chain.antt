@@ -1,4 +1,5 @@
--- What chaining and the MAC leave, by number: 0 and the output over the room's first bytes, or 8 and the room as it was.
+-- What chaining and the MAC leave, by number: 0 and the output over the room's first bytes, or 8 and the room as it
+-- was.
 use mathlib.Core.Path.{_≡_}
 use mathlib.Core.Bool.{Bool}
 use mathlib.Core.List.{List}

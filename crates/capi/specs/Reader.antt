@@ -26,7 +26,12 @@ abbrev pub macGiven : List ℕ → Bool
 macGiven mac = either (eqb (length mac) 0) (eqb (length mac) 16)
 
 unfoldable pub keysOf : List ℕ → List ℕ → Keys
-keysOf enc mac = record { enc = enc; mac = eqb (length mac) 16; mackey = pick (eqb (length mac) 16) mac (replicate 16 0) }
+keysOf enc mac = record {
+  enc = enc;
+  mac = eqb (length mac) 16;
+  mackey =
+      pick (eqb (length mac) 16) mac (replicate 16 0);
+}
 
 -- BlockSize and Rev have one bit.
 abbrev pub sizeGiven : List ℕ → ℕ → Bool
@@ -58,9 +63,11 @@ worthNumber Unproved = 1
 worthNumber Proved = 2
 
 abbrev pub findingOf : List ℕ → List ℕ → List ℕ → List ℕ → ℕ → Finding
-findingOf enc mac message reply room = pick (macGiven mac) (judgementOf (keysOf enc mac) message reply room) (refused OwnMessage)
+findingOf enc mac message reply room = pick (macGiven mac) (judgementOf (keysOf enc mac) message reply room)
+    (refused OwnMessage)
 
--- Number; length and worth of the data; whether a challenge was issued, and the challenge; and the data over the room's first bytes.
+-- Number; length and worth of the data; whether a challenge was issued, and the challenge; and the data over the room's
+-- first bytes.
 pub record Finds (f : Finding) (room : List ℕ) (r told worth issued : ℕ) (challenge after : List ℕ) : Type 0 where
   pub number : r ≡ verdictNumber (f .verdict)
   pub long : told ≡ length (f .bytes)

@@ -1,5 +1,5 @@
--- A run of calls over a kept tag, messages and power-ups: each is given the image and the areas that the last one left, and
--- leaves what its contract says.
+-- A run of calls over a kept tag, messages and power-ups: each is given the image and the areas that the last one left,
+-- and leaves what its contract says.
 use mathlib.Core.Path.{_≡_}
 use mathlib.Core.List.{List, [], _∷_}
 use Prim.Native.Nat.{ℕ}

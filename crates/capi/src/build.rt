@@ -1,12 +1,23 @@
-// The seven messages of the reader's side, from plain numbers, over the first bytes of a lent room. Each answers the message's length;
-// or 0, which is number 24: a field out of its range, ProtMode 2 or 3 with no MAC key, or a room of under 176 bytes. Then no byte of the room changes.
+// The seven messages of the reader's side, from plain numbers, over the first bytes of a lent room. Each answers the
+// message's length; or 0, which is number 24: a field out of its range, ProtMode 2 or 3 with no MAC key, or a room of
+// under 176 bytes. Then no byte of the room changes.
 use super::given;
 ghost use mathlib.Core.Bool.{true};
 ghost use lib.ListN.{length};
 ghost use Rattle.ground.specs.Choice.{both};
 ghost use Rattle.frames.specs.Fields.{flag, customFits};
 ghost use Rattle.reader.specs.Own.{modeFits};
-ghost use Rattle.reader_build.specs.Builds.{purposeFits, tam1Made, tam2Made, iam1Made, mam1Made, iam2Made, mam2Made, iam3Made, iam3Fits};
+ghost use Rattle.reader_build.specs.Builds.{
+  purposeFits,
+  tam1Made,
+  tam2Made,
+  iam1Made,
+  mam1Made,
+  iam2Made,
+  mam2Made,
+  iam3Made,
+  iam3Fits,
+};
 ghost use Rattle.capi.specs.Reader.{macGiven, sizeGiven, bitsGiven, keysOf, customOf, Builds};
 
 /// TAM1. Ruled out: a message in a room of 175 bytes; the challenge cut.
@@ -33,7 +44,11 @@ pub extern "C" fn roualint_build_tam2(
     protmode: u8,
     room: &mut [u8],
 ) -> usize
-    ensures { λ r. ⌜ Builds (both (bitsGiven (now (mac .entry)) blocksize rev) (both (modeFits (keysOf (now (enc .entry)) (now (mac .entry))) protmode) (customFits (customOf blocksize profile offset blockcount)))) (tam2Made keyid (now (ichallenge .entry)) (flag rev) (customOf blocksize profile offset blockcount) protmode) (now (room .entry)) r (now (room .exit)) ⌝ }
+    ensures { λ r. ⌜ Builds (both (bitsGiven (now (mac .entry)) blocksize rev)
+        (both (modeFits (keysOf (now (enc .entry)) (now (mac .entry))) protmode)
+        (customFits (customOf blocksize profile offset blockcount))))
+        (tam2Made keyid (now (ichallenge .entry)) (flag rev) (customOf blocksize profile offset blockcount) protmode)
+        (now (room .entry)) r (now (room .exit)) ⌝ }
 {
     if !given::bits_given(mac, blocksize, rev) {
         return 0;
@@ -62,7 +77,9 @@ pub extern "C" fn roualint_build_iam2(
     tchallenge: &[u8; 10],
     room: &mut [u8],
 ) -> usize
-    ensures { λ r. ⌜ Builds (both (macGiven (now (mac .entry))) (purposeFits purpose)) (iam2Made (keysOf (now (enc .entry)) (now (mac .entry))) purpose (now (irnd .entry)) (now (tchallenge .entry))) (now (room .entry)) r (now (room .exit)) ⌝ }
+    ensures { λ r. ⌜ Builds (both (macGiven (now (mac .entry))) (purposeFits purpose))
+        (iam2Made (keysOf (now (enc .entry)) (now (mac .entry))) purpose (now (irnd .entry)) (now (tchallenge .entry)))
+        (now (room .entry)) r (now (room .exit)) ⌝ }
 {
     if !given::mac_given(mac) {
         return 0;
@@ -88,7 +105,11 @@ pub extern "C" fn roualint_build_iam3(
     words: &[u8],
     room: &mut [u8],
 ) -> usize
-    ensures { λ r. ⌜ Builds (both (sizeGiven (now (mac .entry)) blocksize) (iam3Fits (keysOf (now (enc .entry)) (now (mac .entry))) (customOf blocksize profile offset blockcount) protmode purpose (length (now (words .entry))))) (iam3Made (keysOf (now (enc .entry)) (now (mac .entry))) (customOf blocksize profile offset blockcount) protmode purpose (now (irnd .entry)) (now (tchallenge .entry)) (now (words .entry))) (now (room .entry)) r (now (room .exit)) ⌝ }
+    ensures { λ r. ⌜ Builds (both (sizeGiven (now (mac .entry)) blocksize)
+        (iam3Fits (keysOf (now (enc .entry)) (now (mac .entry))) (customOf blocksize profile offset blockcount) protmode
+        purpose (length (now (words .entry))))) (iam3Made (keysOf (now (enc .entry)) (now (mac .entry)))
+        (customOf blocksize profile offset blockcount) protmode purpose (now (irnd .entry)) (now (tchallenge .entry))
+        (now (words .entry))) (now (room .entry)) r (now (room .exit)) ⌝ }
 {
     if !given::size_given(mac, blocksize) {
         return 0;
@@ -126,7 +147,9 @@ pub extern "C" fn roualint_build_mam2(
     tchallenge: &[u8; 10],
     room: &mut [u8],
 ) -> usize
-    ensures { λ r. ⌜ Builds (both (macGiven (now (mac .entry))) (purposeFits purpose)) (mam2Made (keysOf (now (enc .entry)) (now (mac .entry))) purpose (now (ichallenge .entry)) (now (tchallenge .entry))) (now (room .entry)) r (now (room .exit)) ⌝ }
+    ensures { λ r. ⌜ Builds (both (macGiven (now (mac .entry))) (purposeFits purpose))
+        (mam2Made (keysOf (now (enc .entry)) (now (mac .entry))) purpose (now (ichallenge .entry))
+        (now (tchallenge .entry))) (now (room .entry)) r (now (room .exit)) ⌝ }
 {
     if !given::mac_given(mac) {
         return 0;

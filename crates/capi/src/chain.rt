@@ -6,8 +6,8 @@ ghost use Rattle.modes.specs.Room.{chains, macs};
 ghost use Rattle.modes_inverse.specs.CbcInv.{cbcDecAesInv, cbcEncAesInv};
 ghost use Rattle.capi.specs.Chain.{Chains};
 
-/// CBC_ENC_AES (3.1.8) into the room's first bytes: 0. An input of no whole number of blocks, or a shorter room: 8, and the room as it was.
-/// Ruled out: AES-DEC in place of AES-ENC; a byte written behind the output.
+/// CBC_ENC_AES (3.1.8) into the room's first bytes: 0. An input of no whole number of blocks, or a shorter room: 8, and
+/// the room as it was. Ruled out: AES-DEC in place of AES-ENC; a byte written behind the output.
 #[no_mangle]
 pub extern "C" fn roualint_cbc_enc_aes(
     iv: &[u8; 16],
@@ -15,7 +15,8 @@ pub extern "C" fn roualint_cbc_enc_aes(
     input: &[u8],
     room: &mut [u8],
 ) -> u8
-    ensures { λ r. ⌜ Chains (chains (length (now (input .entry))) (length (now (room .entry)))) (cbcEncAes (now (iv .entry)) (now (key .entry)) (now (input .entry))) (now (room .entry)) r (now (room .exit)) ⌝ }
+    ensures { λ r. ⌜ Chains (chains (length (now (input .entry))) (length (now (room .entry))))
+        (cbcEncAes (now (iv .entry)) (now (key .entry)) (now (input .entry))) (now (room .entry)) r (now (room .exit)) ⌝ }
 {
     modes::number(modes::cbc_enc_aes(*iv, *key, input, room))
 }
@@ -29,7 +30,8 @@ pub extern "C" fn roualint_cbc_dec_aes(
     input: &[u8],
     room: &mut [u8],
 ) -> u8
-    ensures { λ r. ⌜ Chains (chains (length (now (input .entry))) (length (now (room .entry)))) (cbcDecAes (now (iv .entry)) (now (key .entry)) (now (input .entry))) (now (room .entry)) r (now (room .exit)) ⌝ }
+    ensures { λ r. ⌜ Chains (chains (length (now (input .entry))) (length (now (room .entry))))
+        (cbcDecAes (now (iv .entry)) (now (key .entry)) (now (input .entry))) (now (room .entry)) r (now (room .exit)) ⌝ }
 {
     modes::number(modes::cbc_dec_aes(*iv, *key, input, room))
 }
@@ -43,7 +45,9 @@ pub extern "C" fn roualint_cbc_enc_aes_inv(
     input: &[u8],
     room: &mut [u8],
 ) -> u8
-    ensures { λ r. ⌜ Chains (chains (length (now (input .entry))) (length (now (room .entry)))) (cbcEncAesInv (now (iv .entry)) (now (key .entry)) (now (input .entry))) (now (room .entry)) r (now (room .exit)) ⌝ }
+    ensures { λ r. ⌜ Chains (chains (length (now (input .entry))) (length (now (room .entry))))
+        (cbcEncAesInv (now (iv .entry)) (now (key .entry)) (now (input .entry))) (now (room .entry)) r
+        (now (room .exit)) ⌝ }
 {
     modes::number(modes_inverse::cbc_enc_aes_inv(*iv, *key, input, room))
 }
@@ -57,16 +61,19 @@ pub extern "C" fn roualint_cbc_dec_aes_inv(
     input: &[u8],
     room: &mut [u8],
 ) -> u8
-    ensures { λ r. ⌜ Chains (chains (length (now (input .entry))) (length (now (room .entry)))) (cbcDecAesInv (now (iv .entry)) (now (key .entry)) (now (input .entry))) (now (room .entry)) r (now (room .exit)) ⌝ }
+    ensures { λ r. ⌜ Chains (chains (length (now (input .entry))) (length (now (room .entry))))
+        (cbcDecAesInv (now (iv .entry)) (now (key .entry)) (now (input .entry))) (now (room .entry)) r
+        (now (room .exit)) ⌝ }
 {
     modes::number(modes_inverse::cbc_dec_aes_inv(*iv, *key, input, room))
 }
 
-/// CMAC-96 (3.1.13), twelve bytes into the room's first: 0. An input of no whole number of blocks, or of none, or a room of under 12: 8, and the room as it was.
-/// Ruled out: sixteen bytes written; the MAC of no block.
+/// CMAC-96 (3.1.13), twelve bytes into the room's first: 0. An input of no whole number of blocks, or of none, or a
+/// room of under 12: 8, and the room as it was. Ruled out: sixteen bytes written; the MAC of no block.
 #[no_mangle]
 pub extern "C" fn roualint_cmac_96(key: &[u8; 16], input: &[u8], room: &mut [u8]) -> u8
-    ensures { λ r. ⌜ Chains (macs (length (now (input .entry))) (length (now (room .entry)))) (cmac96 (now (key .entry)) (now (input .entry))) (now (room .entry)) r (now (room .exit)) ⌝ }
+    ensures { λ r. ⌜ Chains (macs (length (now (input .entry))) (length (now (room .entry))))
+        (cmac96 (now (key .entry)) (now (input .entry))) (now (room .entry)) r (now (room .exit)) ⌝ }
 {
     modes::number(modes::cmac_96(*key, input, room))
 }

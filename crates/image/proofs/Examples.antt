@@ -1,13 +1,12 @@
 -- Bytes that are a tag's, and bytes that are none.
 use mathlib.Core.Path.{_≡_, refl}
 use mathlib.Core.Bool.{true, false}
-use mathlib.Core.List.{List, [], _∷_, _++_}
+use mathlib.Core.List.{List, [], _∷_}
 use lib.ListN.{replicate}
-use Rattle.ground.specs.Bytes.{byteAt}
 use Prim.Native.Nat.{ℕ}
 use Rattle.frames.specs.Fields.{bytesFrom}
 use Rattle.payload.specs.Alike.{same}
-use Rattle.sheet.specs.KeyTable.{recordCount, recordsIn, keysIn}
+use Rattle.sheet.specs.KeyTable.{recordsIn, keysIn}
 use Rattle.sheet.specs.Limits.{keyLimit, profileLimit, lockLimit}
 use Rattle.sheet.specs.Setups.{emptyTerms, noFeatures, noSlot, noLock}
 use Rattle.sheet.specs.Writer.{featuresBody, sizesBody, profileBody, lockBody}

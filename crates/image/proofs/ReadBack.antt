@@ -25,7 +25,6 @@ use Rattle.sheet.proofs.Back.{lock-length, lock-back}
 use Rattle.entry.specs.declared.State.{State}
 use Rattle.entry.specs.declared.State.the-variants.{Initial, IamInit, MamInit, IaOk}
 use Rattle.entry.specs.declared.Session.{Session}
-use Rattle.tag.specs.declared.Tag.{Tag}
 use Rattle.tag.specs.States.{keyFits}
 use Rattle.image.specs.Places.{keyRoom}
 use Rattle.image.specs.Image.{

@@ -1,20 +1,18 @@
 -- What an accepted sheet says fits an image.
 use mathlib.Core.Path.{_≡_, refl, sym, ap, subst, _∙_}
 use mathlib.Core.Bool.{Bool}
-use mathlib.Core.List.{List, []}
-use Prim.Native.Nat.{ℕ, zero, suc, _*_, _/_, _≤_}
+use mathlib.Core.List.{List}
+use Prim.Native.Nat.{ℕ, zero, suc, _*_, _≤_}
 use native.Mathlib.Omega.{arith}
-use lib.ListN.{length, take, drop, length-take}
+use lib.ListN.{length, drop, length-take}
 use Rattle.ground.specs.Choice.{pick}
 use Rattle.ground.specs.Bytes.{Bytes}
 use Rattle.sheet.specs.declared.Fault.{Fault}
 use Rattle.sheet.specs.declared.Reading.{Reading}
 use Rattle.sheet.specs.declared.Terms.{Terms}
 use Rattle.sheet.specs.declared.Verdict.the-variants.{Whole, Refused}
-use Rattle.sheet.specs.Kinds.{keysAt}
 use Rattle.sheet.specs.Limits.{keyLimit, profileLimit, lockLimit}
 use Rattle.sheet.specs.KeyTable.{recordCount, recordsIn, keysIn, keyTable}
-use Rattle.sheet.specs.Setups.{Setup}
 use Rattle.sheet.specs.Sheet.{readOf, saidOf, Accepted}
 use Rattle.sheet.specs.Within.{Within}
 use Rattle.sheet.proofs.RoundTrip.{written-read}

@@ -1,6 +1,6 @@
 -- The session that is read from a tag's image is written back into the same bytes; and at rest those bytes are known.
 use mathlib.Core.Path.{_≡_, refl, sym, ap, ap₂, _∙_}
-use mathlib.Core.Bool.{Bool, true}
+use mathlib.Core.Bool.{true}
 use mathlib.Core.List.{List, [], _∷_, _++_}
 use Prim.Native.Nat.{ℕ, zero, suc, _≤_, _<_}
 use native.Mathlib.Omega.{arith}
@@ -17,8 +17,6 @@ use Rattle.payload.specs.Alike.{same}
 use Rattle.sheet.specs.KeyTable.{keysIn}
 use Rattle.sheet.specs.Limits.{keyLimit, lockLimit}
 use Rattle.sheet.proofs.Rules.{both-true}
-use Rattle.entry.specs.declared.Session.{Session}
-use Rattle.entry.specs.Sessions.{cleared}
 use Rattle.tag.specs.States.{atRest, keyFits}
 use Rattle.image.specs.Image.{
   stateNumber,

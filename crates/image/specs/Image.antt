@@ -3,7 +3,7 @@ use Prim.Native.Nat.{ℕ, zero, suc, _*_}
 use mathlib.Core.Bool.{Bool}
 use mathlib.Core.List.{List, [], _∷_, _++_}
 use lib.Dec.{eqb, ltb, leb}
-use lib.ListN.{length, take, drop, replicate}
+use lib.ListN.{take, drop, replicate}
 use Rattle.ground.specs.Choice.{pick, both, implies}
 use Rattle.ground.specs.Bytes.{byteAt, wordAt, twoBytes, bitOf, flag}
 use Rattle.modes.specs.Room.{over}

@@ -26,7 +26,9 @@ same-length c = search needs
 returns-2 : tie.Need-returns-2
 returns-2 c =
     let t = c .before .before .before .before .before .before .before .before .before in
-    built-given _ _ _ _ _ _ _ (yes (t .before .mac-given .ensures) (t .if1 .left)) (rw (c .before .before .before .before .before .before .before .keys-of .ensures) at (c .before .before .before .mam2 .ensures)) (c .length-of .ensures)
+    built-given _ _ _ _ _ _ _ (yes (t .before .mac-given .ensures) (t .if1 .left))
+    (rw (c .before .before .before .before .before .before .before .keys-of .ensures) at
+    (c .before .before .before .mam2 .ensures)) (c .length-of .ensures)
 
 pub roualint-build-mam2-spec : {M : Type 1} → statement M
 roualint-build-mam2-spec =

@@ -30,7 +30,11 @@ returns-2 : tie.Need-returns-2
 returns-2 c =
     let t = c .before .before .before .before .before .before .before .before .before in
     built-given _ _ _ _ _ _ _ (yes (t .before .bits-given .ensures) (t .if1 .left))
-    (rw (c .before .before .before .before .before .before .before .keys-of .ensures, c .before .before .before .before .before .before .custom-of .ensures) at (c .before .before .before .tam2 .ensures)) (c .length-of .ensures)
+    (rw (
+      c .before .before .before .before .before .before .before .keys-of .ensures,
+      c .before .before .before .before
+          .before .before .custom-of .ensures,
+    ) at (c .before .before .before .tam2 .ensures)) (c .length-of .ensures)
 
 pub roualint-build-tam2-spec : {M : Type 1} → statement M
 roualint-build-tam2-spec =

@@ -10,7 +10,8 @@ mac-given-requires c κs = search needs
 
 returns : tie.Need-returns
 returns c = let a = c .before .before .before .before .before .before .before .args in
-    no-mac (a .enc .now) (a .mac .now) (a .message .now) (a .reply .now) (a .room .now) (no (c .before .before .mac-given .ensures) (c .before .if1 .taken))
+    no-mac (a .enc .now) (a .mac .now) (a .message .now) (a .reply .now) (a .room .now)
+    (no (c .before .before .mac-given .ensures) (c .before .if1 .taken))
 
 keys-of-requires : tie.Need-keys-of-requires
 keys-of-requires c κs = search needs
@@ -35,7 +36,8 @@ returns-2 c =
     let j = c .before .before .before .before .before .before in
     let t = j .before .before .before .before in
     let a = t .before .before .before .before .before .before .args in
-    judged (a .enc .now) (a .mac .now) (a .message .now) (a .reply .now) (a .room .now) _ (j .judge .result) _ _ _ _ (yes (t .before .mac-given .ensures) (t .if1 .left)) (j .before .before .keys-of .ensures) (j .judge .ensures)
+    judged (a .enc .now) (a .mac .now) (a .message .now) (a .reply .now) (a .room .now) _ (j .judge .result) _ _ _ _
+    (yes (t .before .mac-given .ensures) (t .if1 .left)) (j .before .before .keys-of .ensures) (j .judge .ensures)
     (c .number-of .ensures) (c .before .before .worth-number .ensures) (c .before .bit-of .ensures)
 
 pub roualint-judge-spec : {M : Type 1} → statement M

@@ -1,16 +1,15 @@
 -- `write::lay_profiles` meets its contract.
 use mathlib.Core.Path.{_≡_, refl, sym, ap, _∙_}
-use mathlib.Core.List.{List, _++_}
-use Prim.Native.Nat.{ℕ, _+_, _*_, _-_, _≤_}
+use mathlib.Core.List.{_++_}
+use Prim.Native.Nat.{_+_, _*_, _-_, _≤_}
 use native.Mathlib.Omega.{arith}
-use lib.ListN.{length, take, drop}
+use lib.ListN.{length, take}
 use lib.Seq.{take-all}
 use borrow.Author.Needs.{needs}
 use Rattle.modes.specs.Room.{over}
 use Rattle.payload.proofs.Overs.{over-none, over-behind}
 use Rattle.payload.proofs.Rooms.{put-over}
 use Rattle.sheet.specs.Limits.{profileLimit}
-use Rattle.sheet.specs.Writer.{profileBody}
 use Rattle.sheet.proofs.Back.{profile-length}
 use Rattle.image.specs.Image.{slotBody, bodies}
 use Rattle.image.proofs.Tables.{lay-more}
