@@ -16,7 +16,8 @@ pub extern "C" fn roualint_cbc_enc_aes(
     room: &mut [u8],
 ) -> u8
     ensures { λ r. ⌜ Chains (chains (length (now (input .entry))) (length (now (room .entry))))
-        (cbcEncAes (now (iv .entry)) (now (key .entry)) (now (input .entry))) (now (room .entry)) r (now (room .exit)) ⌝ }
+        (cbcEncAes (now (iv .entry)) (now (key .entry)) (now (input .entry)))
+        (now (room .entry)) r (now (room .exit)) ⌝ }
 {
     modes::number(modes::cbc_enc_aes(*iv, *key, input, room))
 }
@@ -31,7 +32,8 @@ pub extern "C" fn roualint_cbc_dec_aes(
     room: &mut [u8],
 ) -> u8
     ensures { λ r. ⌜ Chains (chains (length (now (input .entry))) (length (now (room .entry))))
-        (cbcDecAes (now (iv .entry)) (now (key .entry)) (now (input .entry))) (now (room .entry)) r (now (room .exit)) ⌝ }
+        (cbcDecAes (now (iv .entry)) (now (key .entry)) (now (input .entry)))
+        (now (room .entry)) r (now (room .exit)) ⌝ }
 {
     modes::number(modes::cbc_dec_aes(*iv, *key, input, room))
 }
