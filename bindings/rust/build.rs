@@ -1,4 +1,4 @@
-//! Tells cargo where libcapi.a is: in ROUALINT_LIB_DIR, or where `rt staticlib capi` writes it in this repository.
+//! Tells cargo where libcapi.a is: in ROUALINT_LIB_DIR, or where `bindings/library` writes it in this repository.
 
 use std::env;
 use std::path::PathBuf;

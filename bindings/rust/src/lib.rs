@@ -6,7 +6,7 @@
 //! and does nothing of its own: it has no dependencies, uses no heap, and lends the library only what Rust's references
 //! vouch for.
 //!
-//! It links `libcapi.a`, which `rt staticlib capi` proves and writes (x86-64 Linux). Cargo finds it by the variable
+//! It links `libcapi.a`, which `bindings/library` proves and writes. Cargo finds it by the variable
 //! `ROUALINT_LIB_DIR`, or in this repository's target/staticlib; without cargo:
 //!
 //! ```text
