@@ -90,7 +90,8 @@ extern "C" {
  * same sheet and the same session just where their bytes are equal. Bytes are no tag's where the state is over 3, there
  * are more than 16 locks or more than 16 key records, a challenge waits (state 1 or 2) for a KeyID that no record has,
  * or anything is held in state 0 or 3. All others are taken at their word, sheet or no sheet: what is proved of a
- * message holds of the setup that the bytes say. All zeros are the tag of the smallest sheet, which offers nothing.
+ * message holds of the setup that the bytes say. All zeros are the tag of the smallest sheet, which has no key,
+ * and so takes no message.
  *
  * That is all that is asked: the library can't tell a stored tag from bytes that were made by hand. They are the
  * standard's tag where roualint_sheet made them and only these functions changed them since (theorem sheet-run in

@@ -7,13 +7,14 @@ use native.Mathlib.Nat.{zero-lt-suc}
 use lib.Dec.{lit<, eqb}
 use lib.ListN.{getD}
 use lib.Bits.{bitXor}
+use Rattle.ground.specs.Bytes.{Bytes}
 use Rattle.field.specs.Field.{times, remainder, polynomialProduct}
 use Rattle.field.specs.Sbox.{sbox}
 use Rattle.field.specs.Block.{tabulatedFrom, xor}
 use Rattle.field.proofs.Sum.{byte-xor}
 use Rattle.field.proofs.Product.{times-byte}
 use Rattle.field.proofs.Inverse.{sbox-byte}
-use Rattle.field.proofs.Block.{Bytes, Block, tabulated-bytes, block-of, xor-is-block}
+use Rattle.field.proofs.Block.{Block, tabulated-bytes, block-of, xor-is-block}
 use Rattle.aes.specs.Cipher.{at, subBytes, shiftRows, mixedByte, mixColumns, rounds, cipher}
 use Rattle.aes.specs.KeyExpansion.{rotWord, subWord, rcon, roundConstant, turned, w, roundKey, keyExpansion}
 use Rattle.aes.specs.AesEnc.{aesEnc}

@@ -3,8 +3,9 @@ use mathlib.Core.Path.{_≡_, refl, ap, _∙_}
 use mathlib.Core.List.{List, []}
 use Prim.Native.Nat.{ℕ, zero, suc}
 use lib.ListN.{getD}
+use Rattle.ground.specs.Bytes.{Bytes}
 use Rattle.field.specs.Block.{xor}
-use Rattle.field.proofs.Block.{Bytes, Block, xor-is-block, xor-undone}
+use Rattle.field.proofs.Block.{Block, xor-is-block, xor-undone}
 use Rattle.aes.specs.Cipher.{subBytes, shiftRows, mixColumns, rounds, cipher}
 use Rattle.aes.specs.KeyExpansion.{keyExpansion}
 use Rattle.aes.specs.AesEnc.{aesEnc}

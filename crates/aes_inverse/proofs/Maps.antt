@@ -4,12 +4,13 @@ use mathlib.Core.Path.{_≡_, refl, _∙_}
 use mathlib.Core.List.{List}
 use Prim.Native.Nat.{ℕ, _+_, _-_, _*_, _/_, _%_, _<_}
 use lib.ListN.{getD}
+use Rattle.ground.specs.Bytes.{Bytes}
 use Rattle.field.specs.Field.{times, remainder, polynomialProduct}
 use Rattle.field.specs.Sbox.{sbox}
 use Rattle.field.specs.Block.{block}
 use Rattle.field.proofs.Sum.{byte-xor}
 use Rattle.field.proofs.Product.{times-byte}
-use Rattle.field.proofs.Block.{Bytes, Block, block-of, block-same, whole}
+use Rattle.field.proofs.Block.{Block, block-of, block-same, whole}
 use Rattle.aes.specs.Cipher.{mixed, at, subBytes, shiftRows, mixColumns, mixedByte}
 use Rattle.aes_inverse.specs.InvSbox.{invSbox}
 use Rattle.aes_inverse.specs.InvCipher.{unmixed, invSubBytes, invShiftRows, invMixColumns, unmixedByte}

@@ -7,9 +7,9 @@ use native.Mathlib.Omega.{arith}
 use borrow.Author.Tests.{eq-eqb}
 use lib.ListN.{length, getD, take, drop, length-append}
 use lib.Seq.{take-at, drop-at, length-take-le}
+use Rattle.ground.specs.Bytes.{Bytes}
 use Rattle.ground.specs.Choice.{pick, both, implies}
 use Rattle.ground.proofs.Checked.{passes, ends}
-use Rattle.field.proofs.Block.{Bytes}
 use Rattle.aes.specs.AesEnc.{aesEnc}
 use Rattle.modes.specs.Cbc.{cbcEncAes}
 use Rattle.modes.specs.Cmac.{cmac96}

@@ -1,5 +1,5 @@
 -- The premises of Entry hold: on the bench of examples a reader that has the keys is let in by IAM2, by MAM2, and by an
--- IAM3 that writes. No cipher is computed.
+-- IAM3 that writes; and no longer where the power went in between. No cipher is computed.
 use mathlib.Core.Path.{_≡_, refl}
 use mathlib.Core.Bool.{true, false}
 use mathlib.Core.List.{List, [], _∷_}
@@ -17,16 +17,21 @@ use Rattle.frames.specs.declared.Kind.the-variants.{Iam2, Iam3, Mam2}
 use Rattle.frames.specs.Asked.{blockAsked as wordsAsked}
 use Rattle.frames.specs.Blocks.{dataLength, blockBytes}
 use Rattle.frames.specs.Fields.{customFits}
+use Rattle.frames.specs.Kinds.{kindOf, iamKind}
 use Rattle.frames.specs.Lengths.{hasMac}
+use Rattle.frames.specs.Messages.{iam2Message}
 use Rattle.entry.specs.declared.State.{State}
 use Rattle.entry.specs.declared.State.the-variants.{IamInit, MamInit}
+use Rattle.offer.specs.declared.Fault.the-variants.{OutOfTurn}
+use Rattle.entry.specs.Sessions.{cleared}
 use Rattle.tag.specs.States.{KeyedTag}
 use Rattle.tag.specs.States.{afterIam1, afterMam1, inTurn}
 use Rattle.ground.specs.Checks.{judgedTo}
 use Rattle.offer.specs.Judged.{benchChecks}
 use Rattle.keytable.specs.Named.{keyWith}
 use Rattle.offer.specs.Records.{offered, sizeOffered, modeOffered, modeSupported, slotNamed, blockAsked}
-use Rattle.tag.specs.Answers.{Call, answerOf, letIn}
+use Rattle.tag.specs.Answers.{Call, answerOf, ofMessage, inOrder, refused, letIn}
+use Rattle.tag.specs.Runs.{PowerUp, answerTo, tagAfter}
 use Rattle.tag.specs.Reactions.{lent}
 use Rattle.reader.specs.declared.Keys.{Keys}
 use Rattle.reader.specs.Own.{modeFits}
@@ -83,6 +88,14 @@ iam2-waits = record { bench = refl; there = refl; turn = refl }
 pub iam2-entered : answerOf iam2 (waiting IamInit) ≡ letIn iam2 0 [] user
 iam2-entered = iam2-enters iam2 (waiting IamInit) keys 0 (replicate 4 0) iam2-waits (knows IamInit) ten four purpose-0
     refl
+
+-- The power goes before it comes: the same message of the same reader is out of turn, since no challenge outlives it.
+pub iam2-after-power :
+    answerOf iam2 (tagAfter (waiting IamInit) (answerTo (waiting IamInit) [] user PowerUp))
+    ≡ refused iam2 OutOfTurn cleared
+unfolding answerTo answerOf ofMessage inOrder judgedTo benchChecks offered inTurn afterIam1 cleared setup terms iam2Made
+    iam2Message kindOf iamKind
+iam2-after-power = refl
 
 abbrev mam2 : Call
 mam2 = call (mam2Made keys 0 (replicate 10 0) (drawn 0))

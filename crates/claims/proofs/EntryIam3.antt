@@ -6,6 +6,7 @@ use mathlib.Core.List.{List, _++_}
 use Prim.Native.Nat.{ℕ, _+_, _<_}
 use native.Mathlib.Omega.{arith}
 use lib.ListN.{length, length-append}
+use Rattle.ground.specs.Bytes.{Bytes}
 use Rattle.ground.specs.Choice.{both}
 use Rattle.aes.specs.AesEnc.{aesEnc}
 use Rattle.memory.specs.declared.Area.the-variants.{Identity, User}
@@ -39,7 +40,7 @@ use Rattle.reader_build.proofs.Making.{partFits, parts-fit, part-count, part-se
 use Rattle.sheet.specs.Setups.{Setup}
 use Rattle.entry.specs.declared.Session.{Session}
 use Rattle.claims.proofs.InTurn.{in-turn}
-use Rattle.claims.specs.Entry.{Bytes, Array, Knows, Writable, Iam3Enters}
+use Rattle.claims.specs.Entry.{Array, Knows, Writable, Iam3Enters}
 use Rattle.claims.proofs.Proofs.{sent, sixteen, opened, clear, purpose-in, iam-holds, sent-bytes}
 use Rattle.claims.proofs.Opened.{head, body, mac, as-head, rest-long, block-sent, mac-fits, data-opened}
 

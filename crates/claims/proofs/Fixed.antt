@@ -8,9 +8,9 @@ use borrow.Author.Tests.{eqb-true}
 use lib.Dec.{eqb}
 use lib.ListN.{length, take, drop, length-drop, take-append-drop}
 use lib.Seq.{take-add, take-at, drop-at, drop-drop, take-all, length-take-le}
+use Rattle.ground.specs.Bytes.{Bytes}
 use Rattle.ground.specs.Choice.{pick, both, implies}
 use Rattle.ground.specs.Checks.{judgedTo}
-use Rattle.field.proofs.Block.{Bytes}
 use Rattle.aes.specs.AesEnc.{aesEnc}
 use Rattle.aes_inverse.specs.AesDec.{aesDec}
 use Rattle.aes_inverse.proofs.Inverse.{enc-dec, dec-block}

@@ -24,7 +24,8 @@ use Rattle.entry.specs.Sessions.{cleared}
 use Rattle.ground.specs.Checks.{judgedTo}
 use Rattle.offer.specs.Judged.{benchChecks}
 use Rattle.tag.specs.Answers.{answerOf, ofMessage, refused}
-use Rattle.tag.specs.Plays.{Doing, Step, Left, Called}
+use Rattle.tag.specs.States.{awake}
+use Rattle.tag.specs.Plays.{Brought, Doing, Step, Wake, Left, Called, woken}
 use Rattle.reader.specs.declared.Fault.the-variants.{OwnMessage}
 use Rattle.reader.specs.declared.Keys.{Keys}
 use Rattle.reader_build.specs.declared.Made.the-variants.{Refused as NotMade}
@@ -34,6 +35,7 @@ use Rattle.reader_judge.specs.Judged.{judgementOf}
 use Rattle.claims.specs.Answered.{FromTo, TagRefused, JudgeRefused}
 use Rattle.claims.specs.ShutOut.{
   Program,
+  steps,
   Each,
   RefusesEverything,
   OneFixedReply,
@@ -78,7 +80,8 @@ chain-refused = chain-answers false [] [] NotChained [] (record { says = refl; n
 pub layer-refused : _≡_ {A = List ℕ} [] []
 layer-refused = layer-answers false 0 [] [] false [] (record { says = refl; holds = refl }) refl
 
--- ---- demand 2: one program that is each of the five false ones, since it refuses whatever comes
+-- ---- demand 2: one program that is each of the five false ones, since it refuses every message; at power-up it does
+-- as it should
 
 abbrev refusing : Tag → List ℕ → List ℕ → Left
 refusing tag identity user = record {
@@ -91,18 +94,20 @@ refusing tag identity user = record {
 
 pub refuser : Program
 refuser table tag identity user [] = []
-refuser table tag identity user (d ∷ ds) = refusing tag identity user ∷ refuser table tag identity user ds
+refuser table tag identity user (Step b ∷ ds) = refusing tag identity user ∷ refuser table tag identity user ds
+refuser table tag identity user (Wake ∷ ds) =
+    woken tag identity user ∷ refuser table (awake (tag .terms)) identity user ds
 
 module _ (table : List ℕ) (tag : Tag) (identity user : List ℕ) where
-  each-left : (P : Left → Type 0) → P (refusing tag identity user) → (ds : List Doing)
-      → Each P (refuser table tag identity user ds)
-  unfolding refuser Each
+  each-left : (P : Left → Type 0) → P (refusing tag identity user) → (bs : List Brought)
+      → Each P (refuser table tag identity user (steps bs))
+  unfolding refuser steps Each
   each-left P h [] = tt
-  each-left P h (d ∷ ds) = (h, each-left P h ds)
+  each-left P h (b ∷ bs) = (h, each-left P h bs)
 
-  as-long : (ds es : List Doing) → length ds ≡ length es
-      → refuser table tag identity user ds ≡ refuser table tag identity user es
-  unfolding refuser
+  as-long : (bs cs : List Brought) → length bs ≡ length cs
+      → refuser table tag identity user (steps bs) ≡ refuser table tag identity user (steps cs)
+  unfolding refuser steps
   as-long [] [] e = refl
   as-long [] (c ∷ cs) e = absurd (omega arith)
   as-long (b ∷ bs) [] e = absurd (omega arith)
@@ -121,9 +126,10 @@ pub never-stores : NeverStores refuser
 never-stores table tag identity user = each-left table tag identity user _ (refl, refl)
 
 pub made-up-length : MadeUpLength refuser
+unfolding steps
 made-up-length table tag identity user b first rest e k =
-    each-left table tag identity user _ (no-reply 10) (Step b ∷ [])
+    each-left table tag identity user _ (no-reply 10) (b ∷ [])
 
 pub later-for-show : LaterForShow refuser
 unfolding refuser
-later-for-show table tag identity user d ds es e = as-long table tag identity user ds es e
+later-for-show table tag identity user b bs cs e = as-long table tag identity user bs cs e

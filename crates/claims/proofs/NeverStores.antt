@@ -24,7 +24,7 @@ use Rattle.offer.specs.Judged.{benchChecks, openingChecks}
 use Rattle.tag.specs.Answers.{Answer, answerOf, ofMessage, inOrder, byKind, iam1Answer, ifFine, replied, refused, letIn}
 use Rattle.tag.specs.Runs.{answerTo, run}
 use Rattle.tag.specs.Plays.{Doing, Step, Left, eventsOf, leftOf, leftAll}
-use Rattle.claims.specs.ShutOut.{Program, Standard, Each, NeverStores, ShutOut}
+use Rattle.claims.specs.ShutOut.{Program, Standard, steps, Each, NeverStores, ShutOut}
 use Rattle.claims.proofs.Bench.{terms, table, setup, bench, user, brings, iam1}
 use Rattle.claims.proofs.Entered.{waiting, call, words, iam3, iam3-entered}
 use Rattle.claims.proofs.ShutOut.{is-defined, answered}
@@ -52,10 +52,10 @@ module _ (p : Program) (h : Standard p) where
   left = is-defined p h table bench [] user ds
 
 pub never-stores : ShutOut NeverStores
-unfolding Each
+unfolding Each steps
 never-stores p says h =
     let e = subst (λ (xs : List Left). Each (λ x. (x .identity ≡ []) × (x .user ≡ user)) xs) (left p h)
-    (says table bench [] user (ds p h)) in
+    (says table bench [] user (brings iam1 0 ∷ brings iam3 0 ∷ [])) in
     let same : words ≡ user = sym stored ∙ e .1 .0 .1 in
     let z : _≡_ {A = ℕ} 1 0 = ap (λ (l : List ℕ). getD l 0 0) same in
     omega arith

@@ -7,8 +7,8 @@ use Prim.Native.Nat.{ℕ, _+_, _%_}
 use native.Mathlib.Omega.{arith}
 use lib.ListN.{length, take, drop, length-append}
 use lib.Seq.{take-at, drop-at, drop-drop}
+use Rattle.ground.specs.Bytes.{Bytes}
 use Rattle.ground.specs.Choice.{pick, both, implies}
-use Rattle.field.proofs.Block.{Bytes}
 use Rattle.modes.specs.Cbc.{cbcDecAes}
 use Rattle.modes.specs.Cmac.{cmac96}
 use Rattle.modes.specs.Room.{macs}

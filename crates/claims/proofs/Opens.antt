@@ -8,9 +8,10 @@ use borrow.Author.Tests.{eq-eqb}
 use lib.Dec.{lit<}
 use lib.ListN.{length, take, drop, length-append, length-drop, take-append-drop}
 use lib.Seq.{take-at, drop-at, take-all, length-take-le}
+use Rattle.ground.specs.Bytes.{Bytes}
 use Rattle.ground.specs.Choice.{both}
 use Rattle.ground.proofs.Checked.{passes, ends}
-use Rattle.field.proofs.Block.{Bytes, Block}
+use Rattle.field.proofs.Block.{Block}
 use Rattle.aes.specs.AesEnc.{aesEnc}
 use Rattle.aes_inverse.specs.AesDec.{aesDec}
 use Rattle.aes_inverse.proofs.Inverse.{dec-enc}

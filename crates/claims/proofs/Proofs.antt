@@ -7,8 +7,8 @@ use native.Mathlib.Omega.{arith}
 use borrow.Author.Tests.{eq-eqb, ltb-true}
 use lib.ListN.{length, take}
 use lib.Seq.{take-at, take-all, drop-at}
+use Rattle.ground.specs.Bytes.{Bytes}
 use Rattle.ground.specs.Choice.{both}
-use Rattle.field.proofs.Block.{Bytes}
 use Rattle.aes.specs.AesEnc.{aesEnc}
 use Rattle.sheet.specs.declared.Key.{Key}
 use Rattle.frames.specs.Constants.{withPurpose}

@@ -4,8 +4,9 @@ use mathlib.Core.Path.{_≡_, refl, ap, ap₂, _∙_}
 use mathlib.Core.List.{List, [], _∷_}
 use Prim.Native.Nat.{ℕ, _%_}
 use lib.ListN.{length}
+use Rattle.ground.specs.Bytes.{Bytes}
 use Rattle.field.specs.Block.{xor}
-use Rattle.field.proofs.Block.{Bytes, Block, xor-is-block, xor-undone}
+use Rattle.field.proofs.Block.{Block, xor-is-block, xor-undone}
 use Rattle.aes.specs.AesEnc.{aesEnc}
 use Rattle.aes_inverse.specs.AesDec.{aesDec}
 use Rattle.aes_inverse.proofs.Inverse.{enc-dec, dec-block}

@@ -11,10 +11,9 @@ use Rattle.ground.specs.Choice.{both}
 use Rattle.ground.specs.Checks.{judgedTo}
 use Rattle.frames.proofs.Range.{both-left, both-right}
 use lib.ListN.{length, take, replicate}
-use Rattle.field.proofs.Block.{Bytes}
 use Rattle.modes.specs.Room.{over}
 use Rattle.sheet.specs.Limits.{keyLimit, profileLimit}
-use Rattle.ground.specs.Bytes.{Bytes as SheetBytes}
+use Rattle.ground.specs.Bytes.{Bytes as SheetBytes, Bytes}
 use Rattle.ground.proofs.Bytes.{bytes-none, bytes-cons}
 use Rattle.sheet.specs.declared.Reading.{Reading}
 use Rattle.sheet.specs.KeyTable.{keysIn, recordsIn}

@@ -31,6 +31,7 @@ use Rattle.claims.specs.ShutOut.{
   Standard,
   OneTag,
   SomeTag,
+  steps,
   Each,
   RefusesEverything,
   OneFixedReply,
@@ -119,19 +120,21 @@ module _ (p : Program) (h : Standard p) (n : ℕ) (P : Left → Type 0) where
       ∙ one-call n) e .0
 
 pub refuses-everything : ShutOut RefusesEverything
+unfolding steps
 refuses-everything p says h = of-one p h 0 (λ x. (n : ℕ) → x .stepped .outcome ≡ Replied n → ⊥)
-    (says table bench [] user (Step (brings iam1 0) ∷ [])) 10 refl
+    (says table bench [] user (brings iam1 0 ∷ [])) 10 refl
 
 -- the first draw tells two replies apart
 apart : drawn 0 ≡ drawn 1 → ⊥
 apart e = let z : _≡_ {A = ℕ} 0 1 = ap (λ (l : List ℕ). getD l 0 0) e in omega arith
 
 pub one-fixed-reply : (reply : List ℕ) → ShutOut (OneFixedReply reply)
+unfolding steps
 one-fixed-reply reply p says h = apart (sym (sent 0) ∙ sent 1)
   where
     sent : (n : ℕ) → reply ≡ drawn n
     sent n = sym (of-one p h n (λ x. (k : ℕ) → x .stepped .outcome ≡ Replied k → take k (x .room) ≡ reply)
-        (says table bench [] user (Step (brings iam1 n) ∷ [])) 10 refl)
+        (says table bench [] user (brings iam1 n ∷ [])) 10 refl)
 
 pub made-up-length : ShutOut MadeUpLength
 unfolding kindOf iamKind
@@ -139,8 +142,9 @@ made-up-length p says h = of-one p h 0 (λ x. x .stepped .outcome ≡ Replied 10
     (says table bench [] user (brings iam1 0) 0x40 (0x00 ∷ []) refl refl) refl
 
 pub later-for-show : ShutOut LaterForShow
+unfolding steps
 later-for-show p says h = apart (ap first (sym (later 0)
-    ∙ says table bench [] user (Step (brings [] 0)) (Step (brings iam1 0) ∷ []) (Step (brings iam1 1) ∷ []) refl
+    ∙ says table bench [] user (brings [] 0) (brings iam1 0 ∷ []) (brings iam1 1 ∷ []) refl
     ∙ later 1))
   where
     later : (n : ℕ) → drop 1 (p table bench [] user (Step (brings [] 0) ∷ Step (brings iam1 n) ∷ [])) ≡ answered n ∷ []

@@ -3,8 +3,9 @@
 use mathlib.Core.Path.{_≡_}
 use mathlib.Core.Bool.{true, false}
 use mathlib.Core.List.{List}
-use Prim.Native.Nat.{ℕ, _<_}
-use lib.ListN.{length, drop, getD}
+use Prim.Native.Nat.{ℕ}
+use lib.ListN.{length, drop}
+use Rattle.ground.specs.Bytes.{Bytes}
 use Rattle.memory.specs.declared.Area.the-variants.{Identity, User}
 use Rattle.memory.specs.Address.{overruns}
 use Rattle.memory.specs.Areas.{storedIn}
@@ -24,10 +25,6 @@ use Rattle.offer.specs.Records.{offered, slotNamed, sizeOffered, modeSupported,
 use Rattle.tag.specs.Answers.{Call, letIn, answerOf}
 use Rattle.reader.specs.declared.Keys.{Keys}
 use Rattle.reader_build.specs.Builds.{purposeFits, iam2Made, mam2Made, iam3Made, iam3Fits}
-
--- Each element is a byte.
-abbrev pub Bytes : List ℕ → Type 0
-Bytes s = (i : ℕ) → getD s i 0 < 256
 
 -- An array of n bytes.
 pub record Array (n : ℕ) (s : List ℕ) : Type 0 where

@@ -6,7 +6,7 @@ use Prim.Native.Nat.{ℕ, _≤_}
 use mathlib.Core.Path.{_≡_}
 use mathlib.Core.List.{List}
 use lib.ListN.{length, take}
-use Rattle.field.proofs.Block.{Bytes}
+use Rattle.ground.specs.Bytes.{Bytes}
 use Rattle.memory.specs.Areas.{windowOf}
 use Rattle.sheet.specs.declared.Key.{Key}
 use Rattle.sheet.specs.Limits.{keyLimit}

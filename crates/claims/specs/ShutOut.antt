@@ -34,6 +34,11 @@ pub record SomeTag : Type 0 where
   pub program : Program
   pub standard : Standard program
 
+-- Messages alone. The false tags are told by what they do with these: at power-up a false tag may do as it should.
+unfoldable pub steps : List Brought → List Doing
+steps [] = []
+steps (b ∷ bs) = Step b ∷ steps bs
+
 -- Of everything that is left.
 unfoldable pub Each : (Left → Type 0) → List Left → Type 0
 Each P [] = Unit
@@ -41,8 +46,8 @@ Each P (x ∷ xs) = P x × Each P xs
 
 abbrev pub Always : Program → (List ℕ → List ℕ → Left → Type 0) → Type 0
 Always p P =
-    (table : List ℕ) (tag : Tag) (identity user : List ℕ) (ds : List Doing)
-    → Each (P identity user) (p table tag identity user ds)
+    (table : List ℕ) (tag : Tag) (identity user : List ℕ) (bs : List Brought)
+    → Each (P identity user) (p table tag identity user (steps bs))
 
 -- The tag that refuses everything: no call ends in a reply.
 abbrev pub RefusesEverything : Program → Type 0
@@ -57,9 +62,9 @@ OneFixedReply reply p = Always p (λ identity user x. (n : ℕ) → x .stepped .
 -- what was sent in them.
 abbrev pub LaterForShow : Program → Type 0
 LaterForShow p =
-    (table : List ℕ) (tag : Tag) (identity user : List ℕ) (d : Doing) (ds es : List Doing)
-    → length ds ≡ length es
-    → drop 1 (p table tag identity user (d ∷ ds)) ≡ drop 1 (p table tag identity user (d ∷ es))
+    (table : List ℕ) (tag : Tag) (identity user : List ℕ) (b : Brought) (bs cs : List Brought)
+    → length bs ≡ length cs
+    → drop 1 (p table tag identity user (Step b ∷ steps bs)) ≡ drop 1 (p table tag identity user (Step b ∷ steps cs))
 
 -- A made-up reply length: the reply to an IAM1 is never said to have its ten bytes.
 abbrev pub MadeUpLength : Program → Type 0

@@ -69,7 +69,7 @@ pub record SameChange (before before′ now now′ : List ℕ) : Type 0 where
   pub long : length now ≡ length before
   pub long′ : length now′ ≡ length before′
 
--- Two answers, of tags whose memories were x and y at power-up: the same number or reply, the same state with all that
+-- Two answers, of tags whose memories were x and y at the start: the same number or reply, the same state with all that
 -- is held, the same change.
 pub record SameAnswer (x y : Memory) (a b : Answer) : Type 0 where
   pub outcome : a .outcome ≡ b .outcome
@@ -123,7 +123,7 @@ SilentCode =
     → Plays l (awake q) (y .identity) (y .user) ds rs
     → SameLefts x y ls rs
 
--- What the same change means from one moment to another: of an area that was s and t at power-up, m and n at the one, k
+-- What the same change means from one moment to another: of an area that was s and t at the start, m and n at the one, k
 -- and l at the other. A word is the same at both in one tag exactly if it is in the other, and where it is not, it has
 -- come to the same value.
 abbrev pub ChangeAlike : Type 0

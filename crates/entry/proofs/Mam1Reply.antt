@@ -5,7 +5,7 @@ use Prim.Native.Nat.{ℕ}
 use native.Mathlib.Omega.{arith}
 use lib.ListN.{length, getD, take, drop, length-append, length-drop}
 use lib.Seq.{length-take-le}
-use Rattle.field.proofs.Block.{Bytes}
+use Rattle.ground.specs.Bytes.{Bytes}
 use Rattle.aes.specs.AesEnc.{aesEnc}
 use Rattle.modes.proofs.Whole.{bytes-take}
 use Rattle.sheet.specs.declared.Key.{Key}

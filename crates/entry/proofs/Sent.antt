@@ -6,9 +6,10 @@ use Prim.Native.Nat.{ℕ, _+_, _-_, _/_, _%_, _≤_}
 use native.Mathlib.Omega.{arith}
 use lib.ListN.{length, take, drop, getD, length-drop}
 use lib.Seq.{take-add, take-all, drop-drop, length-take-le}
+use Rattle.ground.specs.Bytes.{Bytes}
 use Rattle.ground.specs.Choice.{pick}
 use Rattle.field.specs.Block.{firstBlock}
-use Rattle.field.proofs.Block.{Bytes, first-block-is}
+use Rattle.field.proofs.Block.{first-block-is}
 use Rattle.modes.specs.Cbc.{cbcDecAes}
 use Rattle.modes.specs.Room.{over}
 use Rattle.sheet.specs.declared.Key.{Key}

@@ -11,7 +11,7 @@ use denote.Array.{Array}
 use lib.ListN.{length}
 use borrow.Kind.Array.{eInt, good-length}
 use borrow.Author.Needs.{elem-fits}
-use Rattle.field.proofs.Block.{Bytes}
+use Rattle.ground.specs.Bytes.{Bytes}
 
 pub array-length : (n : ℕ) (xs : List ℕ) (vs : List Val) → Is (Array (UInt w8) n) xs vs → length xs ≡ n
 array-length n xs vs p = good-length (eInt w8) n xs vs p

@@ -8,13 +8,10 @@ use native.Mathlib.Omega.{arith}
 use lib.ListN.{length, getD, take, drop}
 use lib.Seq.{drop-cons, take-all}
 use lib.Bits.{bitXor}
+use Rattle.ground.specs.Bytes.{Bytes}
 use Rattle.field.specs.Block.{tabulatedFrom, tabulated, block, firstBlock, xor, substituted}
 use Rattle.field.proofs.Sum.{xor-twice, byte-xor}
 use Rattle.field.proofs.Table.{entry-at}
-
--- each element is a byte, and so is the 0 past the end
-abbrev pub Bytes : List ℕ → Type 0
-Bytes s = (i : ℕ) → getD s i 0 < 256
 
 pub record Block (s : List ℕ) : Type 0 where
   pub sixteen : length s ≡ 16

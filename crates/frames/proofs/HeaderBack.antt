@@ -7,11 +7,11 @@ use Prim.Native.Nat.{ℕ, _+_, _*_, _-_, _/_, _%_}
 use native.Mathlib.Omega.{arith}
 use lib.ListN.{length, take, drop, replicate, length-replicate, getD-replicate, length-drop, take-append-drop}
 use lib.Seq.{ext-getD, getD-drop}
+use Rattle.ground.specs.Bytes.{Bytes}
 use Rattle.frames.specs.Blocks.{headerLength}
 use Rattle.frames.specs.Fields.{byte, bytesFrom, sizeBit, sizeOf, customFits}
 use Rattle.frames.specs.Header.{headerStart, headerOf, headerCustom}
 use Rattle.frames.specs.declared.Custom.{Custom}
-use Rattle.frames.proofs.Inverse.{Bytes}
 use Rattle.frames.proofs.Laid.{header-least}
 use Rattle.frames.proofs.Places.{bytes-taken}
 use Rattle.frames.proofs.Range.{custom-range, size-bit-lt, size-of-bit, bit-of-size}

@@ -5,6 +5,7 @@ use mathlib.Core.List.{List, [], _∷_, _++_}
 use Prim.Native.Nat.{ℕ, _+_, _*_, _/_, _%_, _≤_, _<_}
 use native.Mathlib.Omega.{arith}
 use lib.ListN.{length, take}
+use Rattle.ground.specs.Bytes.{Bytes}
 use Rattle.memory.specs.declared.BlockSize.{BlockSize}
 use Rattle.frames.specs.Fields.{byte, bytesFrom, sizeBit, sizeOf, bit, flag, selectBytes, selectCustom}
 use Rattle.frames.specs.Kinds.{kindOf}
@@ -37,10 +38,6 @@ use Rattle.frames.specs.declared.Kind.the-variants.{Tam1, Tam2, Iam1, Ia
 use Rattle.frames.proofs.FirstByte.{kind-range}
 use Rattle.frames.proofs.Places.{whole, bytes-taken}
 use Rattle.frames.proofs.Range.{bit-of-size, bit-of-flag}
-
--- every element is a byte
-abbrev pub Bytes : List ℕ → Type 0
-Bytes m = (i : ℕ) → byte m i < 256
 
 -- the three bytes that TAM2 and IAM3 share
 pub select-bytes : (s : BlockSize) (x y z : ℕ) → x < 256 → y < 256 → z < 256

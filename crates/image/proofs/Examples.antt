@@ -19,7 +19,7 @@ use Rattle.image.specs.Image.{bodies, imageOf, sessionIn, tableIn, rests
 abbrev pub zeros : List ℕ
 zeros = replicate 793 0
 
--- Zeros are the tag of the smallest sheet, powered up: it offers nothing, and has no memory and no key.
+-- Zeros are the tag of the smallest sheet, powered up: it has no memory and no key, and so takes no message.
 pub zeros-image : imageOf cleared emptyTerms [] ≡ zeros
 unfolding imageOf cleared emptyTerms noFeatures noSlot noLock featuresBody sizesBody profileBody lockBody bodies
     profileLimit lockLimit areaNumber

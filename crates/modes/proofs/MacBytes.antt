@@ -6,8 +6,9 @@ use native.Mathlib.Omega.{arith}
 use lib.Dec.{lit<}
 use lib.ListN.{length, getD, replicate}
 use lib.Seq.{length-take-le}
+use Rattle.ground.specs.Bytes.{Bytes}
 use Rattle.field.specs.Block.{xor}
-use Rattle.field.proofs.Block.{Bytes, Block, block-of, xor-is-block}
+use Rattle.field.proofs.Block.{Block, block-of, xor-is-block}
 use Rattle.aes.specs.AesEnc.{aesEnc}
 use Rattle.aes.proofs.Forward.{enc-block}
 use Rattle.modes.specs.Blocks.{wholeBlocks}

@@ -6,7 +6,8 @@ use native.Mathlib.Omega.{arith}
 use lib.Dec.{lit<}
 use lib.ListN.{length, take, drop, length-append, length-drop, take-append-drop}
 use lib.Seq.{take-at, drop-at, length-take-le, getD-drop}
-use Rattle.field.proofs.Block.{Bytes, Block}
+use Rattle.ground.specs.Bytes.{Bytes}
+use Rattle.field.proofs.Block.{Block}
 use Rattle.modes.specs.Blocks.{blocks, wholeBlocks, joined}
 use Rattle.modes.proofs.Chains.{no-block, first-and-rest}
 

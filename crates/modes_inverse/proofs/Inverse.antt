@@ -5,7 +5,8 @@ use mathlib.Core.List.{List}
 use Prim.Native.Nat.{ℕ, _%_}
 use native.Mathlib.Omega.{arith}
 use lib.ListN.{length}
-use Rattle.field.proofs.Block.{Bytes, Block}
+use Rattle.ground.specs.Bytes.{Bytes}
+use Rattle.field.proofs.Block.{Block}
 use Rattle.aes.specs.AesEnc.{aesEnc}
 use Rattle.aes.proofs.Forward.{enc-block}
 use Rattle.aes_inverse.specs.AesDec.{aesDec}

@@ -8,8 +8,9 @@ use borrow.Author.Tests.{lt-ltb}
 use lib.Dec.{lit<}
 use lib.ListN.{length, drop, replicate, length-append}
 use lib.Seq.{getD-drop}
+use Rattle.ground.specs.Bytes.{Bytes}
 use Rattle.ground.specs.Choice.{pick, both}
-use Rattle.field.proofs.Block.{Bytes, Block}
+use Rattle.field.proofs.Block.{Block}
 use Rattle.aes.specs.AesEnc.{aesEnc}
 use Rattle.aes.proofs.Forward.{enc-block}
 use Rattle.memory.specs.declared.BlockSize.{BlockSize}

@@ -1,4 +1,4 @@
--- What a tag's setup offers: clause 11 and Table 27, 9.2, and the scope paper's feature record.
+-- What a setup offers: 9.2, 9.4.5, the scope paper's feature record; and the slot and the words that a message names.
 use Prim.Native.Nat.{ℕ}
 use mathlib.Core.Bool.{Bool, true, false}
 use mathlib.Core.List.{List}

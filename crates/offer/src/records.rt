@@ -1,4 +1,4 @@
-// What a setup offers, and the record, the slot and the words that a message names.
+// What a setup offers (9.2, 9.4.5, the house rules), and the slot and the words that a message names.
 use frames::Custom;
 use frames::Kind;
 use memory::Area;

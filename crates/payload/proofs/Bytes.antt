@@ -4,8 +4,8 @@ use mathlib.Core.List.{List, [], _∷_, _++_}
 use Prim.Native.Nat.{ℕ, zero, suc}
 use native.Mathlib.Nat.{le-refl}
 use lib.ListN.{length, getD, take, drop}
+use Rattle.ground.specs.Bytes.{Bytes}
 use Rattle.field.specs.Block.{tabulated}
-use Rattle.field.proofs.Block.{Bytes}
 use Rattle.field.proofs.Fill.{filled}
 
 -- what is joined of bytes is bytes

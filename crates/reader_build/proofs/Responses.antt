@@ -4,7 +4,8 @@ use mathlib.Core.List.{List, [], _∷_, _++_}
 use Prim.Native.Nat.{ℕ, zero, suc, _+_, _*_, _/_, _%_, _<_}
 use native.Mathlib.Omega.{arith}
 use lib.ListN.{length, drop, length-append}
-use Rattle.field.proofs.Block.{Bytes, Block}
+use Rattle.ground.specs.Bytes.{Bytes}
+use Rattle.field.proofs.Block.{Block}
 use Rattle.aes.specs.AesEnc.{aesEnc}
 use Rattle.aes_inverse.proofs.Inverse.{dec-block, enc-dec}
 use Rattle.frames.specs.Constants.{C-IAM2, C-MAM2, withPurpose}

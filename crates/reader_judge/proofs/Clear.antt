@@ -8,9 +8,10 @@ use native.Mathlib.Omega.{arith}
 use borrow.Author.Tests.{lt-ltb}
 use lib.ListN.{length, getD, take, drop, length-drop, length-take}
 use lib.Seq.{take-all, length-take-le}
+use Rattle.ground.specs.Bytes.{Bytes}
 use Rattle.ground.specs.Choice.{pick, both}
 use Rattle.field.specs.Block.{firstBlock}
-use Rattle.field.proofs.Block.{Bytes, first-block-is}
+use Rattle.field.proofs.Block.{first-block-is}
 use Rattle.memory.specs.declared.BlockSize.{BlockSize}
 use Rattle.aes_inverse.specs.AesDec.{aesDec}
 use Rattle.modes.specs.Blocks.{wholeBlocks}

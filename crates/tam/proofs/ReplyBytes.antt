@@ -6,8 +6,9 @@ use Prim.Native.Nat.{ℕ, zero, suc, _+_, _-_, _≤_}
 use native.Mathlib.Omega.{arith}
 use lib.ListN.{length, take, replicate}
 use lib.Seq.{length-take-le}
+use Rattle.ground.specs.Bytes.{Bytes}
 use Rattle.ground.specs.Choice.{pick}
-use Rattle.field.proofs.Block.{Bytes, Block}
+use Rattle.field.proofs.Block.{Block}
 use Rattle.modes.specs.Cbc.{cbcEncAes}
 use Rattle.modes.specs.Cmac.{cmac96}
 use Rattle.modes.proofs.Whole.{bytes-take}
