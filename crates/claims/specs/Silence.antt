@@ -124,7 +124,7 @@ SilentCode =
     → SameLefts x y ls rs
 
 -- What the same change means from one moment to another: of an area that was s and t at the start, m and n at the one,
--- k and l at the other. A word is the same at both in one tag exactly if it is in the other, and where it is not, it has
+-- k and l at the other. A word is the same at both in one tag exactly if it is in the other; where it is not, it has
 -- come to the same value.
 abbrev pub ChangeAlike : Type 0
 ChangeAlike =
