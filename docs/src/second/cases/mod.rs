@@ -4,6 +4,7 @@ mod annex_f;
 mod cipher;
 mod draft;
 mod draws;
+mod forger;
 mod lines;
 mod reader;
 mod script;

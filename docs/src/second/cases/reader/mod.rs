@@ -8,6 +8,7 @@ mod tally;
 
 use super::annex_f;
 use super::draws::Draws;
+use super::forger::Forger;
 use super::script::Script;
 use crate::bench;
 use crate::bench::words::shown;
@@ -16,7 +17,6 @@ use crate::standard::build::{made, Order};
 use crate::standard::frames::{self, Fields, Kind};
 use crate::standard::sheet::Key;
 use checks::{failing, number, Check};
-use replies::Forger;
 
 const KEYS: usize = 560;
 const BUILDS: usize = 50;

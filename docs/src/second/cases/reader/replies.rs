@@ -1,8 +1,7 @@
 //! Replies as a tag makes them, right but for what is to fail in them; and where that hits.
 
 use super::checks::Check;
-use crate::cases::draws::Draws;
-use crate::cases::script::Script;
+use crate::cases::forger::Forger;
 use crate::standard::aes::encrypt;
 use crate::standard::chaining::{cbc_enc_aes, cbc_enc_aes_inv};
 use crate::standard::cmac::cmac_96;
@@ -10,15 +9,7 @@ use crate::standard::frames::{self, Fields, Kind, CONSTANTS};
 use crate::standard::judge::constant_name;
 use crate::standard::sheet::Key;
 
-/// Who makes a reply, what is to fail in it, and what was damaged, by its name.
-pub struct Forger<'a> {
-    pub draws: &'a mut Draws,
-    pub script: &'a Script,
-    pub failing: &'a [Check],
-    pub hit: Vec<String>,
-}
-
-impl Forger<'_> {
+impl Forger<'_, Check> {
     /// The reply to a message of these fields.
     pub fn reply(&mut self, key: &Key, kind: Kind, f: Fields) -> Vec<u8> {
         match kind {
@@ -30,27 +21,6 @@ impl Forger<'_> {
                 [&block[..], &self.draws.bytes(6)].concat()
             }
             Kind::Iam2 | Kind::Iam3 | Kind::Mam2 => Vec::new(),
-        }
-    }
-
-    fn has(&self, check: Check) -> bool {
-        self.failing.contains(&check)
-    }
-
-    fn place(&mut self, names: Vec<String>) -> usize {
-        let any = self.draws.below(names.len());
-        let at = match self.failing {
-            [_] => self.script.rarest(&names, any),
-            _ => any,
-        };
-        self.hit.push(names[at].clone());
-        at
-    }
-
-    fn damage(&mut self, what: &str, bytes: &mut [u8]) {
-        if !bytes.is_empty() {
-            let at = self.place((0..bytes.len()).map(|at| what.replace('@', &at.to_string())).collect());
-            self.draws.flip(&mut bytes[at]);
         }
     }
 

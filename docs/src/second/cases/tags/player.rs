@@ -2,9 +2,10 @@
 
 use super::block;
 use super::checks::{self, Check, BENCH};
-use super::proof::{Forger, Open};
+use super::proof::Open;
 use super::tally;
 use crate::cases::draws::Draws;
+use crate::cases::forger::Forger;
 use crate::cases::script::Script;
 use crate::hex::number;
 use crate::standard::frames::{self, Fields, Kind};

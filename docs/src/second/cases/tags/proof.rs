@@ -1,8 +1,7 @@
 //! IAM2, IAM3 and MAM2 for a challenge, right but for what is to fail in them; and where that hits.
 
 use super::checks::Check;
-use crate::cases::draws::Draws;
-use crate::cases::script::Script;
+use crate::cases::forger::Forger;
 use crate::standard::aes::{encrypt, Block};
 use crate::standard::chaining::cbc_enc_aes;
 use crate::standard::cmac::cmac_96;
@@ -19,42 +18,12 @@ pub struct Open {
     pub old: [u8; 10],
 }
 
-/// Who makes a message with a proof, what is to fail in it, and what was damaged, by its name.
-pub struct Forger<'a> {
-    pub draws: &'a mut Draws,
-    pub script: &'a Script,
-    pub failing: &'a [Check],
-    pub hit: Vec<String>,
-}
-
-impl Forger<'_> {
+impl Forger<'_, Check> {
     pub fn message(&mut self, kind: Kind, open: &Open, f: Fields) -> Vec<u8> {
         let first = self.first_block(kind, open, f);
         match kind {
             Kind::Iam3 => self.writing(open, f, &first),
             _ => messages::proving(kind, &open.key, &first),
-        }
-    }
-
-    fn has(&self, check: Check) -> bool {
-        self.failing.contains(&check)
-    }
-
-    /// The next place of some that have names: where nothing else is wrong, one that was hit least often.
-    fn place(&mut self, names: Vec<String>) -> usize {
-        let any = self.draws.below(names.len());
-        let at = match self.failing {
-            [_] => self.script.rarest(&names, any),
-            _ => any,
-        };
-        self.hit.push(names[at].clone());
-        at
-    }
-
-    fn damage(&mut self, what: &str, bytes: &mut [u8]) {
-        if !bytes.is_empty() {
-            let at = self.place((0..bytes.len()).map(|at| what.replace('@', &at.to_string())).collect());
-            self.draws.flip(&mut bytes[at]);
         }
     }
 
