@@ -10,7 +10,9 @@ use Rattle.frames.specs.Constants.{tam2Constant, iam3Constant, byMode, t
 use Rattle.memory.specs.Address.{blockSizeBit}
 use Rattle.frames.specs.Fields.{sizeOf, selectBytes, selectCustom}
 use Rattle.frames.specs.Header.{headerStart, headerOf}
-use Rattle.frames.specs.Lengths.{hasMac, macLength, iam3MacAt, iam3Length, tam2MacAt, tam2ReplyLength}
+use Rattle.frames.specs.Modes.{hasMac}
+use Rattle.frames.specs.declared.ProtMode.the-variants.{Plaintext, Cbc, Cmac, CbcCmac}
+use Rattle.frames.specs.Lengths.{macLength, iam3MacAt, iam3Length, tam2MacAt, tam2ReplyLength}
 use Rattle.frames.specs.Messages.{tam2Message, iam3Of}
 use Rattle.frames.specs.declared.Custom.{Custom}
 use Rattle.frames.specs.declared.Iam3.{Iam3}
@@ -33,7 +35,7 @@ pub seventh-fields : (seventh .custom ≡ custom Bits64 2 5 3) × (seventh .prot
 unfolding iam3Of selectCustom sizeOf
 seventh-fields = (refl, refl, refl)
 
-pub seventh-sizes : (dOf Bits64 true 3 ≡ 3) × (iam3Length Bits64 3 1 ≡ 68)
+pub seventh-sizes : (dOf Bits64 true 3 ≡ 3) × (iam3Length Bits64 3 Cbc ≡ 68)
 unfolding dOf carried headerPart headerLength dataLength blockBytes blocksLength hasMac macLength iam3MacAt iam3Length
 seventh-sizes = (refl, refl)
 
@@ -66,18 +68,18 @@ pub f17-message : tam2Message f17
 unfolding tam2Message selectBytes blockSizeBit
 f17-message = refl
 
-pub f18-length : tam2ReplyLength Bits16 true 4 3 ≡ 44
+pub f18-length : tam2ReplyLength Bits16 true 4 CbcCmac ≡ 44
 unfolding dOf carried headerPart headerLength dataLength blockBytes blocksLength hasMac macLength tam2MacAt
     tam2ReplyLength
 f18-length = refl
 
 -- Table 1: the first two bytes, by ProtMode
-pub constants : (twoBytes (tam2Constant false 3) ≡ 0x96 ∷ 0xC5 ∷ [])
-    × (twoBytes (tam2Constant true 0) ≡ 0x96 ∷ 0xC0 ∷ [])
-    × (twoBytes (tam2Constant true 3) ≡ 0x96 ∷ 0xC3 ∷ [])
-    × (withPurpose (iam3Constant 0) 0 ≡ 0xDA ∷ 0x80 ∷ [])
-    × (withPurpose (iam3Constant 1) 0 ≡ 0xDA ∷ 0x90 ∷ [])
-    × (withPurpose (iam3Constant 2) 9 ≡ 0xDA ∷ 0xA9 ∷ [])
-    × (withPurpose (iam3Constant 3) 15 ≡ 0xDA ∷ 0xBF ∷ [])
+pub constants : (twoBytes (tam2Constant false CbcCmac) ≡ 0x96 ∷ 0xC5 ∷ [])
+    × (twoBytes (tam2Constant true Plaintext) ≡ 0x96 ∷ 0xC0 ∷ [])
+    × (twoBytes (tam2Constant true CbcCmac) ≡ 0x96 ∷ 0xC3 ∷ [])
+    × (withPurpose (iam3Constant Plaintext) 0 ≡ 0xDA ∷ 0x80 ∷ [])
+    × (withPurpose (iam3Constant Cbc) 0 ≡ 0xDA ∷ 0x90 ∷ [])
+    × (withPurpose (iam3Constant Cmac) 9 ≡ 0xDA ∷ 0xA9 ∷ [])
+    × (withPurpose (iam3Constant CbcCmac) 15 ≡ 0xDA ∷ 0xBF ∷ [])
 unfolding twoBytes tam2Constant iam3Constant byMode withPurpose
 constants = (refl, refl, refl, refl, refl, refl, refl)

@@ -6,6 +6,7 @@ use mathlib.Core.List.{List}
 use Prim.Native.Nat.{ℕ}
 use denote.Ref.{now}
 use Rattle.memory.specs.declared.Block.{Block}
+use Rattle.frames.specs.declared.ProtModeField.{ProtModeField}
 use Rattle.frames.specs.declared.Kind.{Kind}
 use Rattle.frames.specs.declared.Tam1.{Tam1}
 use Rattle.frames.specs.declared.Tam2.{Tam2}
@@ -54,6 +55,12 @@ use Rattle.frames.proofs.fields.mam1_of.Reads as mam1-of
 use Rattle.frames.proofs.fields.mam1_of.Kinds as mam1-of-kinds
 use Rattle.frames.proofs.fields.mam2_of.Reads as mam2-of
 use Rattle.frames.proofs.fields.mam2_of.Kinds as mam2-of-kinds
+use Rattle.frames.proofs.modes.prot_mode.Reads as prot-mode
+use Rattle.frames.proofs.modes.prot_mode.Kinds as prot-mode-kinds
+use Rattle.frames.proofs.modes.encrypts.Reads as encrypts
+use Rattle.frames.proofs.modes.encrypts.Kinds as encrypts-kinds
+use Rattle.frames.proofs.modes.has_mac.Reads as has-mac
+use Rattle.frames.proofs.modes.has_mac.Kinds as has-mac-kinds
 use Rattle.frames.proofs.constants.tam1_constant.Reads as tam1-constant
 use Rattle.frames.proofs.constants.tam1_constant.Kinds as tam1-constant-kinds
 use Rattle.frames.proofs.constants.tam2_constant.Reads as tam2-constant
@@ -153,6 +160,15 @@ mam1-of-one κs a x y s t p q = one p q
 
 pub mam2-of-one : OneAnswer 1 mam2-of-kinds.ps mam2-of-kinds.r mam2-of.Post Mam2 (λ κs r s. r)
 mam2-of-one κs a x y s t p q = one p q
+
+pub prot-mode-one : OneAnswer 0 prot-mode-kinds.ps prot-mode-kinds.r prot-mode.Post ProtModeField (λ κs r s. r)
+prot-mode-one κs a x y s t p q = one p q
+
+pub encrypts-one : OneAnswer 0 encrypts-kinds.ps encrypts-kinds.r encrypts.Post Bool (λ κs r s. r)
+encrypts-one κs a x y s t p q = one p q
+
+pub has-mac-one : OneAnswer 0 has-mac-kinds.ps has-mac-kinds.r has-mac.Post Bool (λ κs r s. r)
+has-mac-one κs a x y s t p q = one p q
 
 pub tam1-constant-one : OneAnswer 0 tam1-constant-kinds.ps tam1-constant-kinds.r tam1-constant.Post (List ℕ)
     (λ κs r s. r)

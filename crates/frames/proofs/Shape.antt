@@ -5,13 +5,14 @@ use mathlib.Core.List.{List, _++_}
 use Prim.Native.Nat.{ℕ, suc, _+_, _*_, _-_, _<_}
 use native.Mathlib.Omega.{arith}
 use borrow.Author.Tests.{eq-eqb, le-leb}
-use lib.Dec.{ltb}
 use lib.ListN.{length, replicate, length-append, length-replicate}
-use Rattle.ground.specs.Choice.{either}
 use Rattle.frames.specs.Blocks.{headerLength, blocksLength}
 use Rattle.frames.specs.Fields.{byte, sizeBit, bit, customFits, selectBytes}
 use Rattle.frames.specs.Header.{headerStart, headerOf}
 use Rattle.frames.specs.Kinds.{kindOf}
+use Rattle.frames.specs.Modes.{protModeOf}
+use Rattle.frames.specs.declared.ProtMode.{ProtMode}
+use Rattle.frames.specs.declared.ProtModeField.the-variants.{Mode}
 use Rattle.frames.specs.Lengths.{
   tam1Length,
   tam2Length,
@@ -85,10 +86,6 @@ tam2-shape f e h =
       tam2-kind x (omega arith) (omega (arith, b, v)),
     )
 
-either-true : (a : Bool) → either a true ≡ true
-either-true true = refl
-either-true false = refl
-
 module _ (f : Iam3Fields) (long : length (f .iresponse) ≡ 16) where
   pub iam3-head : length (iam3Head f) ≡ iam3HeadLength
   unfolding iam3Head selectBytes
@@ -101,17 +98,16 @@ module _ (f : Iam3Fields) (long : length (f .iresponse) ≡ 16) where
       iam3-kind (0x58 + sizeBit (f .custom .blocksize) * 4 + f .rfu) (omega arith) (omega (arith, b))
 
   -- with its data blocks and its MAC behind it the message is as long as its fields say
-  pub iam3-whole : (rest : List ℕ) → f .rfu < 4 → customFits (f .custom) ≡ true → f .protmode < 16
-      → length rest ≡ blocksLength (f .custom .blocksize) true (f .custom .blockcount) + macLength (f .protmode)
+  pub iam3-whole : (rest : List ℕ) (mode : ProtMode) → f .rfu < 4 → customFits (f .custom) ≡ true
+      → f .protmode < 16 → protModeOf (f .protmode) ≡ Mode mode
+      → length rest ≡ blocksLength (f .custom .blocksize) true (f .custom .blockcount) + macLength mode
       → iam3LengthFits (iam3Head f ++ rest) ≡ true
   unfolding iam3LengthFits iam3Length iam3MacAt
-  iam3-whole rest h fit mode e =
+  iam3-whole rest mode h fit bits named e =
       let m = iam3Head f ++ rest in
-      let n : length m ≡ 20 + blocksLength (f .custom .blocksize) true (f .custom .blockcount) + macLength (f .protmode)
-      =
+      let n : length m ≡ 20 + blocksLength (f .custom .blocksize) true (f .custom .blockcount) + macLength mode =
       omega (arith, length-append (iam3Head f) rest, iam3-head) in
-      rw (le-leb 4 (length m) (omega arith), iam3-taken f rest long h fit mode, eq-eqb _ _ n)
-      (either-true (ltb 3 (f .protmode)))
+      rw (le-leb 4 (length m) (omega arith), iam3-taken f rest long h fit bits, named, eq-eqb _ _ n)
 
 pub header-long : (c : Custom) → length (headerOf c) ≡ headerLength (c .blocksize)
 unfolding headerOf headerStart

@@ -2,8 +2,8 @@
 use Prim.Native.Nat.{ℕ, _+_, _*_, _/_, _%_}
 use mathlib.Core.Bool.{Bool, true, false}
 use mathlib.Core.List.{List, [], _∷_}
-use lib.Dec.{eqb}
-use Rattle.ground.specs.Choice.{pick}
+use Rattle.frames.specs.declared.ProtMode.{ProtMode}
+use Rattle.frames.specs.declared.ProtMode.the-variants.{Plaintext, Cbc, Cmac, CbcCmac}
 
 -- 16 bits
 abbrev pub C-TAM1 : ℕ
@@ -46,19 +46,21 @@ C-IAM3-2 = 0xDAA
 abbrev pub C-IAM3-3 : ℕ
 C-IAM3-3 = 0xDAB
 
--- one of four by ProtMode. ProtModes 4 to 15 have no constant: 0
-unfoldable pub byMode : ℕ → ℕ → ℕ → ℕ → ℕ → ℕ
-byMode a b c d protmode =
-    pick (eqb protmode 0) a (pick (eqb protmode 1) b (pick (eqb protmode 2) c (pick (eqb protmode 3) d 0)))
+-- one of four by ProtMode
+unfoldable pub byMode : ℕ → ℕ → ℕ → ℕ → ProtMode → ℕ
+byMode a b c d Plaintext = a
+byMode a b c d Cbc = b
+byMode a b c d Cmac = c
+byMode a b c d CbcCmac = d
 
 -- 9.4.6.1: TAM2 Rev 0 has one constant, Rev 1 one for each ProtMode
-unfoldable pub tam2Constant : Bool → ℕ → ℕ
-tam2Constant false protmode = C-TAM2
-tam2Constant true protmode = byMode C-TAM2-0 C-TAM2-1 C-TAM2-2 C-TAM2-3 protmode
+unfoldable pub tam2Constant : Bool → ProtMode → ℕ
+tam2Constant false mode = C-TAM2
+tam2Constant true mode = byMode C-TAM2-0 C-TAM2-1 C-TAM2-2 C-TAM2-3 mode
 
 -- 9.5.8.1 a): C_IAM3 by ProtMode
-unfoldable pub iam3Constant : ℕ → ℕ
-iam3Constant protmode = byMode C-IAM3-0 C-IAM3-1 C-IAM3-2 C-IAM3-3 protmode
+unfoldable pub iam3Constant : ProtMode → ℕ
+iam3Constant mode = byMode C-IAM3-0 C-IAM3-1 C-IAM3-2 C-IAM3-3 mode
 
 -- a constant of 16 bits, as two bytes
 unfoldable pub twoBytes : ℕ → List ℕ

@@ -2,12 +2,14 @@
 use Prim.Native.Nat.{ℕ, _+_}
 use mathlib.Core.Bool.{Bool, true, false}
 use mathlib.Core.List.{List}
-use lib.Dec.{eqb, leb, ltb}
+use lib.Dec.{eqb, leb}
 use lib.ListN.{length}
 use Rattle.memory.specs.declared.BlockSize.{BlockSize}
-use Rattle.ground.specs.Choice.{pick, both, either}
+use Rattle.ground.specs.Choice.{pick, both}
 use Rattle.frames.specs.Blocks.{blocksLength}
 use Rattle.frames.specs.Messages.{iam3Of}
+use Rattle.frames.specs.Modes.{protModeOf, inMode, hasMac}
+use Rattle.frames.specs.declared.ProtMode.{ProtMode}
 use Rattle.frames.specs.declared.Kind.{Kind}
 use Rattle.frames.specs.declared.Kind.the-variants.{Tam1, Tam2, Iam1, Iam2, Iam3, Mam1, Mam2, Unsupported}
 
@@ -37,27 +39,25 @@ iam3FieldsLength = 4
 abbrev pub iam3HeadLength : ℕ
 iam3HeadLength = 20
 
--- Table 3: ProtModes 2 and 3 carry a MAC, of 96 bits
-unfoldable pub hasMac : ℕ → Bool
-hasMac protmode = either (eqb protmode 2) (eqb protmode 3)
-
-unfoldable pub macLength : ℕ → ℕ
-macLength protmode = pick (hasMac protmode) 12 0
+-- Table 3: a MAC has 96 bits
+unfoldable pub macLength : ProtMode → ℕ
+macLength mode = pick (hasMac mode) 12 0
 
 -- 9.5.8: where the MAC of IAM3 stands, and how long the message is. A header is always there.
 unfoldable pub iam3MacAt : BlockSize → ℕ → ℕ
 iam3MacAt s n = iam3HeadLength + blocksLength s true n
 
-unfoldable pub iam3Length : BlockSize → ℕ → ℕ → ℕ
-iam3Length s n protmode = iam3MacAt s n + macLength protmode
+unfoldable pub iam3Length : BlockSize → ℕ → ProtMode → ℕ
+iam3Length s n mode = iam3MacAt s n + macLength mode
 
 -- the scope paper: IAM3 has its first 4 bytes, and in ProtModes 0 to 3 its length; ProtModes 4 to 15 have no length of
 -- their own
 unfoldable pub iam3LengthFits : List ℕ → Bool
 iam3LengthFits m =
     both (leb iam3FieldsLength (length m))
-    (either (ltb 3 (iam3Of m .protmode))
-    (eqb (length m) (iam3Length (iam3Of m .custom .blocksize) (iam3Of m .custom .blockcount) (iam3Of m .protmode))))
+    (inMode (protModeOf (iam3Of m .protmode))
+    (λ (mode : ProtMode). eqb (length m) (iam3Length (iam3Of m .custom .blocksize) (iam3Of m .custom .blockcount) mode))
+    true)
 
 -- is a message as long as its kind asks?
 unfoldable pub lengthFits : Kind → List ℕ → Bool
@@ -90,8 +90,8 @@ authLength = 16
 unfoldable pub tam2MacAt : BlockSize → Bool → ℕ → ℕ
 tam2MacAt s rev n = authLength + blocksLength s rev n
 
-unfoldable pub tam2ReplyLength : BlockSize → Bool → ℕ → ℕ → ℕ
-tam2ReplyLength s rev n protmode = tam2MacAt s rev n + macLength protmode
+unfoldable pub tam2ReplyLength : BlockSize → Bool → ℕ → ProtMode → ℕ
+tam2ReplyLength s rev n mode = tam2MacAt s rev n + macLength mode
 
 -- the scope paper's rooms: for any reply, and for any message
 abbrev pub replyRoom : ℕ

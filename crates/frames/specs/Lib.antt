@@ -3,6 +3,7 @@
 pub mod Kinds
 pub mod Blocks
 pub mod Fields
+pub mod Modes
 pub mod Asked
 pub mod Messages
 pub mod Lengths

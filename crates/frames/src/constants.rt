@@ -1,4 +1,5 @@
 // The constants of Table 1, as the first two bytes of the block that carries them.
+use super::ProtMode;
 ghost use mathlib.Core.Path.{_≡_};
 ghost use Prim.Native.Nat.{_<_};
 ghost use Rattle.frames.specs.Constants.{
@@ -29,22 +30,15 @@ fn with_purpose(c: u16, purpose: u8) -> [u8; 2]
 }
 
 // One of four by ProtMode.
-fn by_mode(a: u16, b: u16, c: u16, d: u16, protmode: u8) -> u16
-    ensures { λ r. ⌜ r ≡ byMode a b c d protmode ⌝ }
+fn by_mode(a: u16, b: u16, c: u16, d: u16, mode: ProtMode) -> u16
+    ensures { λ r. ⌜ r ≡ byMode a b c d mode ⌝ }
 {
-    if protmode == 0 {
-        return a;
+    match mode {
+        ProtMode::Plaintext => a,
+        ProtMode::Cbc => b,
+        ProtMode::Cmac => c,
+        ProtMode::CbcCmac => d,
     }
-    if protmode == 1 {
-        return b;
-    }
-    if protmode == 2 {
-        return c;
-    }
-    if protmode == 3 {
-        return d;
-    }
-    0
 }
 
 // C_TAM1. Ruled out: 96C0, and the two bytes exchanged.
@@ -55,11 +49,11 @@ pub fn tam1_constant() -> [u8; 2]
 }
 
 // C_TAM2, or C_TAM2_0 to C_TAM2_3. Ruled out: 96C5 in Rev 1, and a constant by ProtMode in Rev 0.
-pub fn tam2_constant(rev: bool, protmode: u8) -> [u8; 2]
-    ensures { λ r. ⌜ r ≡ twoBytes (tam2Constant rev protmode) ⌝ }
+pub fn tam2_constant(rev: bool, mode: ProtMode) -> [u8; 2]
+    ensures { λ r. ⌜ r ≡ twoBytes (tam2Constant rev mode) ⌝ }
 {
     if rev {
-        return two_bytes(by_mode(0x96C0, 0x96C1, 0x96C2, 0x96C3, protmode));
+        return two_bytes(by_mode(0x96C0, 0x96C1, 0x96C2, 0x96C3, mode));
     }
     two_bytes(0x96C5)
 }
@@ -86,8 +80,8 @@ pub fn iam2_constant(purpose: u8) -> [u8; 2]
 }
 
 // C_IAM3_0 to C_IAM3_3 and Purpose. Ruled out: DA8 in every ProtMode, and DA9 and DAA exchanged.
-pub fn iam3_constant(protmode: u8, purpose: u8) -> [u8; 2]
-    ensures { λ r. ⌜ r ≡ withPurpose (iam3Constant protmode) purpose ⌝ }
+pub fn iam3_constant(mode: ProtMode, purpose: u8) -> [u8; 2]
+    ensures { λ r. ⌜ r ≡ withPurpose (iam3Constant mode) purpose ⌝ }
 {
-    with_purpose(by_mode(0xDA8, 0xDA9, 0xDAA, 0xDAB, protmode), purpose)
+    with_purpose(by_mode(0xDA8, 0xDA9, 0xDAA, 0xDAB, mode), purpose)
 }

@@ -6,6 +6,7 @@ use memory::Offset;
 pub mod first; // first.rt: which message a first byte begins
 pub mod sizes; // sizes.rt: D, and the lengths of messages and replies
 mod parts; // parts.rt: bytes of a message, and bytes into a room
+pub mod modes; // modes.rt: the modes of Table 3
 pub mod fields; // fields.rt: the fields of each message
 pub mod build; // build.rt: each message, and the header, into a room
 pub mod constants; // constants.rt: the constants of Table 1
@@ -20,6 +21,20 @@ pub enum Kind {
     Mam1,
     Mam2,
     Unsupported,
+}
+
+// The four modes of operation that ProtMode selects (Table 3): data as they are, encrypted, with a MAC, and both.
+pub enum ProtMode {
+    Plaintext,
+    Cbc,
+    Cmac,
+    CbcCmac,
+}
+
+// What a field ProtMode says. Table 3 leaves 4 to 15 to later editions and to makers: no mode of this suite.
+pub enum ProtModeField {
+    Mode(ProtMode),
+    NoMode,
 }
 
 // The custom data that a message names (9.2). Profile has 4 bits, Offset 12, BlockCount 4.

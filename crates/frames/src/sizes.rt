@@ -1,7 +1,11 @@
 // How long things are, in bytes (9.2, and the tables of clause 9).
 use super::Custom;
 use super::Kind;
+use super::ProtMode;
+use super::ProtModeField;
 use super::fields::iam3_of;
+use super::modes::has_mac;
+use super::modes::prot_mode;
 use memory::Block;
 use memory::BlockSize;
 use memory::Profile;
@@ -71,13 +75,10 @@ pub fn blocks_length(size: BlockSize, header: bool, blockcount: u8) -> usize
 }
 
 // The bytes of a MAC (Table 3). Ruled out: a MAC in ProtMode 1, and one of 16 bytes.
-pub fn mac_length(protmode: u8) -> usize
-    ensures { λ r. ⌜ r ≡ macLength protmode ⌝ }
+pub fn mac_length(mode: ProtMode) -> usize
+    ensures { λ r. ⌜ r ≡ macLength mode ⌝ }
 {
-    if protmode == 2 {
-        return 12;
-    }
-    if protmode == 3 {
+    if has_mac(mode) {
         return 12;
     }
     0
@@ -91,10 +92,10 @@ pub fn iam3_mac_at(size: BlockSize, blockcount: u8) -> usize
 }
 
 // The bytes of IAM3 (9.5.8). Ruled out: no MAC counted in ProtModes 2 and 3, and one counted in every ProtMode.
-pub fn iam3_length(size: BlockSize, blockcount: u8, protmode: u8) -> usize
-    ensures { λ r. ⌜ r ≡ iam3Length size blockcount protmode ⌝ }
+pub fn iam3_length(size: BlockSize, blockcount: u8, mode: ProtMode) -> usize
+    ensures { λ r. ⌜ r ≡ iam3Length size blockcount mode ⌝ }
 {
-    iam3_mac_at(size, blockcount) + mac_length(protmode)
+    iam3_mac_at(size, blockcount) + mac_length(mode)
 }
 
 // Where the MAC of a TAM2 reply stands (Tables 9, 10, 13, 14). Ruled out: a header counted in Rev 0, and 20 + 16D.
@@ -106,10 +107,10 @@ pub fn tam2_mac_at(size: BlockSize, rev: bool, blockcount: u8) -> usize
 
 // The bytes of a TAM2 reply (Tables 7 to 14). Ruled out: the authentication block left out, and Rev 0 and Rev 1
 // exchanged.
-pub fn tam2_reply_length(size: BlockSize, rev: bool, blockcount: u8, protmode: u8) -> usize
-    ensures { λ r. ⌜ r ≡ tam2ReplyLength size rev blockcount protmode ⌝ }
+pub fn tam2_reply_length(size: BlockSize, rev: bool, blockcount: u8, mode: ProtMode) -> usize
+    ensures { λ r. ⌜ r ≡ tam2ReplyLength size rev blockcount mode ⌝ }
 {
-    tam2_mac_at(size, rev, blockcount) + mac_length(protmode)
+    tam2_mac_at(size, rev, blockcount) + mac_length(mode)
 }
 
 // Is an IAM3 message as long as its own fields say?
@@ -120,12 +121,12 @@ fn iam3_length_fits(m: &[u8]) -> bool
         return false;
     }
     let f = iam3_of(m);
-    if 3 < f.protmode {
-        return true;
-    }
     let custom = f.custom;
     let size = custom.blocksize;
-    m.len() == iam3_length(size, custom.blockcount, f.protmode)
+    match prot_mode(f.protmode) {
+        ProtModeField::Mode(mode) => m.len() == iam3_length(size, custom.blockcount, mode),
+        ProtModeField::NoMode => true,
+    }
 }
 
 // Is a message as long as its kind asks? Ruled out: an empty message let through, and IAM3 of ProtMode 4 refused here.

@@ -2,10 +2,10 @@
 use mathlib.Core.Path.{_≡_, refl, sym, ap, ap₂, _∙_}
 use mathlib.Core.Bool.{Bool, true, false}
 use mathlib.Core.List.{List, [], _++_}
-use Prim.Native.Nat.{ℕ, _+_, _≤_, _<_}
+use Prim.Native.Nat.{ℕ, _+_, _≤_}
 use native.Mathlib.Omega.{arith}
-use borrow.Author.Tests.{le-leb, lt-leb}
-use lib.Dec.{leb}
+use borrow.Author.Tests.{le-leb, eq-eqb, ne-eqb}
+use lib.Dec.{eqb}
 use lib.ListN.{length, take, drop, length-append}
 use lib.Seq.{length-take-le}
 use Rattle.ground.specs.Choice.{pick, both, implies}
@@ -82,10 +82,11 @@ part-long false c = refl
 
 -- ---- header, data and zeros
 
--- more data than BlockCount says
-pub too-many : (c : Custom) (k : ℕ) → dataLength (c .blocksize) (c .blockcount) < k
-    → both (customFits c) (leb k (dataLength (c .blocksize) (c .blockcount))) ≡ false
-too-many c k h = ap (both (customFits c)) (lt-leb k (dataLength (c .blocksize) (c .blockcount)) h) ∙ none (customFits c)
+-- not as much data as BlockCount says
+pub other-length : (c : Custom) (k : ℕ) → (k ≡ dataLength (c .blocksize) (c .blockcount) → ⊥)
+    → both (customFits c) (eqb k (dataLength (c .blocksize) (c .blockcount))) ≡ false
+other-length c k h =
+    ap (both (customFits c)) (ne-eqb k (dataLength (c .blocksize) (c .blockcount)) h) ∙ none (customFits c)
   where
     none : (x : Bool) → both x false ≡ false
     none true = refl
@@ -104,7 +105,7 @@ blocks-hold rev c = omega (arith, d-least (c .blocksize) rev (c .blockcount) .ho
 pub blocks-fit : (rev : Bool) (c : Custom) → customFits c ≡ true → blocksLength (c .blocksize) rev (c .blockcount) ≤ 144
 blocks-fit rev c fit = blocks-most (c .blocksize) rev (c .blockcount) (custom-range c fit .blockcount)
 
-module _ (rev : Bool) (c : Custom) (words : List ℕ) (count : length words ≤ dataLength (c .blocksize) (c .blockcount))
+module _ (rev : Bool) (c : Custom) (words : List ℕ) (count : length words ≡ dataLength (c .blocksize) (c .blockcount))
   where
     held : length (pick rev (headerOf c) [] ++ words) ≤ blocksLength (c .blocksize) rev (c .blockcount)
     held = omega (arith, length-append (pick rev (headerOf c) []) words, part-long rev c, blocks-hold rev c)
@@ -118,15 +119,15 @@ module _ (rev : Bool) (c : Custom) (words : List ℕ) (count : length words ≤ 
     pub carried-built : (n : ℕ) (h room z : List ℕ) → customFits c ≡ true
         → n ≡ blocksLength (c .blocksize) rev (c .blockcount) → n ≤ length room
         → h ≡ pick rev (headerOf c) [] → z ≡ filled (length (take n room)) (h ++ words)
-        → Built (both (customFits c) (leb (length words) (dataLength (c .blocksize) (c .blockcount))))
+        → Built (both (customFits c) (eqb (length words) (dataLength (c .blocksize) (c .blockcount))))
         (blocksLength (c .blocksize) rev (c .blockcount)) (carriedData rev c words) room true (z ++ drop n room)
     unfolding carriedData
     carried-built n h room z fit e l p q =
         let m = blocksLength (c .blocksize) rev (c .blockcount) in
         let w : z ≡ carriedData rev c words =
         q ∙ ap₂ {C = List ℕ} (λ (i : ℕ) (x : List ℕ). filled i (x ++ words)) (length-take-le n room l ∙ e) p in
-        over-built (both (customFits c) (leb (length words) (dataLength (c .blocksize) (c .blockcount)))) m
+        over-built (both (customFits c) (eqb (length words) (dataLength (c .blocksize) (c .blockcount)))) m
         (carriedData rev c words) room
-        (ap₂ both fit (le-leb (length words) (dataLength (c .blocksize) (c .blockcount)) count)) (omega (arith, e))
+        (ap₂ both fit (eq-eqb (length words) (dataLength (c .blocksize) (c .blockcount)) count)) (omega (arith, e))
         carried-long (z ++ drop n room)
         (ap₂ {C = List ℕ} (λ (x : List ℕ) (i : ℕ). x ++ drop i room) w (e ∙ sym carried-long))

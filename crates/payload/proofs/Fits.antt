@@ -11,10 +11,6 @@ use Rattle.payload.proofs.put.Reads as put
 use Rattle.payload.proofs.put.Kinds as put-kinds
 use Rattle.payload.proofs.block_of.Reads as block-of
 use Rattle.payload.proofs.block_of.Kinds as block-of-kinds
-use Rattle.payload.proofs.encrypts.Reads as encrypts
-use Rattle.payload.proofs.encrypts.Kinds as encrypts-kinds
-use Rattle.payload.proofs.has_mac.Reads as has-mac
-use Rattle.payload.proofs.has_mac.Kinds as has-mac-kinds
 use Rattle.payload.proofs.carried_into.Reads as carried-into
 use Rattle.payload.proofs.carried_into.Kinds as carried-into-kinds
 use Rattle.payload.proofs.header_fits.Reads as header-fits
@@ -36,12 +32,6 @@ put-one κs a x y s t p q i = (one (p .says) (q .says) i, one (p .holds) (q .hol
 
 pub block-of-one : OneAnswer 0 block-of-kinds.ps block-of-kinds.r block-of.Post (List ℕ) (λ κs r s. r)
 block-of-one κs a x y s t p q = one p q
-
-pub encrypts-one : OneAnswer 0 encrypts-kinds.ps encrypts-kinds.r encrypts.Post Bool (λ κs r s. r)
-encrypts-one κs a x y s t p q = one p q
-
-pub has-mac-one : OneAnswer 0 has-mac-kinds.ps has-mac-kinds.r has-mac.Post Bool (λ κs r s. r)
-has-mac-one κs a x y s t p q = one p q
 
 pub carried-into-one : OneAnswer 2 carried-into-kinds.ps carried-into-kinds.r carried-into.Post (Bool × List ℕ)
     (λ κs r s. (r, now (s .1 .1 .1 .0)))

@@ -16,7 +16,9 @@ use Rattle.modes.specs.Cbc.{cbcEnc, cbcDec, cbcEncAes, cbcDecAes}
 use Rattle.modes.specs.Cmac.{lastByte, subkey1, masked, macChain, cmac, cmac96}
 use Rattle.modes.proofs.Whole.{whole-count}
 use Rattle.frames.specs.Blocks.{blocksLength}
-use Rattle.frames.specs.Lengths.{hasMac, macLength}
+use Rattle.frames.specs.Modes.{hasMac}
+use Rattle.frames.specs.declared.ProtMode.{ProtMode}
+use Rattle.frames.specs.Lengths.{macLength}
 
 pub enc-sixteen : (key b : List ℕ) → length (aesEnc key b) ≡ 16
 unfolding aesEnc cipher xor
@@ -68,7 +70,7 @@ mac-or-none : (b : Bool) (mackey s : List ℕ) → length (pick b (cmac96 mackey
 mac-or-none true mackey s = mac-twelve mackey s
 mac-or-none false mackey s = refl
 
-pub mac-long : (protmode : ℕ) (mackey s : List ℕ)
-    → length (pick (hasMac protmode) (cmac96 mackey s) []) ≡ macLength protmode
+pub mac-long : (mode : ProtMode) (mackey s : List ℕ)
+    → length (pick (hasMac mode) (cmac96 mackey s) []) ≡ macLength mode
 unfolding macLength
-mac-long protmode = mac-or-none (hasMac protmode)
+mac-long mode = mac-or-none (hasMac mode)

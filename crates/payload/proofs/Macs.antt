@@ -12,7 +12,9 @@ use Rattle.modes.specs.Room.{Into, macs, over, numberOf}
 use Rattle.modes.specs.declared.Chaining.{Chaining}
 use Rattle.modes.proofs.Rooms.{room-for-mac}
 use Rattle.frames.specs.Built.{Built}
-use Rattle.frames.specs.Lengths.{hasMac, macLength}
+use Rattle.frames.specs.Modes.{hasMac}
+use Rattle.frames.specs.declared.ProtMode.{ProtMode}
+use Rattle.frames.specs.Lengths.{macLength}
 use Rattle.frames.proofs.Joins.{built, refused}
 use Rattle.payload.specs.Alike.{same}
 use Rattle.payload.specs.Protected.{macTakes, withMac, macFits}
@@ -50,73 +52,73 @@ mac-made k key s fresh mac answer l t i = into-taken (macs k 12) (cmac96 key s) 
 -- ---- the MAC put behind
 
 -- whole blocks, at least one, go out under every ProtMode
-pub whole-taken : (protmode n : ℕ) → 1 ≤ n → n % 16 ≡ 0 → macTakes protmode n ≡ true
+pub whole-taken : (mode : ProtMode) (n : ℕ) → 1 ≤ n → n % 16 ≡ 0 → macTakes mode n ≡ true
 unfolding macTakes
-whole-taken protmode n h e = ap (implies (hasMac protmode)) (room-for-mac n 12 h e (omega arith))
-    ∙ all (hasMac protmode)
+whole-taken mode n h e = ap (implies (hasMac mode)) (room-for-mac n 12 h e (omega arith))
+    ∙ all (hasMac mode)
   where
     all : (x : Bool) → implies x true ≡ true
     all true = refl
     all false = refl
 
-pub mac-most : (protmode : ℕ) → macLength protmode ≤ 12
+pub mac-most : (mode : ProtMode) → macLength mode ≤ 12
 unfolding macLength
-mac-most protmode = most (hasMac protmode)
+mac-most mode = most (hasMac mode)
   where
     most : (x : Bool) → pick {A = ℕ} x 12 0 ≤ 12
     most true = omega arith
     most false = omega arith
 
-module _ (protmode n : ℕ) (mackey room : List ℕ) where
+module _ (mode : ProtMode) (n : ℕ) (mackey room : List ℕ) where
   -- without a MAC all stays
-  pub mac-none : hasMac protmode ≡ false → n ≤ length room
-      → Built (macTakes protmode n) (n + macLength protmode) (withMac mackey protmode (take n room)) room true room
+  pub mac-none : hasMac mode ≡ false → n ≤ length room
+      → Built (macTakes mode n) (n + macLength mode) (withMac mackey mode (take n room)) room true room
   unfolding macTakes macLength withMac
   mac-none e h =
       let s = take n room in
-      over-built (implies (hasMac protmode) (macs n 12)) (n + pick (hasMac protmode) 12 0)
-      (s ++ pick (hasMac protmode) (cmac96 mackey s) []) room
+      over-built (implies (hasMac mode) (macs n 12)) (n + pick (hasMac mode) 12 0)
+      (s ++ pick (hasMac mode) (cmac96 mackey s) []) room
       (ap (λ (x : Bool). implies x (macs n 12)) e) (rw e (omega arith))
       (rw e (ap length (append-nil s) ∙ length-take-le n room h ∙ (let z : n ≡ n + 0 = omega arith in z))) room
       (over-none n room h ∙ ap (λ (x : Bool). over (s ++ pick x (cmac96 mackey s) []) room) (sym e))
 
-  pub mac-refused : hasMac protmode ≡ true → macs n 12 ≡ false
-      → Built (macTakes protmode n) (n + macLength protmode) (withMac mackey protmode (take n room)) room false room
+  pub mac-refused : hasMac mode ≡ true → macs n 12 ≡ false
+      → Built (macTakes mode n) (n + macLength mode) (withMac mackey mode (take n room)) room false room
   unfolding macTakes
-  mac-refused e f = refused (implies (hasMac protmode) (macs n 12)) (n + macLength protmode)
-      (withMac mackey protmode (take n room)) room (ap₂ implies e f)
+  mac-refused e f = refused (implies (hasMac mode) (macs n 12)) (n + macLength mode)
+      (withMac mackey mode (take n room)) room (ap₂ implies e f)
 
-  pub mac-put : (mac after : List ℕ) (answer : Bool) → hasMac protmode ≡ true → macs n 12 ≡ true
+  pub mac-put : (mac after : List ℕ) (answer : Bool) → hasMac mode ≡ true → macs n 12 ≡ true
       → mac ≡ cmac96 mackey (take n room)
       → Built true (n + length mac) (take n room ++ mac) room answer after
-      → Built (macTakes protmode n) (n + macLength protmode) (withMac mackey protmode (take n room)) room answer after
+      → Built (macTakes mode n) (n + macLength mode) (withMac mackey mode (take n room)) room answer after
   unfolding macTakes macLength withMac
   mac-put mac after answer e t m b =
       let s = take n room in
-      built (implies (hasMac protmode) (macs n 12)) (n + pick (hasMac protmode) 12 0) (n + length mac)
-      (s ++ pick (hasMac protmode) (cmac96 mackey s) []) (s ++ mac) room after answer
+      built (implies (hasMac mode) (macs n 12)) (n + pick (hasMac mode) 12 0) (n + length mac)
+      (s ++ pick (hasMac mode) (cmac96 mackey s) []) (s ++ mac) room after answer
       (ap₂ implies e t) (ap (λ (k : ℕ). n + k) (ap length m ∙ mac-twelve mackey s)
       ∙ ap (λ (x : Bool). n + pick x 12 0) (sym e))
       (ap (λ (l : List ℕ). s ++ l) m ∙ ap (λ (x : Bool). s ++ pick x (cmac96 mackey s) []) (sym e)) b
 
-pub with-mac-long : (protmode : ℕ) (mackey s : List ℕ)
-    → length (withMac mackey protmode s) ≡ length s + macLength protmode
+pub with-mac-long : (mode : ProtMode) (mackey s : List ℕ)
+    → length (withMac mackey mode s) ≡ length s + macLength mode
 unfolding withMac
-with-mac-long protmode mackey s = length-append s (pick (hasMac protmode) (cmac96 mackey s) [])
-    ∙ ap (λ (k : ℕ). length s + k) (mac-long protmode mackey s)
+with-mac-long mode mackey s = length-append s (pick (hasMac mode) (cmac96 mackey s) [])
+    ∙ ap (λ (k : ℕ). length s + k) (mac-long mode mackey s)
 
 -- ---- the MAC judged
 
-module _ (mackey : List ℕ) (protmode : ℕ) (s mac : List ℕ) where
-  pub none-judged : hasMac protmode ≡ false → true ≡ macFits mackey protmode s mac
+module _ (mackey : List ℕ) (mode : ProtMode) (s mac : List ℕ) where
+  pub none-judged : hasMac mode ≡ false → true ≡ macFits mackey mode s mac
   unfolding macFits
   none-judged e = ap (λ (x : Bool). implies x (both (macs (length s) 12) (same (cmac96 mackey s) mac))) (sym e)
 
-  pub mac-unfit : hasMac protmode ≡ true → macs (length s) 12 ≡ false → false ≡ macFits mackey protmode s mac
+  pub mac-unfit : hasMac mode ≡ true → macs (length s) 12 ≡ false → false ≡ macFits mackey mode s mac
   unfolding macFits
   mac-unfit e f = ap₂ (λ (x y : Bool). implies x (both y (same (cmac96 mackey s) mac))) (sym e) (sym f)
 
-  pub mac-judged : hasMac protmode ≡ true → macs (length s) 12 ≡ true
-      → same (cmac96 mackey s) mac ≡ macFits mackey protmode s mac
+  pub mac-judged : hasMac mode ≡ true → macs (length s) 12 ≡ true
+      → same (cmac96 mackey s) mac ≡ macFits mackey mode s mac
   unfolding macFits
   mac-judged e f = ap₂ (λ (x y : Bool). implies x (both y (same (cmac96 mackey s) mac))) (sym e) (sym f)

@@ -1,6 +1,8 @@
 // Custom data as both halves make and judge them (9.2, Table 3): header, data, filler, and the MAC behind.
 use frames::Custom;
+use frames::ProtMode;
 use frames::build::header_into;
+use frames::modes::has_mac;
 use frames::sizes::blocks_length;
 use frames::sizes::data_length;
 use frames::sizes::header_length;
@@ -8,16 +10,16 @@ ghost use mathlib.Core.Path.{_≡_};
 ghost use mathlib.Core.Bool.{true};
 ghost use mathlib.Core.List.{_++_};
 ghost use Prim.Native.Nat.{_+_, _≤_};
-ghost use lib.Dec.{leb};
+ghost use lib.Dec.{eqb};
 ghost use lib.ListN.{length, take};
 ghost use Rattle.ground.specs.Choice.{both};
 ghost use Rattle.frames.specs.Blocks.{dataLength, blocksLength};
 ghost use Rattle.frames.specs.Built.{Built};
 ghost use Rattle.frames.specs.Fields.{customFits};
-ghost use Rattle.frames.specs.Lengths.{hasMac, macLength};
+ghost use Rattle.frames.specs.Lengths.{macLength};
 ghost use Rattle.payload.specs.Alike.{same};
 ghost use Rattle.payload.specs.Data.{filled, carriedData, headerFits, wordsIn, fillerFits};
-ghost use Rattle.payload.specs.Protected.{encrypts, macTakes, withMac, macFits};
+ghost use Rattle.payload.specs.Protected.{macTakes, withMac, macFits};
 
 mod parts; // parts.rt: parts of a slice
 
@@ -71,30 +73,6 @@ pub fn block_of(constant: [u8; 2], middle: [u8; 4], challenge: [u8; 10]) -> [u8;
     block
 }
 
-/// Are the data chained (Table 3)?
-///
-/// Ruled out: ProtMode 2 chained; ProtMode 3 not.
-pub fn encrypts(protmode: u8) -> bool
-    ensures { λ r. ⌜ r ≡ encrypts protmode ⌝ }
-{
-    if protmode == 1 {
-        return true;
-    }
-    protmode == 3
-}
-
-/// Does the ProtMode have a MAC (Table 3)?
-///
-/// Ruled out: a MAC in ProtMode 1; none in ProtMode 2.
-pub fn has_mac(protmode: u8) -> bool
-    ensures { λ r. ⌜ r ≡ hasMac protmode ⌝ }
-{
-    if protmode == 2 {
-        return true;
-    }
-    protmode == 3
-}
-
 // Two parts into a room, and zeros in the rest of it.
 fn lay(room: &mut [u8], a: &[u8], b: &[u8])
     requires { ⌜ (length (now a) + length (now b) ≤ length (now room)) × (length (now room) ≤ 144) ⌝ }
@@ -109,12 +87,13 @@ fn lay(room: &mut [u8], a: &[u8], b: &[u8])
 }
 
 /// Header (in Rev 1), data and zeros up to D blocks, into the first bytes of a room (9.2). Where a field does not fit
-/// its bits, there are more data than BlockCount says, or the room is too short, the answer is false and no byte
-/// changes. Fewer data are filled up with zeros.
+/// its bits, the data are not as long as BlockSize and BlockCount say, or the room is too short, the answer is false and
+/// no byte changes.
 ///
-/// Ruled out: a header in Rev 0; a last block that is filled with what the room held.
+/// Ruled out: a header in Rev 0; a last block that is filled with what the room held; too few data filled up with
+/// zeros.
 pub fn carried_into(rev: bool, custom: Custom, words: &[u8], room: &mut [u8]) -> bool
-    ensures { λ r. ⌜ Built (both (customFits custom) (leb (length (now (words .entry)))
+    ensures { λ r. ⌜ Built (both (customFits custom) (eqb (length (now (words .entry)))
         (dataLength (custom .blocksize) (custom .blockcount))))
         (blocksLength (custom .blocksize) rev (custom .blockcount)) (carriedData rev custom (now (words .entry)))
         (now (room .entry)) r (now (room .exit)) ⌝ }
@@ -124,7 +103,7 @@ pub fn carried_into(rev: bool, custom: Custom, words: &[u8], room: &mut [u8]) ->
         return false;
     }
     let size = custom.blocksize;
-    if data_length(size, custom.blockcount) < words.len() {
+    if words.len() != data_length(size, custom.blockcount) {
         return false;
     }
     let n = blocks_length(size, rev, custom.blockcount);
@@ -183,14 +162,14 @@ pub fn filler_fits(rev: bool, custom: Custom, p: &[u8]) -> bool
 /// whether the room has n bytes.
 ///
 /// Ruled out: a MAC of 16 bytes; a MAC put in ProtMode 1.
-pub fn mac_behind(mackey: [u8; 16], protmode: u8, n: usize, room: &mut [u8]) -> bool
-    ensures { λ r. ⌜ Built (macTakes protmode n) (n + macLength protmode)
-        (withMac mackey protmode (take n (now (room .entry)))) (now (room .entry)) r (now (room .exit)) ⌝ }
+pub fn mac_behind(mackey: [u8; 16], mode: ProtMode, n: usize, room: &mut [u8]) -> bool
+    ensures { λ r. ⌜ Built (macTakes mode n) (n + macLength mode)
+        (withMac mackey mode (take n (now (room .entry)))) (now (room .entry)) r (now (room .exit)) ⌝ }
 {
     if room.len() < n {
         return false;
     }
-    if !has_mac(protmode) {
+    if !has_mac(mode) {
         return true;
     }
     let mut mac = [0u8; 12];
@@ -203,10 +182,10 @@ pub fn mac_behind(mackey: [u8; 16], protmode: u8, n: usize, room: &mut [u8]) -> 
 /// Where the ProtMode has a MAC, is it that of the bytes it covers? They are whole blocks, at least one.
 ///
 /// Ruled out: a MAC of which only the first bytes count; a MAC that is asked for in ProtMode 1.
-pub fn mac_fits(mackey: [u8; 16], protmode: u8, covered: &[u8], mac: &[u8]) -> bool
-    ensures { λ r. ⌜ r ≡ macFits mackey protmode (now (covered .entry)) (now (mac .entry)) ⌝ }
+pub fn mac_fits(mackey: [u8; 16], mode: ProtMode, covered: &[u8], mac: &[u8]) -> bool
+    ensures { λ r. ⌜ r ≡ macFits mackey mode (now (covered .entry)) (now (mac .entry)) ⌝ }
 {
-    if !has_mac(protmode) {
+    if !has_mac(mode) {
         return true;
     }
     let mut made = [0u8; 12];

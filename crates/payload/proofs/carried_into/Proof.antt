@@ -10,7 +10,7 @@ use Rattle.payload.proofs.Data.{
   header-told,
   header-taken,
   part-bound,
-  too-many,
+  other-length,
   not-fit,
   blocks-hold,
   blocks-fit,
@@ -39,8 +39,8 @@ data-length-requires c κs = search needs
 
 returns-2 : tie.Need-returns-2
 returns-2 c = let a = c .before .before .before .before .before .before .before .before .args in
-    refused _ _ _ (a .room .now) (too-many (a .custom) (length (a .words .now))
-    (omega (arith, c .if2 .taken, c .before .data-length .ensures)))
+    refused _ _ _ (a .room .now) (other-length (a .custom) (length (a .words .now))
+    (λ e. c .if2 .taken (e ∙ sym (c .before .data-length .ensures))))
 
 blocks-length-requires : tie.Need-blocks-length-requires
 blocks-length-requires c κs = search needs

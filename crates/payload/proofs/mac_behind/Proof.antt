@@ -20,7 +20,7 @@ has-mac-requires c κs = search needs
 
 returns-2 : tie.Need-returns-2
 returns-2 c = let a = c .before .before .before .before .args in
-    mac-none (a .protmode) (a .n) (a .mackey) (a .room .now)
+    mac-none (a .mode) (a .n) (a .mackey) (a .room .now)
     (sym (c .before .has-mac .ensures) ∙ not-true _ (c .if2 .taken)) (omega (arith, c .before .before .if1 .left))
 
 slice-reshare-prefix-cmac-96 : tie.Need-slice-reshare-prefix-cmac-96
@@ -46,7 +46,7 @@ returns-3 : tie.Need-returns-3
 returns-3 c = let a = c .before .before .before .before .before .before .before .before .before .before .args in
     let e = length-take-le (a .n) (a .room .now) (omega
     (arith, c .before .before .before .before .before .before .before .before .if1 .left)) in
-    mac-refused (a .protmode) (a .n) (a .mackey) (a .room .now)
+    mac-refused (a .mode) (a .n) (a .mackey) (a .room .now)
     (sym (c .before .before .before .before .before .before .before .has-mac .ensures)
     ∙ not-false _ (c .before .before .before .before .before .before .if2 .left))
     (ap (λ (k : ℕ). macs k 12) (sym e) ∙ into-refused _ _ _ _ _ (c .before .before .before .cmac-96 .ensures) _
@@ -73,7 +73,7 @@ returns-4 c = let a = c .before .before .before .before .before .before .before 
     )) in
     let t = into-done _ _ _ _ _ (m .ensures) _ (c .before .before .before .before .before .before .number .ensures)
     (c .before .before .before .before .before .if3 .left) in
-    mac-put (a .protmode) (a .n) (a .mackey) (a .room .now) (m .last .1 .1 .0) (c .before .before .put .last .0)
+    mac-put (a .mode) (a .n) (a .mackey) (a .room .now) (m .last .1 .1 .0) (c .before .before .put .last .0)
     (c .before .before .put .result) (sym (c .before .before .before .before .before .before .before .before .before
     .before .before .before .has-mac .ensures)
     ∙ not-false _ (c .before .before .before .before .before .before .before .before .before .before .before .if2

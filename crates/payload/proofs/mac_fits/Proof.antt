@@ -15,7 +15,7 @@ has-mac-requires c κs = search needs
 
 returns : tie.Need-returns
 returns c = let a = c .before .before .before .before .args in
-    none-judged (a .mackey) (a .protmode) (a .covered .now) (a .mac .now)
+    none-judged (a .mackey) (a .mode) (a .covered .now) (a .mac .now)
     (sym (c .before .has-mac .ensures) ∙ not-true _ (c .if1 .taken))
 
 slice-aggregate-cmac-96 : tie.Need-slice-aggregate-cmac-96
@@ -29,7 +29,7 @@ number-requires c κs = search needs
 
 returns-2 : tie.Need-returns-2
 returns-2 c = let a = c .before .before .before .before .before .before .before .before .before .args in
-    mac-unfit (a .mackey) (a .protmode) (a .covered .now) (a .mac .now)
+    mac-unfit (a .mackey) (a .mode) (a .covered .now) (a .mac .now)
     (sym (c .before .before .before .before .before .before .has-mac .ensures)
     ∙ not-false _ (c .before .before .before .before .before .if1 .left))
     (into-refused _ _ _ _ _ (c .before .before .before .cmac-96 .ensures) _ (c .before .number .ensures)
@@ -49,7 +49,7 @@ returns-3 c = let a = c .before .before .before .before .before .before .before 
     c .same .ensures ∙ ap (λ (l : List ℕ). same l (a .mac .now))
     (mac-made (length (a .covered .now)) (a .mackey) (a .covered .now) (replicate 12 0) (m .last .1 .1 .0) _ refl t
     (m .ensures))
-    ∙ mac-judged (a .mackey) (a .protmode) (a .covered .now) (a .mac .now)
+    ∙ mac-judged (a .mackey) (a .mode) (a .covered .now) (a .mac .now)
     (sym (c .before .before .before .before .before .before .before .before .has-mac .ensures)
     ∙ not-false _ (c .before .before .before .before .before .before .before .if1 .left)) t
 

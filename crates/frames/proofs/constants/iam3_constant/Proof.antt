@@ -14,7 +14,7 @@ by-mode-requires c κs = search needs
 with-purpose-requires : tie.Need-with-purpose-requires
 with-purpose-requires c κs = omega (
   arith,
-  by-mode-le 0xDA8 0xDA9 0xDAA 0xDAB (c .before .args .protmode) 0xDAB
+  by-mode-le 0xDA8 0xDA9 0xDAA 0xDAB (c .before .args .mode) 0xDAB
       (omega arith) (omega arith) (omega arith) (omega arith),
 )
 

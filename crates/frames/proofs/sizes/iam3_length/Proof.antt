@@ -18,7 +18,7 @@ mac-length-requires c κs = search needs
 add-result : tie.Need-add-result
 unfolding iam3MacAt
 add-result c = let a = c .before .before .args in
-    omega (arith, blocks-bound (a .size) true (a .blockcount), mac-bound (a .protmode))
+    omega (arith, blocks-bound (a .size) true (a .blockcount), mac-bound (a .mode))
 
 returns : tie.Need-returns
 unfolding iam3Length

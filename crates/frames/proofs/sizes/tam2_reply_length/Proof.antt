@@ -17,7 +17,7 @@ mac-length-requires c κs = search needs
 add-result : tie.Need-add-result
 unfolding tam2MacAt
 add-result c = let a = c .before .before .args in
-    omega (arith, blocks-bound (a .size) (a .rev) (a .blockcount), mac-bound (a .protmode))
+    omega (arith, blocks-bound (a .size) (a .rev) (a .blockcount), mac-bound (a .mode))
 
 returns : tie.Need-returns
 unfolding tam2ReplyLength
