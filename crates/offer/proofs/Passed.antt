@@ -1,21 +1,23 @@
 -- What is known of a call that passed the bench's check, of a message that passed the opening line, and of a ProtMode.
-use Prim.Native.Nat.{ℕ, _<_, _≤_}
-use native.Mathlib.Omega.{arith}
+use Prim.Native.Nat.{ℕ, _≤_}
 use mathlib.Core.Path.{_≡_, refl}
 use mathlib.Core.Bool.{Bool, true, false, false≢true}
 use mathlib.Core.List.{List}
-use lib.Dec.{ltb}
-use borrow.Author.Tests.{eqb-true, leb-true, ltb-true, ltb-false, ne-eqb}
+use borrow.Author.Tests.{eqb-true, leb-true}
 use Rattle.ground.specs.Choice.{both}
 use Rattle.sheet.specs.declared.Features.{Features}
 use Rattle.sheet.specs.declared.Key.{Key}
 use Rattle.sheet.specs.declared.Sizes.{Sizes}
 use Rattle.frames.specs.declared.Kind.{Kind}
+use Rattle.frames.specs.declared.ProtMode.{ProtMode}
+use Rattle.frames.specs.declared.ProtModeField.{ProtModeField}
+use Rattle.frames.specs.declared.ProtModeField.the-variants.{Mode, NoMode}
+use Rattle.frames.specs.Modes.{protModeOf, inMode}
 use Rattle.frames.specs.Lengths.{lengthFits, replyRoom}
 use Rattle.offer.specs.declared.Verdict.the-variants.{Fine}
 use Rattle.offer.specs.Checks.{judged}
 use Rattle.keytable.specs.Named.{hasKey}
-use Rattle.offer.specs.Records.{modeOffered, modeSupported}
+use Rattle.offer.specs.Records.{modeServed, modeSupported}
 use Rattle.offer.specs.Judged.{drawBytes, benchChecks, openingChecks}
 use Rattle.offer.proofs.Lines.{first-holds, others-hold}
 
@@ -23,23 +25,20 @@ pub both-second : (b d : Bool) → both b d ≡ true → d ≡ true
 both-second true d h = h
 both-second false d h = absurd (false≢true h)
 
--- A ProtMode that is supported is 0, 1, 2 or 3.
-module _ (f : Features) (key : Key) (p : ℕ) (h : modeSupported f key p ≡ true) where
-  tested : (b : Bool) → ltb p 4 ≡ b → p < 4
-  unfolding modeSupported modeOffered
-  tested true e = ltb-true p 4 e
-  tested false e =
-      let n : 4 ≤ p = ltb-false p 4 e in
-      absurd (false≢true (simp (
-        ne-eqb p 0 (λ z. omega arith),
-        ne-eqb p 1 (λ z. omega arith),
-        ne-eqb p 2
-            (λ z. omega arith),
-        ne-eqb p 3 (λ z. omega arith),
-      ) at h))
+-- A ProtMode that is supported is one of the four modes, which the sheet offers.
+pub record Supported (f : Features) (key : Key) (p : ℕ) : Type 0 where
+  pub mode : ProtMode
+  pub named : protModeOf p ≡ Mode mode
+  pub served : modeServed f key mode ≡ true
 
-  pub mode-below : p < 4
-  mode-below = tested (ltb p 4) refl
+module _ (f : Features) (key : Key) (p : ℕ) where
+  told : (x : ProtModeField) → protModeOf p ≡ x → inMode x (modeServed f key) false ≡ true → Supported f key p
+  told (Mode mode) e h = record { mode = mode; named = e; served = h }
+  told NoMode e h = absurd (false≢true h)
+
+  pub mode-named : modeSupported f key p ≡ true → Supported f key p
+  unfolding modeSupported
+  mode-named h = told (protModeOf p) refl h
 
 -- The bench: the draws and the room.
 module _ (sizes : Sizes) (draws room identity user : ℕ)

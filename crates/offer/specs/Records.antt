@@ -2,9 +2,8 @@
 use Prim.Native.Nat.{ℕ}
 use mathlib.Core.Bool.{Bool, true, false}
 use mathlib.Core.List.{List}
-use lib.Dec.{eqb}
 use lib.ListN.{getD}
-use Rattle.ground.specs.Choice.{pick, both, implies}
+use Rattle.ground.specs.Choice.{both, implies}
 use Rattle.memory.specs.declared.BlockSize.{BlockSize}
 use Rattle.memory.specs.declared.BlockSize.the-variants.{Bits64, Bits16}
 use Rattle.memory.specs.declared.Block.{Block}
@@ -16,7 +15,9 @@ use Rattle.frames.specs.declared.Kind.{Kind}
 use Rattle.frames.specs.declared.Kind.the-variants.{Tam1, Tam2, Iam1, Iam2, Iam3, Mam1, Mam2, Unsupported}
 use Rattle.frames.specs.declared.Custom.{Custom}
 use Rattle.frames.specs.Asked.{blockAsked as wordsAsked}
-use Rattle.frames.specs.Lengths.{hasMac}
+use Rattle.frames.specs.declared.ProtMode.{ProtMode}
+use Rattle.frames.specs.declared.ProtMode.the-variants.{Plaintext, Cbc, Cmac, CbcCmac}
+use Rattle.frames.specs.Modes.{hasMac, inMode, protModeOf}
 
 -- The method, the step and the feature are there. TAM is always; IAM, IAM3 and MAM as the sheet says.
 unfoldable pub offered : Features → Kind → Bool
@@ -40,16 +41,19 @@ revOffered f true = f .rev1
 revOffered f false = f .rev0
 
 -- The ProtMode is one of the sheet's.
-unfoldable pub modeOffered : Features → ℕ → Bool
-modeOffered f protmode =
-    pick (eqb protmode 0) (f .mode0)
-    (pick (eqb protmode 1) (f .mode1)
-    (pick (eqb protmode 2) (f .mode2)
-    (pick (eqb protmode 3) (f .mode3) false)))
+unfoldable pub modeOffered : Features → ProtMode → Bool
+modeOffered f Plaintext = f .mode0
+modeOffered f Cbc = f .mode1
+modeOffered f Cmac = f .mode2
+modeOffered f CbcCmac = f .mode3
 
--- The same, and where it asks for a MAC the record has a key for it (9.2).
+-- The same, and where it has a MAC the record has a key for it (9.2).
+unfoldable pub modeServed : Features → Key → ProtMode → Bool
+modeServed f key mode = both (modeOffered f mode) (implies (hasMac mode) (key .mac))
+
+-- The field says such a mode.
 unfoldable pub modeSupported : Features → Key → ℕ → Bool
-modeSupported f key protmode = both (modeOffered f protmode) (implies (hasMac protmode) (key .mac))
+modeSupported f key protmode = inMode (protModeOf protmode) (modeServed f key) false
 
 -- The slot of a profile's number.
 unfoldable pub slotNamed : List Slot → ℕ → Slot

@@ -1,6 +1,10 @@
 // What a setup offers (9.2, 9.4.5, the house rules), and the slot and the words that a message names.
 use frames::Custom;
 use frames::Kind;
+use frames::ProtMode;
+use frames::ProtModeField;
+use frames::modes::has_mac;
+use frames::modes::prot_mode;
 use memory::Area;
 use memory::Block;
 use memory::BlockSize;
@@ -13,8 +17,8 @@ ghost use mathlib.Core.Path.{_≡_};
 ghost use lib.ListN.{getD};
 ghost use Rattle.frames.specs.Asked.{blockAsked as blockIn};
 ghost use Rattle.sheet.specs.Setups.{noSlot};
-ghost use Rattle.offer.specs.Records.{offered, sizeOffered, revOffered, modeOffered, modeSupported};
-ghost use Rattle.offer.specs.Records.{blockAsked};
+ghost use Rattle.offer.specs.Records.{offered, sizeOffered, revOffered, modeOffered, modeServed};
+ghost use Rattle.offer.specs.Records.{modeSupported, blockAsked};
 
 /// Whether the tag has the message's method, step and feature.
 ///
@@ -59,22 +63,28 @@ pub fn rev_offered(f: Features, rev: bool) -> bool
 }
 
 // Whether the ProtMode is one of the sheet's.
-fn mode_offered(f: Features, protmode: u8) -> bool
-    ensures { λ r. ⌜ r ≡ modeOffered f protmode ⌝ }
+fn mode_offered(f: Features, mode: ProtMode) -> bool
+    ensures { λ r. ⌜ r ≡ modeOffered f mode ⌝ }
 {
-    if protmode == 0 {
-        return f.mode0;
+    match mode {
+        ProtMode::Plaintext => f.mode0,
+        ProtMode::Cbc => f.mode1,
+        ProtMode::Cmac => f.mode2,
+        ProtMode::CbcCmac => f.mode3,
     }
-    if protmode == 1 {
-        return f.mode1;
+}
+
+// The same, and where it has a MAC there is a key for it.
+fn mode_served(f: Features, key: Key, mode: ProtMode) -> bool
+    ensures { λ r. ⌜ r ≡ modeServed f key mode ⌝ }
+{
+    if !mode_offered(f, mode) {
+        return false;
     }
-    if protmode == 2 {
-        return f.mode2;
+    if has_mac(mode) {
+        return key.mac;
     }
-    if protmode == 3 {
-        return f.mode3;
-    }
-    false
+    true
 }
 
 /// Whether the ProtMode is offered, and the record has the key for its MAC (9.2).
@@ -83,13 +93,10 @@ fn mode_offered(f: Features, protmode: u8) -> bool
 pub fn mode_supported(f: Features, key: Key, protmode: u8) -> bool
     ensures { λ r. ⌜ r ≡ modeSupported f key protmode ⌝ }
 {
-    if !mode_offered(f, protmode) {
-        return false;
+    match prot_mode(protmode) {
+        ProtModeField::Mode(mode) => mode_served(f, key, mode),
+        ProtModeField::NoMode => false,
     }
-    if payload::has_mac(protmode) {
-        return key.mac;
-    }
-    true
 }
 
 // The slot that no record filled.

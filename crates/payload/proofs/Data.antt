@@ -22,7 +22,7 @@ use Rattle.frames.proofs.Shape.{header-long}
 use Rattle.payload.specs.Alike.{same}
 use Rattle.payload.specs.Data.{filled, carriedData, headerFits}
 use Rattle.payload.proofs.Rooms.{over-built}
-use Rattle.payload.proofs.Zeros.{filled-long}
+use Rattle.payload.proofs.Zeros.{filled-long, filled-twice}
 
 -- ---- the header, in a room of eight
 
@@ -105,15 +105,29 @@ blocks-hold rev c = omega (arith, d-least (c .blocksize) rev (c .blockcount) .ho
 pub blocks-fit : (rev : Bool) (c : Custom) → customFits c ≡ true → blocksLength (c .blocksize) rev (c .blockcount) ≤ 144
 blocks-fit rev c fit = blocks-most (c .blocksize) rev (c .blockcount) (custom-range c fit .blockcount)
 
-module _ (rev : Bool) (c : Custom) (words : List ℕ) (count : length words ≡ dataLength (c .blocksize) (c .blockcount))
+-- they are D blocks, also where there are fewer data
+module _ (rev : Bool) (c : Custom) (words : List ℕ) (few : length words ≤ dataLength (c .blocksize) (c .blockcount))
   where
     held : length (pick rev (headerOf c) [] ++ words) ≤ blocksLength (c .blocksize) rev (c .blockcount)
     held = omega (arith, length-append (pick rev (headerOf c) []) words, part-long rev c, blocks-hold rev c)
 
-    pub carried-long : length (carriedData rev c words) ≡ blocksLength (c .blocksize) rev (c .blockcount)
+    pub carried-length : length (carriedData rev c words) ≡ blocksLength (c .blocksize) rev (c .blockcount)
     unfolding carriedData
-    carried-long =
+    carried-length =
         filled-long (blocksLength (c .blocksize) rev (c .blockcount)) (pick rev (headerOf c) [] ++ words) held
+
+    -- and zeros in the place of data that are missing are the zeros behind them
+    pub filled-up : carriedData rev c (filled (dataLength (c .blocksize) (c .blockcount)) words)
+        ≡ carriedData rev c words
+    unfolding carriedData
+    filled-up = filled-twice (pick rev (headerOf c) []) words (dataLength (c .blocksize) (c .blockcount))
+        (blocksLength (c .blocksize) rev (c .blockcount)) few
+        (omega (arith, part-long rev c, blocks-hold rev c))
+
+module _ (rev : Bool) (c : Custom) (words : List ℕ) (count : length words ≡ dataLength (c .blocksize) (c .blockcount))
+  where
+    pub carried-long : length (carriedData rev c words) ≡ blocksLength (c .blocksize) rev (c .blockcount)
+    carried-long = carried-length rev c words (omega (arith, count))
 
     -- the room's first n bytes became header, data and zeros
     pub carried-built : (n : ℕ) (h room z : List ℕ) → customFits c ≡ true

@@ -1,7 +1,7 @@
 -- Lists of zeros, and what is filled up with them.
-use mathlib.Core.Path.{_≡_, refl, ap, _∙_}
+use mathlib.Core.Path.{_≡_, refl, sym, ap, _∙_}
 use mathlib.Core.Bool.{Bool, true}
-use mathlib.Core.List.{List, _∷_, _++_}
+use mathlib.Core.List.{List, [], _∷_, _++_, append-assoc}
 use Prim.Native.Nat.{ℕ, zero, suc, _+_, _-_, _≤_}
 use native.Mathlib.Omega.{arith}
 use lib.ListN.{length, take, drop, getD, replicate, length-append, length-replicate}
@@ -39,6 +39,19 @@ pub zeros-filled : (n : ℕ) (s : List ℕ) → over s (zerosOf n) ≡ filled n 
 unfolding filled
 zeros-filled n s = ap (λ (l : List ℕ). s ++ l) (drop-zeros n (length s))
 
+-- and what is filled up to k bytes has in its first n what is filled up to n
+pub filled-part : (s : List ℕ) (n k : ℕ) → length s ≤ n → n ≤ k → take n (filled k s) ≡ filled n s
+unfolding filled
+filled-part [] n k h l = ap (take n) (ap zerosOf (let e : k - 0 ≡ k = omega arith in e)) ∙ take-zeros k n l
+    ∙ ap zerosOf (let e : n ≡ n - 0 = omega arith in e)
+filled-part (x ∷ s) zero k h l = absurd (let z : ⊥ = omega arith in z)
+filled-part (x ∷ s) (suc n) zero h l = absurd (let z : ⊥ = omega arith in z)
+filled-part (x ∷ s) (suc n) (suc k) h l =
+    ap {B = List ℕ} (λ t. x ∷ t)
+    (ap (λ (i : ℕ). take n (s ++ zerosOf i)) (let e : suc k - suc (length s) ≡ k - length s = omega arith in e)
+    ∙ filled-part s n k (omega arith) (omega arith)
+    ∙ ap (λ (i : ℕ). s ++ zerosOf i) (let e : n - length s ≡ suc n - suc (length s) = omega arith in e))
+
 pub filled-long : (n : ℕ) (s : List ℕ) → length s ≤ n → length (filled n s) ≡ n
 unfolding filled
 filled-long n s h = omega (arith, zeros-long (n - length s), length-append s (zerosOf (n - length s)))
@@ -60,3 +73,23 @@ laid a b r s t n x y h e f l g =
     let p : s ≡ over a r = put-over 0 a r (omega arith) x s f in
     put-next a b r s t (length a) refl p (put-over (length a) b s (omega arith) y t g) ∙ ap (over (a ++ b)) e
     ∙ zeros-filled n (a ++ b)
+
+zeros-joined : (a b : ℕ) → zerosOf a ++ zerosOf b ≡ zerosOf (a + b)
+zeros-joined zero b = ap zerosOf (let e : b ≡ 0 + b = omega arith in e)
+zeros-joined (suc a) b =
+    ap {B = List ℕ} (λ l. 0 ∷ l) (zeros-joined a b) ∙ ap zerosOf (let e : suc (a + b) ≡ suc a + b = omega arith in e)
+
+-- what was filled up to n bytes, and stands behind h, is filled up to m as it was before
+pub filled-twice : (h w : List ℕ) (n m : ℕ) → length w ≤ n → length h + n ≤ m
+    → filled m (h ++ filled n w) ≡ filled m (h ++ w)
+unfolding filled
+filled-twice h w n m few fit =
+    let z = n - length w in
+    let long : length (h ++ (w ++ zerosOf z)) ≡ length h + n =
+    omega (arith, length-append h (w ++ zerosOf z), length-append w (zerosOf z), zeros-long z) in
+    let rest = m - length (h ++ (w ++ zerosOf z)) in
+    let same : z + rest ≡ m - length (h ++ w) = omega (arith, long, length-append h w) in
+    append-assoc h (w ++ zerosOf z) (zerosOf rest)
+    ∙ ap (λ (l : List ℕ). h ++ l) (append-assoc w (zerosOf z) (zerosOf rest)
+    ∙ ap (λ (l : List ℕ). w ++ l) (zeros-joined z rest ∙ ap zerosOf same))
+    ∙ sym (append-assoc h w (zerosOf (m - length (h ++ w))))

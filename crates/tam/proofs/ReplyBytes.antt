@@ -22,22 +22,25 @@ use Rattle.frames.specs.Blocks.{headerLength, blocksLength}
 use Rattle.frames.specs.Constants.{C-TAM1, C-TAM2-0, C-TAM2-1, C-TAM2-2, C-TAM2-3, tam2Constant, twoBytes}
 use Rattle.frames.specs.Fields.{customFits}
 use Rattle.frames.specs.Header.{headerStart, headerOf}
-use Rattle.frames.specs.Lengths.{hasMac}
+use Rattle.frames.specs.declared.ProtMode.{ProtMode}
+use Rattle.frames.specs.declared.ProtModeField.{ProtModeField}
+use Rattle.frames.specs.declared.ProtModeField.the-variants.{Mode, NoMode}
+use Rattle.frames.specs.Modes.{encrypts, hasMac, inMode, protModeOf}
 use Rattle.frames.proofs.Bounds.{by-mode-le}
 use Rattle.frames.proofs.Range.{custom-range, size-bit-lt}
 use Rattle.payload.proofs.Bytes.{joined-bytes}
 use Rattle.payload.specs.Data.{filled, carriedData}
-use Rattle.payload.specs.Protected.{encrypts, withMac}
+use Rattle.payload.specs.Protected.{withMac}
 use Rattle.offer.proofs.Bytes.{Ten, none-bytes, zeros-bytes, pick-bytes, block-block}
-use Rattle.tam.specs.Replies.{tamBlock, tam1Reply, tam2Body, tam2Reply}
+use Rattle.tam.specs.Replies.{tamBlock, tam1Reply, tam2Body, tam2InMode, tam2Reply}
 
 -- ---- constants, header and data
 
-tam2-constant-le : (rev : Bool) (protmode : ℕ) → tam2Constant rev protmode ≤ 0xFFFF
+tam2-constant-le : (rev : Bool) (mode : ProtMode) → tam2Constant rev mode ≤ 0xFFFF
 unfolding tam2Constant
-tam2-constant-le false protmode = omega arith
-tam2-constant-le true protmode =
-    by-mode-le C-TAM2-0 C-TAM2-1 C-TAM2-2 C-TAM2-3 protmode 0xFFFF (omega arith) (omega arith) (omega arith)
+tam2-constant-le false mode = omega arith
+tam2-constant-le true mode =
+    by-mode-le C-TAM2-0 C-TAM2-1 C-TAM2-2 C-TAM2-3 mode 0xFFFF (omega arith) (omega arith) (omega arith)
     (omega arith)
 
 pub header-bytes : (c : Custom) → customFits c ≡ true → Bytes (headerOf c)
@@ -74,21 +77,30 @@ module _ (draws : List ℕ) (d : Ten draws) where
     unfolding tam1Reply
     tam1-bytes m t = tam-block-block (key .enc) (m .ichallenge) C-TAM1 enc (omega arith) t .bytes
 
-    pub tam2-bytes : (m : Tam2) (words : List ℕ) → Bytes (key .mackey) → Ten (m .ichallenge)
-        → customFits (m .custom) ≡ true → Bytes words → Bytes (tam2Reply key m words draws)
-    unfolding tam2Reply withMac tam2Body
-    tam2-bytes m words mac t fit h =
-        let a = tamBlock (key .enc) (twoBytes (tam2Constant (m .rev) (m .protmode))) draws (m .ichallenge) in
+    in-mode-bytes : (m : Tam2) (words : List ℕ) (mode : ProtMode) → Bytes (key .mackey) → Ten (m .ichallenge)
+        → customFits (m .custom) ≡ true → Bytes words → Bytes (tam2InMode key m words draws mode)
+    unfolding tam2InMode withMac tam2Body
+    in-mode-bytes m words mode mac t fit h =
+        let a = tamBlock (key .enc) (twoBytes (tam2Constant (m .rev) mode)) draws (m .ichallenge) in
         let p = carriedData (m .rev) (m .custom) words in
-        let x = pick (encrypts (m .protmode)) (cbcEncAes a (key .enc) p) p in
+        let x = pick (encrypts mode) (cbcEncAes a (key .enc) p) p in
         let ha : Bytes a =
-        tam-block-block (key .enc) (m .ichallenge) (tam2Constant (m .rev) (m .protmode)) enc
-        (tam2-constant-le (m .rev) (m .protmode)) t .bytes in
+        tam-block-block (key .enc) (m .ichallenge) (tam2Constant (m .rev) mode) enc
+        (tam2-constant-le (m .rev) mode) t .bytes in
         let hp : Bytes p = carried-bytes (m .rev) (m .custom) words fit h in
         let hs : Bytes (a ++ x) =
         joined-bytes a x ha
-        (pick-bytes (encrypts (m .protmode)) (cbcEncAes a (key .enc) p) p
+        (pick-bytes (encrypts mode) (cbcEncAes a (key .enc) p) p
         (cbc-enc-aes-bytes a (key .enc) p ha enc hp) hp) in
-        joined-bytes (a ++ x) (pick (hasMac (m .protmode)) (cmac96 (key .mackey) (a ++ x)) []) hs
-        (pick-bytes (hasMac (m .protmode)) (cmac96 (key .mackey) (a ++ x)) [] (mac-bytes (key .mackey) mac (a ++ x) hs)
+        joined-bytes (a ++ x) (pick (hasMac mode) (cmac96 (key .mackey) (a ++ x)) []) hs
+        (pick-bytes (hasMac mode) (cmac96 (key .mackey) (a ++ x)) [] (mac-bytes (key .mackey) mac (a ++ x) hs)
         none-bytes)
+
+    pub tam2-bytes : (m : Tam2) (words : List ℕ) → Bytes (key .mackey) → Ten (m .ichallenge)
+        → customFits (m .custom) ≡ true → Bytes words → Bytes (tam2Reply key m words draws)
+    unfolding tam2Reply
+    tam2-bytes m words mac t fit h = by (protModeOf (m .protmode))
+      where
+        by : (x : ProtModeField) → Bytes (inMode x (tam2InMode key m words draws) [])
+        by (Mode mode) = in-mode-bytes m words mode mac t fit h
+        by NoMode = none-bytes

@@ -13,12 +13,15 @@ use Rattle.frames.specs.declared.Tam1.{Tam1}
 use Rattle.frames.specs.declared.Tam2.{Tam2}
 use Rattle.frames.specs.Blocks.{dataLength, blocksLength}
 use Rattle.frames.specs.Constants.{tam2Constant, twoBytes}
-use Rattle.frames.specs.Lengths.{hasMac, macLength, tam1ReplyLength, tam2MacAt, tam2ReplyLength}
+use Rattle.frames.specs.Lengths.{macLength, tam1ReplyLength, tam2MacAt, tam2ReplyLength}
 use Rattle.payload.specs.Data.{carriedData}
-use Rattle.payload.specs.Protected.{encrypts, withMac}
-use Rattle.payload.proofs.Data.{carried-long}
+use Rattle.frames.specs.declared.ProtMode.{ProtMode}
+use Rattle.frames.specs.declared.ProtModeField.the-variants.{Mode, NoMode}
+use Rattle.frames.specs.Modes.{encrypts, hasMac, protModeOf}
+use Rattle.payload.specs.Protected.{withMac}
+use Rattle.payload.proofs.Data.{carried-length}
 use Rattle.payload.proofs.Lengths.{enc-sixteen, blocks-whole, cbc-enc-long, mac-long}
-use Rattle.tam.specs.Replies.{tamBlock, tam1Reply, tam2Body, tam2Reply}
+use Rattle.tam.specs.Replies.{tamBlock, tam1Reply, tam2Body, tam2InMode, tam2Reply}
 
 pub tam-block-long : (enc constant draws ichallenge : List ℕ) → length (tamBlock enc constant draws ichallenge) ≡ 16
 unfolding tamBlock
@@ -33,32 +36,43 @@ chosen-long : (b : Bool) (a enc p : List ℕ) → length p % 16 ≡ 0 → length
 chosen-long true a enc p e = cbc-enc-long a enc p e
 chosen-long false a enc p e = refl
 
-pub body-long : (protmode : ℕ) (a enc p : List ℕ) → length p % 16 ≡ 0
-    → length (pick (encrypts protmode) (cbcEncAes a enc p) p) ≡ length p
-body-long protmode = chosen-long (encrypts protmode)
+pub body-long : (mode : ProtMode) (a enc p : List ℕ) → length p % 16 ≡ 0
+    → length (pick (encrypts mode) (cbcEncAes a enc p) p) ≡ length p
+body-long mode = chosen-long (encrypts mode)
 
 -- a block, data and perhaps a MAC
-pub made-long : (protmode n : ℕ) (mackey enc a p : List ℕ) → length a ≡ 16 → length p ≡ n → n % 16 ≡ 0
-    → (let s = a ++ pick (encrypts protmode) (cbcEncAes a enc p) p in
-    length (s ++ pick (hasMac protmode) (cmac96 mackey s) []) ≡ 16 + n + macLength protmode)
-made-long protmode n mackey enc a p h e w =
-    let x = pick (encrypts protmode) (cbcEncAes a enc p) p in
+pub made-long : (mode : ProtMode) (n : ℕ) (mackey enc a p : List ℕ) → length a ≡ 16 → length p ≡ n → n % 16 ≡ 0
+    → (let s = a ++ pick (encrypts mode) (cbcEncAes a enc p) p in
+    length (s ++ pick (hasMac mode) (cmac96 mackey s) []) ≡ 16 + n + macLength mode)
+made-long mode n mackey enc a p h e w =
+    let x = pick (encrypts mode) (cbcEncAes a enc p) p in
     omega (
       arith,
-      length-append (a ++ x) (pick (hasMac protmode) (cmac96 mackey (a ++ x)) []),
+      length-append (a ++ x) (pick (hasMac mode) (cmac96 mackey (a ++ x)) []),
       length-append a x,
-      body-long protmode a enc p (omega arith),
-      mac-long protmode mackey (a ++ x),
+      body-long mode a enc p (omega arith),
+      mac-long mode mackey (a ++ x),
     )
 
-module _ (key : Key) (m : Tam2) (words draws : List ℕ)
+module _ (key : Key) (m : Tam2) (words draws : List ℕ) (mode : ProtMode)
     (count : length words ≤ dataLength (m .custom .blocksize) (m .custom .blockcount)) where
-  pub tam2-long : length (tam2Reply key m words draws) ≡ tam2ReplyLength (m .custom .blocksize) (m .rev)
-      (m .custom .blockcount) (m .protmode)
-  unfolding tam2Reply withMac tam2Body tam2ReplyLength tam2MacAt
+  pub tam2-long : length (tam2InMode key m words draws mode) ≡ tam2ReplyLength (m .custom .blocksize) (m .rev)
+      (m .custom .blockcount) mode
+  unfolding tam2InMode withMac tam2Body tam2ReplyLength tam2MacAt
   tam2-long =
-      made-long (m .protmode) (blocksLength (m .custom .blocksize) (m .rev) (m .custom .blockcount)) (key .mackey)
-      (key .enc) (tamBlock (key .enc) (twoBytes (tam2Constant (m .rev) (m .protmode))) draws (m .ichallenge))
+      made-long mode (blocksLength (m .custom .blocksize) (m .rev) (m .custom .blockcount)) (key .mackey)
+      (key .enc) (tamBlock (key .enc) (twoBytes (tam2Constant (m .rev) mode)) draws (m .ichallenge))
       (carriedData (m .rev) (m .custom) words) (tam-block-long (key .enc) _ draws (m .ichallenge))
-      (carried-long (m .rev) (m .custom) words count)
+      (carried-length (m .rev) (m .custom) words count)
       (blocks-whole (m .custom .blocksize) (m .rev) (m .custom .blockcount))
+
+-- the reply is that of its mode
+pub tam2-named : (key : Key) (m : Tam2) (words draws : List ℕ) (mode : ProtMode) → protModeOf (m .protmode) ≡ Mode mode
+    → tam2Reply key m words draws ≡ tam2InMode key m words draws mode
+unfolding tam2Reply
+tam2-named key m words draws mode named = rw named
+
+pub tam2-nothing : (key : Key) (m : Tam2) (words draws : List ℕ) → protModeOf (m .protmode) ≡ NoMode
+    → tam2Reply key m words draws ≡ []
+unfolding tam2Reply
+tam2-nothing key m words draws none = rw none

@@ -1,36 +1,35 @@
 -- `offer::records::mode_supported` meets its contract.
-use borrow.Author.Tests.{not-true, not-false}
-use mathlib.Core.Path.{sym, _∙_}
 use Rattle.offer.specs.Records.{modeSupported}
+use borrow.Author.Needs.{needs}
 use Rattle.offer.proofs.records.mode_supported.Statement.{statement}
 use Rattle.offer.proofs.records.mode_supported.Tie as tie
 
-mode-offered-requires : tie.Need-mode-offered-requires
-mode-offered-requires c κs = tt
+prot-mode-requires : tie.Need-prot-mode-requires
+prot-mode-requires c κs = search needs
+
+enum-known-mode : tie.Need-enum-known-mode
+enum-known-mode c = search needs
+
+mode-served-requires : tie.Need-mode-served-requires
+mode-served-requires c κs = search needs
+
+enum-told : tie.Need-enum-told
+enum-told c = search needs
 
 returns : tie.Need-returns
 unfolding modeSupported
-returns c = rw (sym (c .before .mode-offered .ensures) ∙ not-true _ (c .if1 .taken))
-
-has-mac-requires : tie.Need-has-mac-requires
-has-mac-requires c κs = tt
+returns c =
+    let c2 = c .before .before in
+    let c4 = c2 .before .before in
+    simp (← c4 .prot-mode .ensures, c2 .mode .given .1, c .mode-served .ensures)
 
 returns-2 : tie.Need-returns-2
 unfolding modeSupported
 returns-2 c =
-    let c1 = c .before in
-    let c2 = c1 .before in
-    let c3 = c2 .before in
-    rw (sym (c3 .mode-offered .ensures) ∙ not-false _ (c2 .if1 .left), sym (c1 .has-mac .ensures) ∙ c .if2 .taken)
-
-returns-3 : tie.Need-returns-3
-unfolding modeSupported
-returns-3 c =
-    let c1 = c .before in
-    let c2 = c1 .before in
-    let c3 = c2 .before in
-    rw (sym (c3 .mode-offered .ensures) ∙ not-false _ (c2 .if1 .left), sym (c1 .has-mac .ensures) ∙ c .if2 .left)
+    let c2 = c .before .before in
+    simp (← c2 .prot-mode .ensures, c .enum-told .given .1)
 
 pub mode-supported-spec : {M : Type 1} → statement M
 mode-supported-spec =
-    tie.close (tie.spec mode-offered-requires returns has-mac-requires returns-2 returns-3)
+    tie.close
+    (tie.spec prot-mode-requires enum-known-mode mode-served-requires enum-told returns returns-2)

@@ -20,7 +20,7 @@ returns c =
     let c5 = c4 .before in
     let c8 = c5 .before .before .before in
     let a = c8 in
-    body-chained (a .args .protmode) _ (a .args .enc) (a .args .a) (a .args .p .now) (a .args .room .now) _
+    body-chained (a .args .mode) _ (a .args .enc) (a .args .a) (a .args .p .now) (a .args .room .now) _
     (c5 .encrypts .ensures) _ (c4 .if1 .taken) (a .pre .0) (a .pre .1) (c2 .cbc-enc-aes .ensures)
 
 copy-requires : tie.Need-copy-requires
@@ -36,7 +36,7 @@ returns-2 c =
     let c5 = c4 .before in
     let c8 = c5 .before .before .before in
     let a = c8 in
-    body-plain (a .args .protmode) _ (a .args .enc) (a .args .a) (a .args .p .now) (a .args .room .now) _
+    body-plain (a .args .mode) _ (a .args .enc) (a .args .a) (a .args .p .now) (a .args .room .now) _
     (c5 .encrypts .ensures) (c4 .if1 .left) (c2 .copy .ensures .1)
 
 pub body-spec : {M : Type 1} → statement M
