@@ -9,12 +9,13 @@ use Rattle.ground.specs.Choice.{both}
 use Rattle.aes.specs.AesEnc.{aesEnc}
 use Rattle.sheet.specs.declared.Key.{Key}
 use Rattle.frames.specs.declared.Iam3.{Iam3}
+use Rattle.frames.specs.declared.ProtMode.{ProtMode}
 use Rattle.frames.specs.Constants.{withPurpose, iam3Constant}
 use Rattle.payload.specs.Alike.{same}
 use Rattle.payload.specs.Data.{headerFits, fillerFits}
 use Rattle.entry.specs.declared.Session.{Session}
 use Rattle.entry.specs.Opened.{constantIn, purposeIn, challengeIn, purposeAllowed, iamProof, sentBlock}
-use Rattle.entry.specs.Opened.{openedData, sentMacFits, iam3Proof}
+use Rattle.entry.specs.Opened.{openedIn, sentMacFits, provedIn}
 
 -- a constant comes back out of the two bytes that it makes with a Purpose
 pub constant-back : (k p : ℕ) → constantIn (withPurpose k p) ≡ k
@@ -34,14 +35,14 @@ iam-tested constant k held b l known allowed issued inner r purpose e q f g h i 
     w ∙ (λ j. both (right j) ((n ∙ (λ t. both (fit t) (same-one t))) j))
 
 -- IAM3: the first block opened is b, and the data in the clear are p
-pub iam3-tested : (key : Key) (held : Session) (f : Iam3) (m b p : List ℕ) (constant : ℕ)
+pub iam3-tested : (key : Key) (held : Session) (mode : ProtMode) (f : Iam3) (m b p : List ℕ) (constant : ℕ)
     (first mac header filler last inner r : Bool) → b ≡ aesEnc (key .enc) (sentBlock m)
-    → p ≡ openedData key f m → constant ≡ iam3Constant (f .protmode) → first ≡ iamProof constant held b
-    → mac ≡ sentMacFits key f m → header ≡ headerFits true (f .custom) p
+    → p ≡ openedIn key mode f m → constant ≡ iam3Constant mode → first ≡ iamProof constant held b
+    → mac ≡ sentMacFits key mode f m → header ≡ headerFits true (f .custom) p
     → filler ≡ fillerFits true (f .custom) p → last ≡ both header filler → inner ≡ both mac last → r ≡ both first inner
-    → r ≡ iam3Proof key held f m
-unfolding iam3Proof
-iam3-tested key held f m b p constant first mac header filler last inner r eb ep ek ef em eh el l n w =
+    → r ≡ provedIn key held mode f m
+unfolding provedIn
+iam3-tested key held mode f m b p constant first mac header filler last inner r eb ep ek ef em eh el l n w =
     let one = ef ∙ (λ j. iamProof (ek j) held (eb j)) in
     let three = eh ∙ ap (headerFits true (f .custom)) ep in
     let four = el ∙ ap (fillerFits true (f .custom)) ep in

@@ -1,12 +1,11 @@
 -- What is known of an IAM3 whose fields were judged: the ProtMode, the length, the block.
-use Prim.Native.Nat.{ℕ, _≤_}
-use native.Mathlib.Omega.{arith}
+use Prim.Native.Nat.{ℕ}
 use mathlib.Core.Path.{_≡_}
 use mathlib.Core.Bool.{true, false}
 use mathlib.Core.List.{List}
 use lib.Dec.{leb}
 use lib.ListN.{length}
-use borrow.Author.Tests.{eqb-true, le-ltb, not-true}
+use borrow.Author.Tests.{eqb-true, not-true}
 use Rattle.memory.specs.Address.{overruns}
 use Rattle.sheet.specs.declared.Key.{Key}
 use Rattle.sheet.specs.declared.Terms.{Terms}
@@ -17,21 +16,22 @@ use Rattle.offer.specs.declared.Verdict.the-variants.{Fine}
 use Rattle.offer.specs.Checks.{judged}
 use Rattle.offer.specs.Records.{sizeOffered, modeSupported, slotNamed, blockAsked}
 use Rattle.offer.proofs.Lines.{first-holds, others-hold}
-use Rattle.offer.proofs.Passed.{both-second, mode-below}
+use Rattle.offer.proofs.Passed.{Supported, both-second, mode-named}
 use Rattle.entry.specs.Judged.{iam3FieldChecks}
 
 module _ (terms : Terms) (key : Key) (m : List ℕ) (h : judged (iam3FieldChecks terms key m) ≡ Fine) where
   pub iam3-mode : modeSupported (terms .features) key (iam3Of m .protmode) ≡ true
   iam3-mode = first-holds _ _ (others-hold _ _ h)
 
+  pub iam3-named : Supported (terms .features) key (iam3Of m .protmode)
+  iam3-named = mode-named (terms .features) key (iam3Of m .protmode) iam3-mode
+
   pub iam3-length : length m ≡ iam3Length (iam3Of m .custom .blocksize) (iam3Of m .custom .blockcount)
-      (iam3Of m .protmode)
+      (iam3-named .mode)
   unfolding lengthFits iam3LengthFits
   iam3-length =
-      let p = mode-below (terms .features) key (iam3Of m .protmode) iam3-mode in
-      let n : iam3Of m .protmode ≤ 3 = omega arith in
       let w : lengthFits Iam3 m ≡ true = first-holds _ _ h in
-      eqb-true _ _ (both-second (leb iam3FieldsLength (length m)) _ (simp (le-ltb 3 (iam3Of m .protmode) n) at w))
+      eqb-true _ _ (both-second (leb iam3FieldsLength (length m)) _ (rw (iam3-named .named) at w))
 
   pub iam3-inside : overruns (slotNamed (terms .profiles) (iam3Of m .custom .profile) .profile)
       (blockAsked (terms .profiles) (iam3Of m .custom)) ≡ false

@@ -20,10 +20,13 @@ use Rattle.frames.specs.Fields.{sizeOf, customFits, selectCustom}
 use Rattle.frames.specs.Messages.{iam3Of}
 use Rattle.frames.proofs.Bounds.{blocks-most}
 use Rattle.frames.proofs.Range.{custom-range}
-use Rattle.payload.specs.Protected.{encrypts}
+use Rattle.frames.specs.declared.ProtMode.{ProtMode}
+use Rattle.frames.specs.declared.ProtModeField.the-variants.{Mode, NoMode}
+use Rattle.frames.specs.Modes.{encrypts, protModeOf}
 use Rattle.payload.proofs.Lengths.{blocks-whole, cbc-dec-long}
 use Rattle.payload.proofs.Overs.{over-taken}
-use Rattle.entry.specs.Opened.{sentBlock, sentData, openedData}
+use Rattle.entry.specs.Opened.{sentBlock, sentData, openedIn, openedData, provedIn, iam3Proof}
+use Rattle.entry.specs.declared.Session.{Session}
 use Rattle.offer.proofs.Bytes.{select-custom-fits}
 
 -- ---- lengths
@@ -60,24 +63,24 @@ data-sent m n = let e : 20 + n - 20 ≡ n = omega arith in ap (λ (k : ℕ). tak
 
 -- ---- what is opened
 
-module _ (key : Key) (f : Iam3) (m : List ℕ) where
-  pub opened-chained : encrypts (f .protmode) ≡ true
-      → openedData key f m ≡ cbcDecAes (sentBlock m) (key .enc) (sentData (f .custom) m)
-  unfolding openedData
+module _ (key : Key) (mode : ProtMode) (f : Iam3) (m : List ℕ) where
+  pub opened-chained : encrypts mode ≡ true
+      → openedIn key mode f m ≡ cbcDecAes (sentBlock m) (key .enc) (sentData (f .custom) m)
+  unfolding openedIn
   opened-chained e = rw e
 
-  pub opened-plain : encrypts (f .protmode) ≡ false → openedData key f m ≡ sentData (f .custom) m
-  unfolding openedData
+  pub opened-plain : encrypts mode ≡ false → openedIn key mode f m ≡ sentData (f .custom) m
+  unfolding openedIn
   opened-plain e = rw e
 
   pub opened-long : 20 + blocksLength (f .custom .blocksize) true (f .custom .blockcount) ≤ length m
-      → length (openedData key f m) ≡ blocksLength (f .custom .blocksize) true (f .custom .blockcount)
-  unfolding openedData
+      → length (openedIn key mode f m) ≡ blocksLength (f .custom .blocksize) true (f .custom .blockcount)
+  unfolding openedIn
   opened-long h =
       let d = data-long (f .custom) m h in
       picked (blocksLength (f .custom .blocksize) true (f .custom .blockcount))
       (cbcDecAes (sentBlock m) (key .enc) (sentData (f .custom) m)) (sentData (f .custom) m)
-      (encrypts (f .protmode))
+      (encrypts mode)
       (cbc-dec-long (sentBlock m) (key .enc) (sentData (f .custom) m)
       (omega (arith, blocks-whole (f .custom .blocksize) true (f .custom .blockcount))) ∙ d) d
     where
@@ -88,9 +91,25 @@ module _ (key : Key) (f : Iam3) (m : List ℕ) where
   -- what stands in the first bytes of a room, once it was opened there
   pub opened-front : 20 + blocksLength (f .custom .blocksize) true (f .custom .blockcount) ≤ length m
       → (room after : List ℕ) (n : ℕ) → n ≡ blocksLength (f .custom .blocksize) true (f .custom .blockcount)
-      → after ≡ over (openedData key f m) room
-      → take n after ≡ openedData key f m
-  opened-front h room after n e q = ap (take n) q ∙ over-taken (openedData key f m) room n (opened-long h ∙ sym e)
+      → after ≡ over (openedIn key mode f m) room
+      → take n after ≡ openedIn key mode f m
+  opened-front h room after n e q = ap (take n) q ∙ over-taken (openedIn key mode f m) room n (opened-long h ∙ sym e)
+
+-- what the mode of the field decides
+module _ (key : Key) (held : Session) (mode : ProtMode) (f : Iam3) (m : List ℕ)
+    (named : protModeOf (f .protmode) ≡ Mode mode) where
+  pub opened-named : openedData key f m ≡ openedIn key mode f m
+  unfolding openedData
+  opened-named = rw named
+
+  pub proof-named : iam3Proof key held f m ≡ provedIn key held mode f m
+  unfolding iam3Proof
+  proof-named = rw named
+
+pub nothing-proved : (key : Key) (held : Session) (f : Iam3) (m : List ℕ) → protModeOf (f .protmode) ≡ NoMode
+    → iam3Proof key held f m ≡ false
+unfolding iam3Proof
+nothing-proved key held f m none = rw none
 
 -- the fields of a message of bytes fit their bits
 pub iam3-in-range : (m : List ℕ) → Bytes m → customFits (iam3Of m .custom) ≡ true

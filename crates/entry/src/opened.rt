@@ -5,7 +5,11 @@ use super::let_in;
 use super::refused;
 use frames::Custom;
 use frames::Iam3;
+use frames::ProtMode;
+use frames::ProtModeField;
 use frames::constants::iam3_constant;
+use frames::modes::encrypts;
+use frames::modes::prot_mode;
 use frames::sizes::blocks_length;
 use memory::Area;
 use memory::Block;
@@ -22,9 +26,10 @@ ghost use Rattle.frames.specs.Blocks.{blocksLength};
 ghost use Rattle.frames.specs.Constants.{iam3Constant};
 ghost use Rattle.frames.specs.Lengths.{iam3HeadLength};
 ghost use Rattle.frames.specs.Messages.{iam3Of};
+ghost use Rattle.frames.specs.Modes.{protModeOf};
 ghost use Rattle.memory.specs.Areas.{storedIn};
-ghost use Rattle.entry.specs.Opened.{iamProof, mamProof, iam3Proof, purposeIn, purposeAllowed, sentBlock};
-ghost use Rattle.entry.specs.Opened.{openedData, sentMacFits, wordsIn};
+ghost use Rattle.entry.specs.Opened.{iamProof, mamProof, provedIn, purposeIn, purposeAllowed, sentBlock};
+ghost use Rattle.entry.specs.Opened.{openedIn, sentMacFits, wordsIn};
 ghost use Rattle.entry.specs.Decided.{ProofDecides};
 
 // The twelve bits that two bytes start with.
@@ -83,10 +88,10 @@ pub fn mam_proof(held: Session, b: [u8; 16]) -> bool
 }
 
 // C_IAM3 of a ProtMode, without a Purpose.
-fn constant_of(protmode: u8) -> u16
-    ensures { λ r. ⌜ r ≡ iam3Constant protmode ⌝ }
+fn constant_of(mode: ProtMode) -> u16
+    ensures { λ r. ⌜ r ≡ iam3Constant mode ⌝ }
 {
-    let two = iam3_constant(protmode, 0);
+    let two = iam3_constant(mode, 0);
     constant_in(two[0], two[1])
 }
 
@@ -101,15 +106,15 @@ fn first_opened(key: Key, m: &[u8]) -> [u8; 16]
 
 // Header, data and filler of an IAM3 in the clear, over the first bytes of `out` (9.5.8.2 to 9.5.8.5).
 // Ruled out: the chain started at another block than A, and data that are opened in ProtMode 2.
-fn open_data(key: Key, f: Iam3, m: &[u8], out: &mut [u8])
+fn open_data(key: Key, mode: ProtMode, f: Iam3, m: &[u8], out: &mut [u8])
     requires { ⌜ (iam3HeadLength + blocksLength (f .custom .blocksize) true (f .custom .blockcount) ≤ length (now m))
         × (blocksLength (f .custom .blocksize) true (f .custom .blockcount) ≤ length (now out)) ⌝ }
-    ensures { λ _. ⌜ now (out .exit) ≡ over (openedData key f (now (m .entry))) (now (out .entry)) ⌝ }
+    ensures { λ _. ⌜ now (out .exit) ≡ over (openedIn key mode f (now (m .entry))) (now (out .entry)) ⌝ }
 {
     let custom = f.custom;
     let size = custom.blocksize;
     let end = 20 + blocks_length(size, true, custom.blockcount);
-    if payload::encrypts(f.protmode) {
+    if encrypts(mode) {
         let enc = key.enc;
         let iv = field::first_block(&m[4..]);
         modes::cbc_dec_aes(iv, enc, &m[20..end], out);
@@ -120,15 +125,15 @@ fn open_data(key: Key, f: Iam3, m: &[u8], out: &mut [u8])
 
 // Where the ProtMode has a MAC: is it that of A and the data blocks as they were sent (9.5.8.4, 9.5.8.5)?
 // Ruled out: a MAC over the data in the clear, and one that leaves A out.
-fn mac_fits(key: Key, f: Iam3, m: &[u8]) -> bool
+fn mac_fits(key: Key, mode: ProtMode, f: Iam3, m: &[u8]) -> bool
     requires { ⌜ iam3HeadLength + blocksLength (f .custom .blocksize) true (f .custom .blockcount) ≤ length (now m) ⌝ }
-    ensures { λ r. ⌜ r ≡ sentMacFits key f (now (m .entry)) ⌝ }
+    ensures { λ r. ⌜ r ≡ sentMacFits key mode f (now (m .entry)) ⌝ }
 {
     let custom = f.custom;
     let size = custom.blocksize;
     let end = 20 + blocks_length(size, true, custom.blockcount);
     let mackey = key.mackey;
-    payload::mac_fits(mackey, f.protmode, &m[4..end], &m[end..])
+    payload::mac_fits(mackey, mode, &m[4..end], &m[end..])
 }
 
 // The data's words over the block that the message names; every other byte of both areas stays.
@@ -144,18 +149,55 @@ fn write(block: Block, c: Custom, p: &[u8], identity: &mut [u8], user: &mut [u8]
 // Everything of an IAM3 that a key proves, after its fields were judged: b is its first block opened, p its data in the
 // clear.
 // Ruled out: a MAC that is not asked for in ProtModes 2 and 3, and a header that may name other words than the message.
-fn iam3_proof(key: Key, held: Session, f: Iam3, m: &[u8], b: [u8; 16], p: &[u8]) -> bool
+fn proved(
+    key: Key,
+    held: Session,
+    mode: ProtMode,
+    f: Iam3,
+    m: &[u8],
+    b: [u8; 16],
+    p: &[u8],
+) -> bool
     requires { ⌜ (iam3HeadLength + blocksLength (f .custom .blocksize) true (f .custom .blockcount) ≤ length (now m))
         × (b ≡ aesEnc (key .enc) (sentBlock (now m)))
-        × (now p ≡ openedData key f (now m)) ⌝ }
-    ensures { λ r. ⌜ r ≡ iam3Proof key held f (now (m .entry)) ⌝ }
+        × (now p ≡ openedIn key mode f (now m)) ⌝ }
+    ensures { λ r. ⌜ r ≡ provedIn key held mode f (now (m .entry)) ⌝ }
 {
     let custom = f.custom;
-    let first = iam_proof(constant_of(f.protmode), held, b);
-    let mac = mac_fits(key, f, m);
+    let first = iam_proof(constant_of(mode), held, b);
+    let mac = mac_fits(key, mode, f, m);
     let header = payload::header_fits(true, custom, p);
     let filler = payload::filler_fits(true, custom, p);
     both(first, both(mac, both(header, filler)))
+}
+
+// An IAM3 in its mode.
+fn iam3_in_mode(
+    key: Key,
+    held: Session,
+    mode: ProtMode,
+    f: Iam3,
+    block: Block,
+    m: &[u8],
+    identity: &mut [u8],
+    user: &mut [u8],
+) -> Reacted
+    requires { ⌜ (f ≡ iam3Of (now m)) × (protModeOf (f .protmode) ≡ ProtModeField.Mode mode)
+        × (iam3HeadLength + blocksLength (f .custom .blocksize) true (f .custom .blockcount) ≤ length (now m)) ⌝ }
+    ensures { λ r. ⌜ ProofDecides key held f block (now (m .entry)) (now (identity .entry)) (now (user .entry)) r
+        (now (identity .exit)) (now (user .exit)) ⌝ }
+{
+    let b = first_opened(key, m);
+    let mut room = [0u8; 144];
+    open_data(key, mode, f, m, &mut room);
+    let custom = f.custom;
+    let size = custom.blocksize;
+    let n = blocks_length(size, true, custom.blockcount);
+    if !proved(key, held, mode, f, m, b, &room[..n]) {
+        return refused(Fault::ProofWrong);
+    }
+    write(block, custom, &room[..n], identity, user);
+    let_in(purpose(b))
 }
 
 // An IAM3 whose fields f were judged (9.5.8, 9.5.9): where the proof holds, the words are written and the reader is let
@@ -175,15 +217,12 @@ pub fn iam3(
     ensures { λ r. ⌜ ProofDecides key held f block (now (m .entry)) (now (identity .entry)) (now (user .entry)) r
         (now (identity .exit)) (now (user .exit)) ⌝ }
 {
-    let b = first_opened(key, m);
-    let mut room = [0u8; 144];
-    open_data(key, f, m, &mut room);
-    let custom = f.custom;
-    let size = custom.blocksize;
-    let n = blocks_length(size, true, custom.blockcount);
-    if !iam3_proof(key, held, f, m, b, &room[..n]) {
-        return refused(Fault::ProofWrong);
+    match prot_mode(f.protmode) {
+        ProtModeField::Mode(mode) => {
+            return iam3_in_mode(key, held, mode, f, block, m, identity, user);
+        }
+        ProtModeField::NoMode => {
+            return refused(Fault::ProofWrong);
+        }
     }
-    write(block, custom, &room[..n], identity, user);
-    let_in(purpose(b))
 }

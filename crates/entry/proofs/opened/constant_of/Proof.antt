@@ -24,7 +24,7 @@ returns c =
     let c1 = c .before in
     let c2 = c1 .before in
     c .constant-in .ensures ∙ ap constantIn (c1 .iam3-constant .ensures)
-    ∙ constant-back (iam3Constant (c2 .args .protmode)) 0
+    ∙ constant-back (iam3Constant (c2 .args .mode)) 0
 
 pub constant-of-spec : {M : Type 1} → statement M
 constant-of-spec =

@@ -52,7 +52,7 @@ returns c =
     ap (λ (k : ℕ). take (20 + k - 4) (drop 4 m)) (b .ensures) ∙ covered m n in
     let behind : take (length m - (20 + b .result)) (drop (20 + b .result) m) ≡ sentMac (a .f .custom) m =
     rest-sent m (20 + b .result) ∙ ap (λ (k : ℕ). drop (20 + k) m) (b .ensures) in
-    c .mac-fits .ensures ∙ ap₂ (λ (x y : List ℕ). macFits (a .key .mackey) (a .f .protmode) x y) over behind
+    c .mac-fits .ensures ∙ ap₂ (λ (x y : List ℕ). macFits (a .key .mackey) (a .mode) x y) over behind
 
 pub mac-fits-spec : {M : Type 1} → statement M
 mac-fits-spec =

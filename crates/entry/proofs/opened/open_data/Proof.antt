@@ -11,7 +11,7 @@ use mathlib.Core.Bool.{true}
 use Rattle.frames.specs.Blocks.{blocksLength}
 use Rattle.payload.proofs.Lengths.{blocks-whole}
 use Rattle.payload.proofs.Macs.{into-taken}
-use Rattle.entry.specs.Opened.{sentData, sentBlock, openedData}
+use Rattle.entry.specs.Opened.{sentData, sentBlock, openedIn}
 use Rattle.entry.proofs.Sent.{first-sent, data-sent, data-long, opened-chained, opened-plain}
 use borrow.Author.Needs.{needs}
 use Rattle.entry.proofs.opened.open_data.Statement.{statement}
@@ -72,9 +72,9 @@ returns c =
     let from : iv .result ≡ sentBlock m = iv .ensures ∙ first-sent m (omega arith) in
     let fits = enough (length part) (length (a .out .now))
     (omega (arith, blocks-whole (a .f .custom .blocksize) true (a .f .custom .blockcount))) (omega arith) in
-    let out : cbcDecAes (iv .result) (a .key .enc) part ≡ openedData (a .key) (a .f) m =
+    let out : cbcDecAes (iv .result) (a .key .enc) part ≡ openedIn (a .key) (a .mode) (a .f) m =
     ap₂ (λ (v d : List ℕ). cbcDecAes v (a .key .enc) d) from sent
-    ∙ sym (opened-chained (a .key) (a .f) m (sym (t .before .encrypts .ensures) ∙ t .if1 .taken)) in
+    ∙ sym (opened-chained (a .key) (a .mode) (a .f) m (sym (t .before .encrypts .ensures) ∙ t .if1 .taken)) in
     into-taken _ (cbcDecAes (iv .result) (a .key .enc) part) (a .out .now) _ _ (c2 .cbc-dec-aes .ensures) fits
     ∙ ap (λ (l : List ℕ). over l (a .out .now)) out
 
@@ -105,8 +105,8 @@ returns-2 c =
     let part = take (20 + b .blocks-length .result - 20) (drop 20 m) in
     let sent : part ≡ sentData (a .f .custom) m =
     data-sent m (b .blocks-length .result) ∙ ap (λ (k : ℕ). take k (drop 20 m)) (b .blocks-length .ensures) in
-    let out : part ≡ openedData (a .key) (a .f) m =
-    sent ∙ sym (opened-plain (a .key) (a .f) m (sym (t .before .encrypts .ensures) ∙ t .if1 .left)) in
+    let out : part ≡ openedIn (a .key) (a .mode) (a .f) m =
+    sent ∙ sym (opened-plain (a .key) (a .mode) (a .f) m (sym (t .before .encrypts .ensures) ∙ t .if1 .left)) in
     copied part (a .out .now) _ (c2 .copy .ensures .1) ∙ ap (λ (l : List ℕ). over l (a .out .now)) out
 
 pub open-data-spec : {M : Type 1} → statement M

@@ -1,8 +1,8 @@
--- `entry::opened::iam3_proof` meets its contract.
+-- `entry::opened::proved` meets its contract.
 use Rattle.entry.proofs.Judging.{iam3-tested}
 use borrow.Author.Needs.{needs}
-use Rattle.entry.proofs.opened.iam3_proof.Statement.{statement}
-use Rattle.entry.proofs.opened.iam3_proof.Tie as tie
+use Rattle.entry.proofs.opened.proved.Statement.{statement}
+use Rattle.entry.proofs.opened.proved.Tie as tie
 
 constant-of-requires : tie.Need-constant-of-requires
 constant-of-requires c κs = search needs
@@ -40,12 +40,12 @@ returns c =
     let c11 = c7 .before .before .before .before in
     let s = c11 .pre in
     let a = c11 .args in
-    iam3-tested (a .key) (a .held) (a .f) (a .m .now) (a .b) (a .p .now) _ _ _ _ _ _ _ _ (s .1) (s .2)
+    iam3-tested (a .key) (a .held) (a .mode) (a .f) (a .m .now) (a .b) (a .p .now) _ _ _ _ _ _ _ _ (s .1) (s .2)
     (c7 .constant-of .ensures) (c6 .iam-proof .ensures) (c5 .mac-fits .ensures) (c4 .header-fits .ensures)
     (c3 .filler-fits .ensures) (c2 .both .ensures) (c1 .both2 .ensures) (c .both3 .ensures)
 
-pub iam3-proof-spec : {M : Type 1} → statement M
-iam3-proof-spec =
+pub proved-spec : {M : Type 1} → statement M
+proved-spec =
     tie.close
     (tie.spec
     constant-of-requires
