@@ -10,6 +10,7 @@ use frames::ProtModeField;
 use frames::constants::iam3_constant;
 use frames::modes::encrypts;
 use frames::modes::prot_mode;
+use frames::sizes::DATA_ROOM;
 use frames::sizes::blocks_length;
 use memory::Area;
 use memory::Block;
@@ -188,7 +189,7 @@ fn iam3_in_mode(
         (now (identity .exit)) (now (user .exit)) ⌝ }
 {
     let b = first_opened(key, m);
-    let mut room = [0u8; 144];
+    let mut room = [0u8; DATA_ROOM];
     open_data(key, mode, f, m, &mut room);
     let custom = f.custom;
     let size = custom.blocksize;

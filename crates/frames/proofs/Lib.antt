@@ -12,6 +12,7 @@ pub mod Taken
 pub mod Inverse
 pub mod HeaderBack
 pub mod Told
+pub mod ProtModes
 pub mod Shape
 pub mod Examples
 pub mod Fits

@@ -1,6 +1,6 @@
 -- What is known of a call that passed the bench's check, of a message that passed the opening line, and of a ProtMode.
 use Prim.Native.Nat.{ℕ, _≤_}
-use mathlib.Core.Path.{_≡_, refl}
+use mathlib.Core.Path.{_≡_}
 use mathlib.Core.Bool.{Bool, true, false, false≢true}
 use mathlib.Core.List.{List}
 use borrow.Author.Tests.{eqb-true, leb-true}
@@ -9,10 +9,7 @@ use Rattle.sheet.specs.declared.Features.{Features}
 use Rattle.sheet.specs.declared.Key.{Key}
 use Rattle.sheet.specs.declared.Sizes.{Sizes}
 use Rattle.frames.specs.declared.Kind.{Kind}
-use Rattle.frames.specs.declared.ProtMode.{ProtMode}
-use Rattle.frames.specs.declared.ProtModeField.{ProtModeField}
-use Rattle.frames.specs.declared.ProtModeField.the-variants.{Mode, NoMode}
-use Rattle.frames.specs.Modes.{protModeOf, inMode}
+use Rattle.frames.proofs.ProtModes.{Says, says}
 use Rattle.frames.specs.Lengths.{lengthFits, replyRoom}
 use Rattle.offer.specs.declared.Verdict.the-variants.{Fine}
 use Rattle.offer.specs.Checks.{judged}
@@ -26,19 +23,12 @@ both-second true d h = h
 both-second false d h = absurd (false≢true h)
 
 -- A ProtMode that is supported is one of the four modes, which the sheet offers.
-pub record Supported (f : Features) (key : Key) (p : ℕ) : Type 0 where
-  pub mode : ProtMode
-  pub named : protModeOf p ≡ Mode mode
-  pub served : modeServed f key mode ≡ true
+abbrev pub Supported : Features → Key → ℕ → Type 0
+Supported f key p = Says p (modeServed f key)
 
-module _ (f : Features) (key : Key) (p : ℕ) where
-  told : (x : ProtModeField) → protModeOf p ≡ x → inMode x (modeServed f key) false ≡ true → Supported f key p
-  told (Mode mode) e h = record { mode = mode; named = e; served = h }
-  told NoMode e h = absurd (false≢true h)
-
-  pub mode-named : modeSupported f key p ≡ true → Supported f key p
-  unfolding modeSupported
-  mode-named h = told (protModeOf p) refl h
+pub mode-named : (f : Features) (key : Key) (p : ℕ) → modeSupported f key p ≡ true → Supported f key p
+unfolding modeSupported
+mode-named f key p h = says p (modeServed f key) h
 
 -- The bench: the draws and the room.
 module _ (sizes : Sizes) (draws room identity user : ℕ)

@@ -3,6 +3,7 @@ use frames::Custom;
 use frames::ProtMode;
 use frames::build::header_into;
 use frames::modes::has_mac;
+use frames::sizes::DATA_ROOM;
 use frames::sizes::blocks_length;
 use frames::sizes::data_length;
 use frames::sizes::header_length;
@@ -78,7 +79,7 @@ fn lay(room: &mut [u8], a: &[u8], b: &[u8])
     requires { ⌜ (length (now a) + length (now b) ≤ length (now room)) × (length (now room) ≤ 144) ⌝ }
     ensures { λ _. ⌜ now (room .exit) ≡ filled (length (now (room .entry))) (now (a .entry) ++ now (b .entry)) ⌝ }
 {
-    let zeros = [0u8; 144];
+    let zeros = [0u8; DATA_ROOM];
     let n = room.len();
     let i = a.len();
     bytes::copy(&zeros[..n], &mut *room);

@@ -6,7 +6,9 @@ use lib.Dec.{leb}
 use Rattle.ground.specs.Choice.{both, implies}
 use Rattle.frames.specs.declared.Kind.{Kind}
 use Rattle.frames.specs.declared.Kind.the-variants.{Tam1, Tam2, Iam1, Iam2, Iam3, Mam1, Mam2, Unsupported}
-use Rattle.frames.specs.Lengths.{lengthFits, hasMac}
+use Rattle.frames.specs.declared.ProtMode.{ProtMode}
+use Rattle.frames.specs.Lengths.{lengthFits}
+use Rattle.frames.specs.Modes.{hasMac, inMode, protModeOf}
 use Rattle.frames.specs.Messages.{tam1Of, tam2Of, iam1Of, iam2Of, iam3Of, mam1Of, mam2Of, rfuFits}
 use Rattle.reader.specs.declared.Keys.{Keys}
 
@@ -14,9 +16,12 @@ use Rattle.reader.specs.declared.Keys.{Keys}
 abbrev pub dataRoom : ℕ
 dataRoom = 144
 
--- Table 3: ProtModes 0 to 3, and a key for the MAC where there is one.
+-- Table 3: one of the four modes, and a key for the MAC where there is one.
+unfoldable pub modeServed : Keys → ProtMode → Bool
+modeServed keys mode = implies (hasMac mode) (keys .mac)
+
 unfoldable pub modeFits : Keys → ℕ → Bool
-modeFits keys protmode = both (leb protmode 3) (implies (hasMac protmode) (keys .mac))
+modeFits keys protmode = inMode (protModeOf protmode) (modeServed keys) false
 
 -- RFU is zero, and the ProtMode is one that the reader can judge.
 unfoldable pub fieldsFit : Keys → Kind → List ℕ → Bool

@@ -1,6 +1,8 @@
 // Number 24: what the judge asks of the data room and of the reader's own message.
 use super::Keys;
 use frames::Kind;
+use frames::ProtMode;
+use frames::ProtModeField;
 use frames::fields::iam1_of;
 use frames::fields::iam2_of;
 use frames::fields::iam3_of;
@@ -8,28 +10,34 @@ use frames::fields::mam1_of;
 use frames::fields::mam2_of;
 use frames::fields::tam1_of;
 use frames::fields::tam2_of;
+use frames::modes::has_mac;
+use frames::modes::prot_mode;
+use frames::sizes::DATA_ROOM;
 use frames::sizes::length_fits;
-use payload::has_mac;
 ghost use mathlib.Core.Path.{_≡_};
 ghost use Rattle.ground.specs.Choice.{both};
 ghost use Rattle.frames.specs.Messages.{rfuFits};
-ghost use Rattle.reader.specs.Own.{modeFits, fieldsFit, ownFits};
+ghost use Rattle.reader.specs.Own.{modeServed, modeFits, fieldsFit, ownFits};
 
-/// The bytes that a data room has at least.
-const ROOM: usize = 144;
+// Where the mode has a MAC, is there a key for it?
+fn mode_served(keys: Keys, mode: ProtMode) -> bool
+    ensures { λ r. ⌜ r ≡ modeServed keys mode ⌝ }
+{
+    if has_mac(mode) {
+        return keys.mac;
+    }
+    true
+}
 
 /// Is the ProtMode one that the reader can judge? Ruled out: ProtMode 4 taken; ProtMode 2 taken without a key for the
 /// MAC.
 pub fn mode_fits(keys: Keys, protmode: u8) -> bool
     ensures { λ r. ⌜ r ≡ modeFits keys protmode ⌝ }
 {
-    if 3 < protmode {
-        return false;
+    match prot_mode(protmode) {
+        ProtModeField::Mode(mode) => mode_served(keys, mode),
+        ProtModeField::NoMode => false,
     }
-    if !has_mac(protmode) {
-        return true;
-    }
-    keys.mac
 }
 
 // RFU and ProtMode of TAM2 and IAM3.
@@ -86,7 +94,7 @@ fn fields_fit(keys: Keys, kind: Kind, m: &[u8]) -> bool
 pub fn own_fits(keys: Keys, kind: Kind, m: &[u8], room: usize) -> bool
     ensures { λ r. ⌜ r ≡ ownFits keys kind (now (m .entry)) room ⌝ }
 {
-    if room < ROOM {
+    if room < DATA_ROOM {
         return false;
     }
     if !length_fits(kind, m) {

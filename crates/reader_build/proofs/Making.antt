@@ -4,23 +4,26 @@ use mathlib.Core.Bool.{Bool, true, false}
 use mathlib.Core.List.{List, _++_}
 use Prim.Native.Nat.{ℕ, _≤_, _<_}
 use native.Mathlib.Omega.{arith}
-use borrow.Author.Tests.{le-leb, lt-leb, lt-ltb, le-ltb, leb-true, eqb-true}
+use borrow.Author.Tests.{le-leb, lt-leb, lt-ltb, le-ltb, eqb-true}
 use lib.Dec.{eqb, leb}
 use lib.ListN.{length, drop}
-use Rattle.ground.specs.Choice.{pick, both, implies}
+use Rattle.ground.specs.Choice.{pick, both}
 use Rattle.modes.specs.Room.{over}
 use Rattle.frames.specs.declared.Custom.{Custom}
 use Rattle.frames.specs.Blocks.{dataLength}
 use Rattle.frames.specs.Built.{Built}
 use Rattle.frames.specs.Fields.{customFits}
-use Rattle.frames.specs.Lengths.{hasMac, messageRoom}
+use Rattle.frames.specs.Lengths.{messageRoom}
 use Rattle.frames.specs.Messages.{selectFits}
+use Rattle.frames.specs.Modes.{protModeOf}
+use Rattle.frames.specs.declared.ProtModeField.the-variants.{NoMode}
 use Rattle.frames.proofs.Range.{both-left, both-right}
 use Rattle.reader.specs.declared.Keys.{Keys}
 use Rattle.reader_build.specs.declared.Made.{Made}
 use Rattle.reader_build.specs.declared.Made.the-variants.{Message, Refused}
 use Rattle.reader.specs.declared.Fault.the-variants.{OwnMessage}
-use Rattle.reader.specs.Own.{modeFits}
+use Rattle.frames.proofs.ProtModes.{says, mode-below}
+use Rattle.reader.specs.Own.{modeServed, modeFits}
 use Rattle.reader_build.specs.Builds.{purposeFits, dataFits, iam3Fits}
 use Rattle.reader_build.specs.Makes.{Makes, madeNumber, taken}
 
@@ -86,9 +89,15 @@ purpose-in purpose h = sym (lt-ltb purpose 16 h)
 -- ---- ProtMode
 
 module _ (keys : Keys) (protmode : ℕ) where
-  pub mode-range : modeFits keys protmode ≡ true → protmode ≤ 3
+  pub mode-range : modeFits keys protmode ≡ true → protmode < 4
   unfolding modeFits
-  mode-range e = leb-true protmode 3 (both-left (leb protmode 3) (implies (hasMac protmode) (keys .mac)) e)
+  mode-range e =
+      let s = says protmode (modeServed keys) e in
+      mode-below protmode (s .mode) (s .named)
+
+  pub no-mode : protModeOf protmode ≡ NoMode → modeFits keys protmode ≡ false
+  unfolding modeFits
+  no-mode none = rw none
 
   -- what frames asks of the fields, once the ProtMode fits
   pub select-fit : (custom : Custom) → modeFits keys protmode ≡ true

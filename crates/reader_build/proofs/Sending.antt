@@ -22,12 +22,14 @@ use Rattle.frames.specs.declared.Iam3.{Iam3}
 use Rattle.frames.specs.Blocks.{blocksLength}
 use Rattle.frames.specs.Built.{Built}
 use Rattle.frames.specs.Fields.{selectBytes}
-use Rattle.frames.specs.Lengths.{hasMac, macLength, iam3MacAt, iam3Length, messageRoom}
+use Rattle.frames.specs.declared.ProtMode.{ProtMode}
+use Rattle.frames.specs.Modes.{encrypts, hasMac}
+use Rattle.frames.specs.Lengths.{macLength, iam3MacAt, iam3Length, messageRoom}
 use Rattle.frames.specs.Messages.{iam3Head, selectFits}
 use Rattle.frames.proofs.Bounds.{mac-bound}
 use Rattle.frames.proofs.Range.{select-range}
 use Rattle.frames.proofs.Shape.{iam3-head}
-use Rattle.payload.specs.Protected.{encrypts, macTakes, withMac}
+use Rattle.payload.specs.Protected.{macTakes, withMac}
 use Rattle.payload.proofs.Data.{blocks-fit}
 use Rattle.payload.proofs.Lengths.{enc-joined, blocks-whole}
 use Rattle.payload.proofs.Macs.{with-mac-long}
@@ -38,10 +40,10 @@ use Rattle.reader_build.specs.Builds.{sentData, iam3Response, iam3Whole}
 
 -- ---- the data as they are sent
 
-module _ (protmode : ℕ) (b : Bool) (enc a p room after : List ℕ) (told : b ≡ encrypts protmode) where
+module _ (mode : ProtMode) (b : Bool) (enc a p room after : List ℕ) (told : b ≡ encrypts mode) where
   pub data-chained : (answer : Chaining) → b ≡ true → length p % 16 ≡ 0 → length p ≤ length room
       → Into (chains (length p) (length room)) (cbcEncAesInv a enc p) room answer after
-      → after ≡ over (sentData enc protmode a p) room
+      → after ≡ over (sentData enc mode a p) room
   unfolding sentData
   data-chained answer t w h i =
       i .leaves ∙ ap (λ (x : Bool). pick x (over (cbcEncAesInv a enc p) room) room)
@@ -49,7 +51,7 @@ module _ (protmode : ℕ) (b : Bool) (enc a p room after : List ℕ) (told : b �
       ∙ ap (λ (x : Bool). over (pick x (cbcEncAesInv a enc p) p) room) (sym t ∙ told)
 
   pub data-plain : b ≡ false → after ≡ take (length p) p ++ drop (length p) room
-      → after ≡ over (sentData enc protmode a p) room
+      → after ≡ over (sentData enc mode a p) room
   unfolding sentData
   data-plain f e = copied p room after e ∙ ap (λ (x : Bool). over (pick x (cbcEncAesInv a enc p) p) room) (sym f ∙ told)
 
@@ -67,44 +69,44 @@ chosen-long : (b : Bool) (a enc p : List ℕ) → length p % 16 ≡ 0 → length
 chosen-long true a enc p e = chained-long a enc p e
 chosen-long false a enc p e = refl
 
-pub data-sent-long : (protmode : ℕ) (enc a p : List ℕ) → length p % 16 ≡ 0
-    → length (sentData enc protmode a p) ≡ length p
+pub data-sent-long : (mode : ProtMode) (enc a p : List ℕ) → length p % 16 ≡ 0
+    → length (sentData enc mode a p) ≡ length p
 unfolding sentData
-data-sent-long protmode enc a p = chosen-long (encrypts protmode) a enc p
+data-sent-long mode enc a p = chosen-long (encrypts mode) a enc p
 
-module _ (keys : Keys) (protmode : ℕ) (a p : List ℕ) (sixteen : length a ≡ 16) (whole : length p % 16 ≡ 0) where
+module _ (keys : Keys) (mode : ProtMode) (a p : List ℕ) (sixteen : length a ≡ 16) (whole : length p % 16 ≡ 0) where
   -- A and the data
   abbrev covered : List ℕ
-  covered = a ++ sentData (keys .enc) protmode a p
+  covered = a ++ sentData (keys .enc) mode a p
 
   covered-long : length covered ≡ 16 + length p
   covered-long = omega (
     arith,
-    length-append a (sentData (keys .enc) protmode a p),
-    data-sent-long protmode
+    length-append a (sentData (keys .enc) mode a p),
+    data-sent-long mode
         (keys .enc) a p whole,
   )
 
-  pub response-long : length (iam3Response keys protmode a p) ≡ 16 + length p + macLength protmode
+  pub response-long : length (iam3Response keys mode a p) ≡ 16 + length p + macLength mode
   unfolding iam3Response
-  response-long = with-mac-long protmode (keys .mackey) covered ∙ ap (λ (k : ℕ). k + macLength protmode) covered-long
+  response-long = with-mac-long mode (keys .mackey) covered ∙ ap (λ (k : ℕ). k + macLength mode) covered-long
 
   -- ---- IResponse
 
-  mac-taken : (n : ℕ) → n ≡ 16 + length p → macTakes protmode n ≡ true
+  mac-taken : (n : ℕ) → n ≡ 16 + length p → macTakes mode n ≡ true
   unfolding macTakes
-  mac-taken n e = ap (implies (hasMac protmode)) (room-for-mac n 12 (omega arith) (omega arith) (omega arith))
-      ∙ any (hasMac protmode)
+  mac-taken n e = ap (implies (hasMac mode)) (room-for-mac n 12 (omega arith) (omega arith) (omega arith))
+      ∙ any (hasMac mode)
     where
       any : (b : Bool) → implies b true ≡ true
       any true = refl
       any false = refl
 
   module _ (room : List ℕ) (first : take 16 room ≡ a) (h : 28 + length p ≤ length room) where
-    data-laid : (z : List ℕ) → z ≡ over (sentData (keys .enc) protmode a p) (take (length room - 16) (drop 16 room))
+    data-laid : (z : List ℕ) → z ≡ over (sentData (keys .enc) mode a p) (take (length room - 16) (drop 16 room))
         → take 16 room ++ (z ++ drop (length room - 16) (drop 16 room)) ≡ over covered room
     data-laid z e =
-        let x = sentData (keys .enc) protmode a p in
+        let x = sentData (keys .enc) mode a p in
         tail-back 16 room x z e ∙ over-behind 16 x room (omega arith) ∙ ap (λ (l : List ℕ). over (l ++ x) room) first
 
     over-long : length (over covered room) ≡ length room
@@ -117,21 +119,21 @@ module _ (keys : Keys) (protmode : ℕ) (a p : List ℕ) (sixteen : length a ≡
     )
 
     pub response-laid : (n : ℕ) (z after : List ℕ) (answer : Bool) → n ≡ 16 + length p
-        → z ≡ over (sentData (keys .enc) protmode a p) (take (length room - 16) (drop 16 room))
+        → z ≡ over (sentData (keys .enc) mode a p) (take (length room - 16) (drop 16 room))
         → (let r = take 16 room ++ (z ++ drop (length room - 16) (drop 16 room)) in
-        Built (macTakes protmode n) (n + macLength protmode)
-        (withMac (keys .mackey) protmode (take n r)) r answer after)
-        → after ≡ over (iam3Response keys protmode a p) room
+        Built (macTakes mode n) (n + macLength mode)
+        (withMac (keys .mackey) mode (take n r)) r answer after)
+        → after ≡ over (iam3Response keys mode a p) room
     unfolding iam3Response withMac
     response-laid n z after answer e f b =
         let r = take 16 room ++ (z ++ drop (length room - 16) (drop 16 room)) in
         let q : r ≡ over covered room = data-laid z f in
         let l : length r ≡ length room = ap length q ∙ over-long in
         let t : length (take n r) ≡ n = length-take-le n r (omega arith) in
-        built-over (macTakes protmode n) (n + macLength protmode) (withMac (keys .mackey) protmode (take n r)) r
-        (mac-taken n e) (omega (arith, mac-bound protmode))
-        (with-mac-long protmode (keys .mackey) (take n r) ∙ ap (λ (k : ℕ). k + macLength protmode) t) after answer b
-        ∙ front-finished covered room r n (λ s. pick (hasMac protmode) (cmac96 (keys .mackey) s) [])
+        built-over (macTakes mode n) (n + macLength mode) (withMac (keys .mackey) mode (take n r)) r
+        (mac-taken n e) (omega (arith, mac-bound mode))
+        (with-mac-long mode (keys .mackey) (take n r) ∙ ap (λ (k : ℕ). k + macLength mode) t) after answer b
+        ∙ front-finished covered room r n (λ s. pick (hasMac mode) (cmac96 (keys .mackey) s) [])
         (covered-long ∙ sym e) q
 
 -- ---- the whole
@@ -151,7 +153,7 @@ made-anew h d room k l m =
     ap₂ {C = List ℕ} (λ x y. x ++ (d ++ y)) (take-append-le k h (drop (length h) room) l) rest
     ∙ sym (append-assoc (take k h) d (drop (length (take k h ++ d)) room))
 
-module _ (keys : Keys) (custom : Custom) (protmode : ℕ) (a p : List ℕ) (sixteen : length a ≡ 16)
+module _ (keys : Keys) (custom : Custom) (protmode : ℕ) (mode : ProtMode) (a p : List ℕ) (sixteen : length a ≡ 16)
     (blocks : length p ≡ blocksLength (custom .blocksize) true (custom .blockcount)) where
   -- the fields, and the first block
   abbrev head : Iam3
@@ -160,8 +162,8 @@ module _ (keys : Keys) (custom : Custom) (protmode : ℕ) (a p : List ℕ) (sixt
   pub whole-blocks : length p % 16 ≡ 0
   whole-blocks = ap (λ (k : ℕ). k % 16) blocks ∙ blocks-whole (custom .blocksize) true (custom .blockcount)
 
-  pub whole-long : length (iam3Whole keys custom protmode a p) ≡ iam3Length (custom .blocksize)
-      (custom .blockcount) protmode
+  pub whole-long : length (iam3Whole keys custom protmode mode a p) ≡ iam3Length (custom .blocksize)
+      (custom .blockcount) mode
   unfolding iam3Whole iam3Length iam3MacAt
   whole-long =
       let t : length (take 4 (iam3Head head)) ≡ 4 =
@@ -169,8 +171,8 @@ module _ (keys : Keys) (custom : Custom) (protmode : ℕ) (a p : List ℕ) (sixt
       omega (
         arith,
         length-append (take 4 (iam3Head head))
-            (iam3Response keys protmode a p),
-        response-long keys protmode a p sixteen whole-blocks,
+            (iam3Response keys mode a p),
+        response-long keys mode a p sixteen whole-blocks,
       )
 
   module _ (room r : List ℕ) (answer : Bool) (fit : selectFits 0 custom protmode ≡ true) (h : messageRoom ≤ length room)
@@ -203,12 +205,12 @@ module _ (keys : Keys) (custom : Custom) (protmode : ℕ) (a p : List ℕ) (sixt
           let t = length-take-le (length r - 4) (drop 4 r) (omega (arith, length-drop 4 r)) in
           omega (arith, l, m, t)
 
-      pub whole-laid : (z : List ℕ) → z ≡ over (iam3Response keys protmode a p) (take (length r - 4) (drop 4 r))
-          → take 4 r ++ (z ++ drop (length r - 4) (drop 4 r)) ≡ over (iam3Whole keys custom protmode a p) room
+      pub whole-laid : (z : List ℕ) → z ≡ over (iam3Response keys mode a p) (take (length r - 4) (drop 4 r))
+          → take 4 r ++ (z ++ drop (length r - 4) (drop 4 r)) ≡ over (iam3Whole keys custom protmode mode a p) room
       unfolding iam3Whole
       whole-laid z e =
-          let d = iam3Response keys protmode a p in
+          let d = iam3Response keys mode a p in
           let n = iam3-head head sixteen in
           tail-back 4 r d z e ∙ ap (λ (l : List ℕ). take 4 l ++ over d (drop 4 l)) head-laid
           ∙ made-anew (iam3Head head) d room 4 (omega arith)
-          (omega (arith, response-long keys protmode a p sixteen whole-blocks))
+          (omega (arith, response-long keys mode a p sixteen whole-blocks))

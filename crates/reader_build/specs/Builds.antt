@@ -1,7 +1,7 @@
 -- The messages that the reader's side builds, from fields and keys. RFU is always zero.
 use Prim.Native.Nat.{ℕ}
 use mathlib.Core.Bool.{Bool, true}
-use mathlib.Core.List.{List, _++_}
+use mathlib.Core.List.{List, [], _++_}
 use lib.Dec.{eqb, ltb}
 use lib.ListN.{take, drop}
 use Rattle.ground.specs.Choice.{pick, both}
@@ -15,7 +15,9 @@ use Rattle.frames.specs.Lengths.{iam3FieldsLength}
 use Rattle.frames.specs.Messages.{tam1Message, tam2Message, iam1Message, iam2Message, iam3Head, mam1Message}
 use Rattle.frames.specs.Messages.{mam2Message}
 use Rattle.payload.specs.Data.{carriedData}
-use Rattle.payload.specs.Protected.{encrypts, withMac}
+use Rattle.frames.specs.declared.ProtMode.{ProtMode}
+use Rattle.frames.specs.Modes.{encrypts, inMode, protModeOf}
+use Rattle.payload.specs.Protected.{withMac}
 use Rattle.reader.specs.declared.Keys.{Keys}
 use Rattle.reader.specs.Own.{modeFits}
 
@@ -78,28 +80,34 @@ mam2Made keys purpose ichallenge tchallenge =
     })
 
 -- 9.5.8.1 b): header, data and filler as they are, or chained to the AuthenticationBlock A by CBC_ENC_AES_INV (Table 3)
-unfoldable pub sentData : List ℕ → ℕ → List ℕ → List ℕ → List ℕ
-sentData enc protmode a p = pick (encrypts protmode) (cbcEncAesInv a enc p) p
+unfoldable pub sentData : List ℕ → ProtMode → List ℕ → List ℕ → List ℕ
+sentData enc mode a p = pick (encrypts mode) (cbcEncAesInv a enc p) p
 
 -- 9.5.8.1: the three parts of IResponse: A, the data, and in ProtModes 2 and 3 the MAC over both as they are sent
-unfoldable pub iam3Response : Keys → ℕ → List ℕ → List ℕ → List ℕ
-iam3Response keys protmode a p = withMac (keys .mackey) protmode (a ++ sentData (keys .enc) protmode a p)
+unfoldable pub iam3Response : Keys → ProtMode → List ℕ → List ℕ → List ℕ
+iam3Response keys mode a p = withMac (keys .mackey) mode (a ++ sentData (keys .enc) mode a p)
 
--- 9.5.8, Table 18: the fields of four bytes, and IResponse
-unfoldable pub iam3Whole : Keys → Custom → ℕ → List ℕ → List ℕ → List ℕ
-iam3Whole keys custom protmode a p =
+-- 9.5.8, Table 18: the fields of four bytes, and IResponse in its mode
+unfoldable pub iam3Whole : Keys → Custom → ℕ → ProtMode → List ℕ → List ℕ → List ℕ
+iam3Whole keys custom protmode mode a p =
     take iam3FieldsLength (iam3Head (record {
       rfu = 0;
       custom = custom;
       protmode = protmode;
       iresponse =
           a;
-    })) ++ iam3Response keys protmode a p
+    })) ++ iam3Response keys mode a p
 
+unfoldable pub iam3InMode : Keys → Custom → ℕ → ℕ → List ℕ → List ℕ → List ℕ → ProtMode → List ℕ
+iam3InMode keys custom protmode purpose irnd tchallenge words mode =
+    iam3Whole keys custom protmode mode
+    (response (keys .enc) (withPurpose (iam3Constant mode) purpose) irnd tchallenge)
+    (carriedData true custom words)
+
+-- where the field says no mode, there is no such message
 unfoldable pub iam3Made : Keys → Custom → ℕ → ℕ → List ℕ → List ℕ → List ℕ → List ℕ
 iam3Made keys custom protmode purpose irnd tchallenge words =
-    iam3Whole keys custom protmode (response (keys .enc) (withPurpose (iam3Constant protmode) purpose) irnd tchallenge)
-    (carriedData true custom words)
+    inMode (protModeOf protmode) (iam3InMode keys custom protmode purpose irnd tchallenge words) []
 
 -- what must be fit for it, with n bytes of data
 unfoldable pub iam3Fits : Keys → Custom → ℕ → ℕ → ℕ → Bool

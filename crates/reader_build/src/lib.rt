@@ -9,6 +9,8 @@ use frames::Iam1;
 use frames::Iam2;
 use frames::Mam1;
 use frames::Mam2;
+use frames::ProtMode;
+use frames::ProtModeField;
 use frames::Tam1;
 use frames::Tam2;
 use frames::build::iam1_into;
@@ -20,6 +22,9 @@ use frames::build::tam2_into;
 use frames::constants::iam2_constant;
 use frames::constants::iam3_constant;
 use frames::constants::mam2_constant;
+use frames::modes::prot_mode;
+use frames::sizes::DATA_ROOM;
+use frames::sizes::MESSAGE_ROOM;
 use frames::sizes::blocks_length;
 use frames::sizes::data_length;
 use payload::carried_into;
@@ -30,9 +35,12 @@ use sent::iam3_whole;
 use sent::response;
 ghost use mathlib.Core.Path.{_≡_};
 ghost use mathlib.Core.Bool.{true};
+ghost use Prim.Native.Nat.{_≤_};
 ghost use lib.ListN.{length};
 ghost use Rattle.ground.specs.Choice.{pick, both};
 ghost use Rattle.frames.specs.Fields.{customFits};
+ghost use Rattle.frames.specs.Lengths.{messageRoom};
+ghost use Rattle.frames.specs.Modes.{protModeOf};
 ghost use Rattle.reader.specs.Own.{modeFits};
 ghost use Rattle.reader_build.specs.Builds.{purposeFits, dataFits, iam3Fits};
 ghost use Rattle.reader_build.specs.Builds.{tam1Made, tam2Made, iam1Made, mam1Made, iam2Made, mam2Made, iam3Made};
@@ -72,7 +80,7 @@ fn iam3_fits(keys: Keys, custom: Custom, protmode: u8, purpose: u8, n: usize) ->
 pub fn tam1(keyid: u8, ichallenge: [u8; 10], room: &mut [u8]) -> Made
     ensures { λ r. ⌜ Makes true (tam1Made keyid ichallenge) (now (room .entry)) r (now (room .exit)) ⌝ }
 {
-    if room.len() < 176 {
+    if room.len() < MESSAGE_ROOM {
         return Made::Refused(Fault::OwnMessage);
     }
     answer(
@@ -101,7 +109,7 @@ pub fn tam2(
     ensures { λ r. ⌜ Makes (both (modeFits keys protmode) (customFits custom))
         (tam2Made keyid ichallenge rev custom protmode) (now (room .entry)) r (now (room .exit)) ⌝ }
 {
-    if room.len() < 176 {
+    if room.len() < MESSAGE_ROOM {
         return Made::Refused(Fault::OwnMessage);
     }
     if !mode_fits(keys, protmode) {
@@ -122,7 +130,7 @@ pub fn tam2(
 pub fn iam1(keyid: u8, room: &mut [u8]) -> Made
     ensures { λ r. ⌜ Makes true (iam1Made keyid) (now (room .entry)) r (now (room .exit)) ⌝ }
 {
-    if room.len() < 176 {
+    if room.len() < MESSAGE_ROOM {
         return Made::Refused(Fault::OwnMessage);
     }
     answer(iam1_into(Iam1 { rfu: 0, keyid }, room), 2)
@@ -132,7 +140,7 @@ pub fn iam1(keyid: u8, room: &mut [u8]) -> Made
 pub fn mam1(keyid: u8, ichallenge: [u8; 10], room: &mut [u8]) -> Made
     ensures { λ r. ⌜ Makes true (mam1Made keyid ichallenge) (now (room .entry)) r (now (room .exit)) ⌝ }
 {
-    if room.len() < 176 {
+    if room.len() < MESSAGE_ROOM {
         return Made::Refused(Fault::OwnMessage);
     }
     answer(
@@ -153,7 +161,7 @@ pub fn iam2(keys: Keys, purpose: u8, irnd: [u8; 4], tchallenge: [u8; 10], room: 
     ensures { λ r. ⌜ Makes (purposeFits purpose) (iam2Made keys purpose irnd tchallenge) (now (room .entry)) r
         (now (room .exit)) ⌝ }
 {
-    if room.len() < 176 {
+    if room.len() < MESSAGE_ROOM {
         return Made::Refused(Fault::OwnMessage);
     }
     if 16 <= purpose {
@@ -175,7 +183,7 @@ pub fn mam2(
     ensures { λ r. ⌜ Makes (purposeFits purpose) (mam2Made keys purpose ichallenge tchallenge) (now (room .entry)) r
         (now (room .exit)) ⌝ }
 {
-    if room.len() < 176 {
+    if room.len() < MESSAGE_ROOM {
         return Made::Refused(Fault::OwnMessage);
     }
     if 16 <= purpose {
@@ -185,6 +193,35 @@ pub fn mam2(
     let last = [ichallenge[6], ichallenge[7], ichallenge[8], ichallenge[9]];
     let iresponse = response(enc, mam2_constant(purpose), last, tchallenge);
     answer(mam2_into(Mam2 { rfu: 0, iresponse }, room), 17)
+}
+
+// IAM3 in its mode, where all but Profile, Offset and BlockCount fits.
+fn iam3_in_mode(
+    keys: Keys,
+    custom: Custom,
+    protmode: u8,
+    mode: ProtMode,
+    purpose: u8,
+    irnd: [u8; 4],
+    tchallenge: [u8; 10],
+    words: &[u8],
+    room: &mut [u8],
+) -> Made
+    requires { ⌜ (messageRoom ≤ length (now room)) × (protModeOf protmode ≡ ProtModeField.Mode mode)
+        × (both (modeFits keys protmode) (both (purposeFits purpose) (dataFits custom (length (now words)))) ≡ true) ⌝ }
+    ensures { λ r. ⌜ Makes (iam3Fits keys custom protmode purpose (length (now (words .entry))))
+        (iam3Made keys custom protmode purpose irnd tchallenge (now (words .entry))) (now (room .entry)) r
+        (now (room .exit)) ⌝ }
+{
+    let mut p = [0u8; DATA_ROOM];
+    if !carried_into(true, custom, words, &mut p) {
+        return Made::Refused(Fault::OwnMessage);
+    }
+    let enc = keys.enc;
+    let a = response(enc, iam3_constant(mode, purpose), irnd, tchallenge);
+    let blocksize = custom.blocksize;
+    let n = blocks_length(blocksize, true, custom.blockcount);
+    Made::Message(iam3_whole(keys, custom, protmode, mode, a, &p[..n], room))
 }
 
 /// IAM3 (9.5.4, 9.5.8). Ruled out: the MAC over the data before they are chained; fewer bytes of data than BlockCount
@@ -203,19 +240,20 @@ pub fn iam3(
         (iam3Made keys custom protmode purpose irnd tchallenge (now (words .entry))) (now (room .entry)) r
         (now (room .exit)) ⌝ }
 {
-    if room.len() < 176 {
+    if room.len() < MESSAGE_ROOM {
         return Made::Refused(Fault::OwnMessage);
     }
     if !iam3_fits(keys, custom, protmode, purpose, words.len()) {
         return Made::Refused(Fault::OwnMessage);
     }
-    let mut p = [0u8; 144];
-    if !carried_into(true, custom, words, &mut p) {
-        return Made::Refused(Fault::OwnMessage);
+    match prot_mode(protmode) {
+        ProtModeField::Mode(mode) => {
+            return iam3_in_mode(
+                keys, custom, protmode, mode, purpose, irnd, tchallenge, words, room,
+            );
+        }
+        ProtModeField::NoMode => {
+            return Made::Refused(Fault::OwnMessage);
+        }
     }
-    let enc = keys.enc;
-    let a = response(enc, iam3_constant(protmode, purpose), irnd, tchallenge);
-    let blocksize = custom.blocksize;
-    let n = blocks_length(blocksize, true, custom.blockcount);
-    Made::Message(iam3_whole(keys, custom, protmode, a, &p[..n], room))
 }

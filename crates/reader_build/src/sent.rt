@@ -2,10 +2,11 @@
 // data and MAC.
 use frames::Custom;
 use frames::Iam3;
+use frames::ProtMode;
 use frames::build::iam3_into;
+use frames::modes::encrypts;
 use frames::sizes::iam3_length;
 use payload::block_of;
-use payload::encrypts;
 use payload::mac_behind;
 use reader::Keys;
 ghost use mathlib.Core.Path.{_≡_};
@@ -35,11 +36,11 @@ fn way(key: [u8; 16], block: [u8; 16]) -> [u8; 16]
 }
 
 // Header, data and filler as they are sent: chained to the block a by AES-DEC, or as they are (Table 3).
-fn sent_data(enc: [u8; 16], protmode: u8, a: [u8; 16], p: &[u8], room: &mut [u8])
+fn sent_data(enc: [u8; 16], mode: ProtMode, a: [u8; 16], p: &[u8], room: &mut [u8])
     requires { ⌜ (length (now p) % 16 ≡ 0) × (length (now p) ≤ length (now room)) ⌝ }
-    ensures { λ _. ⌜ now (room .exit) ≡ over (sentData enc protmode a (now (p .entry))) (now (room .entry)) ⌝ }
+    ensures { λ _. ⌜ now (room .exit) ≡ over (sentData enc mode a (now (p .entry))) (now (room .entry)) ⌝ }
 {
-    if encrypts(protmode) {
+    if encrypts(mode) {
         modes_inverse::cbc_enc_aes_inv(a, enc, p, room);
         return;
     }
@@ -48,15 +49,15 @@ fn sent_data(enc: [u8; 16], protmode: u8, a: [u8; 16], p: &[u8], room: &mut [u8]
 
 // IResponse of IAM3 into a room that starts with the block a already: the data behind it, and the MAC over both
 // (9.5.8.1).
-fn iam3_response(keys: Keys, protmode: u8, a: [u8; 16], p: &[u8], room: &mut [u8])
+fn iam3_response(keys: Keys, mode: ProtMode, a: [u8; 16], p: &[u8], room: &mut [u8])
     requires { ⌜ (take 16 (now room) ≡ a) × (length (now p) % 16 ≡ 0) × (28 + length (now p) ≤ length (now room)) ⌝ }
-    ensures { λ _. ⌜ now (room .exit) ≡ over (iam3Response keys protmode a (now (p .entry))) (now (room .entry)) ⌝ }
+    ensures { λ _. ⌜ now (room .exit) ≡ over (iam3Response keys mode a (now (p .entry))) (now (room .entry)) ⌝ }
 {
     let enc = keys.enc;
     let mackey = keys.mackey;
     let n = 16 + p.len();
-    sent_data(enc, protmode, a, p, &mut room[16..]);
-    mac_behind(mackey, protmode, n, room);
+    sent_data(enc, mode, a, p, &mut room[16..]);
+    mac_behind(mackey, mode, n, room);
 }
 
 /// IAM3 with the block a and the D blocks p, over the room's first bytes; its length (9.5.8, Table 18).
@@ -65,6 +66,7 @@ pub fn iam3_whole(
     keys: Keys,
     custom: Custom,
     protmode: u8,
+    mode: ProtMode,
     a: [u8; 16],
     p: &[u8],
     room: &mut [u8],
@@ -72,8 +74,8 @@ pub fn iam3_whole(
     requires { ⌜ (selectFits 0 custom protmode ≡ true)
         × (length (now p) ≡ blocksLength (custom .blocksize) true (custom .blockcount))
         × (messageRoom ≤ length (now room)) ⌝ }
-    ensures { λ r. ⌜ (r ≡ length (iam3Whole keys custom protmode a (now (p .entry))))
-        × (now (room .exit) ≡ over (iam3Whole keys custom protmode a (now (p .entry))) (now (room .entry))) ⌝ }
+    ensures { λ r. ⌜ (r ≡ length (iam3Whole keys custom protmode mode a (now (p .entry))))
+        × (now (room .exit) ≡ over (iam3Whole keys custom protmode mode a (now (p .entry))) (now (room .entry))) ⌝ }
 {
     let f = Iam3 {
         rfu: 0,
@@ -82,7 +84,7 @@ pub fn iam3_whole(
         iresponse: a,
     };
     iam3_into(f, &mut *room);
-    iam3_response(keys, protmode, a, p, &mut room[4..]);
+    iam3_response(keys, mode, a, p, &mut room[4..]);
     let blocksize = custom.blocksize;
-    iam3_length(blocksize, custom.blockcount, protmode)
+    iam3_length(blocksize, custom.blockcount, mode)
 }

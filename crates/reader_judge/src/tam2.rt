@@ -50,7 +50,7 @@ fn open_and_judge(keys: Keys, f: Tam2, reply: &[u8], room: &mut [u8]) -> Judgeme
     ensures { λ r. ⌜ Judges (dataFinding f (openedData keys f (now (reply .entry)))) (now (room .entry)) r
         (now (room .exit)) ⌝ }
 {
-    let mut clear = [0u8; 144];
+    let mut clear = [0u8; DATA_ROOM];
     open_data(keys, f, reply, &mut clear);
     let custom = f.custom;
     let size = custom.blocksize;

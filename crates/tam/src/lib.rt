@@ -3,6 +3,7 @@
 use frames::Kind;
 use frames::fields::tam1_of;
 use frames::fields::tam2_of;
+use frames::sizes::REPLY_ROOM;
 use offer::Fault;
 use offer::Outcome;
 use offer::Verdict;
@@ -21,7 +22,7 @@ mod replies; // replies.rt: what the tag sends
 /// What a TAM message comes to: the outcome, and the reply, as many bytes as the outcome says with zeros behind them.
 pub struct Given {
     pub outcome: Outcome,
-    pub reply: [u8; 172],
+    pub reply: [u8; REPLY_ROOM],
 }
 
 // A refusal sends nothing.
@@ -30,7 +31,7 @@ fn refused(fault: Fault) -> Given
 {
     Given {
         outcome: Outcome::Refused(fault),
-        reply: [0u8; 172],
+        reply: [0u8; REPLY_ROOM],
     }
 }
 
@@ -49,7 +50,7 @@ pub fn tam1(keys: &[u8], message: &[u8], draws: [u8; 10]) -> Given
     let found = keytable::find(keys, f.keyid);
     let key = found.key;
     let block = replies::tam1_reply(key, f, draws);
-    let mut reply = [0u8; 172];
+    let mut reply = [0u8; REPLY_ROOM];
     bytes::copy(&block, &mut reply);
     Given {
         outcome: Outcome::Replied(16),
@@ -82,7 +83,7 @@ pub fn tam2<'a>(
     let custom = f.custom;
     let profiles = terms.profiles;
     let words = memory::window(identity, user, records::words_asked(profiles, custom));
-    let mut reply = [0u8; 172];
+    let mut reply = [0u8; REPLY_ROOM];
     let n = replies::tam2_reply(key, f, words, draws, &mut reply);
     Given {
         outcome: Outcome::Replied(n),

@@ -6,6 +6,8 @@ use frames::Tam1;
 use frames::Tam2;
 use frames::modes::encrypts;
 use frames::modes::prot_mode;
+use frames::sizes::DATA_MOST;
+use frames::sizes::DATA_ROOM;
 use frames::sizes::data_length;
 use sheet::Key;
 ghost use mathlib.Core.Path.{_≡_};
@@ -71,16 +73,16 @@ fn authenticated(enc: [u8; 16], mode: ProtMode, a: [u8; 16], p: &[u8], room: &mu
 
 // Header, words and zeros (9.2), with zeros behind. A block past the end of its area, which no sheet allows, has no
 // words: zeros stand in their place.
-fn carried(rev: bool, custom: Custom, words: &[u8]) -> [u8; 144]
+fn carried(rev: bool, custom: Custom, words: &[u8]) -> [u8; DATA_ROOM]
     requires { ⌜ (customFits custom ≡ true)
         × (length (now words) ≤ dataLength (custom .blocksize) (custom .blockcount)) ⌝ }
     ensures { λ r. ⌜ r ≡ over (carriedData rev custom (now (words .entry))) (replicate 144 0) ⌝ }
 {
-    let mut whole = [0u8; 128];
+    let mut whole = [0u8; DATA_MOST];
     bytes::copy(words, &mut whole);
     let size = custom.blocksize;
     let n = data_length(size, custom.blockcount);
-    let mut p = [0u8; 144];
+    let mut p = [0u8; DATA_ROOM];
     payload::carried_into(rev, custom, &whole[..n], &mut p);
     p
 }

@@ -30,7 +30,7 @@ same-length c = search needs
 returns : tie.Need-returns
 returns c =
     let a = c .before .before .before .before .before .before .before .before .before .before .before .before in
-    response-laid (a .args .keys) (a .args .protmode) (a .args .a) (a .args .p .now)
+    response-laid (a .args .keys) (a .args .mode) (a .args .a) (a .args .p .now)
     (array-length 16 (a .args .a) _ (a .good .1 .1 .0)) (a .pre .1) (a .args .room .now) (a .pre .0)
     (a .pre .2) _ _ _ _ refl
     (c .before .before .before .before .before .before .sent-data .ensures) (c .before .before .mac-behind .ensures)

@@ -16,7 +16,7 @@ same-length c = search needs
 returns : tie.Need-returns
 returns c =
     let a = c .before .before .before .before .before .before .before .before in
-    data-chained (a .args .protmode) _ (a .args .enc) (a .args .a) (a .args .p .now) (a .args .room .now) _
+    data-chained (a .args .mode) _ (a .args .enc) (a .args .a) (a .args .p .now) (a .args .room .now) _
     (c .before .before .before .before .before .encrypts .ensures) _ (c .before .before .before .before .if1 .taken)
     (a .pre .0) (a .pre .1) (c .before .before .cbc-enc-aes-inv .ensures)
 
@@ -29,7 +29,7 @@ same-length-2 c = search needs
 returns-2 : tie.Need-returns-2
 returns-2 c =
     let a = c .before .before .before .before .before .before .before .before in
-    data-plain (a .args .protmode) _ (a .args .enc) (a .args .a) (a .args .p .now) (a .args .room .now) _
+    data-plain (a .args .mode) _ (a .args .enc) (a .args .a) (a .args .p .now) (a .args .room .now) _
     (c .before .before .before .before .before .encrypts .ensures) (c .before .before .before .before .if1 .left)
     (c .before .before .copy .ensures .1)
 
