@@ -27,15 +27,18 @@ use Rattle.frames.specs.Fields.{customFits, selectCustom}
 use Rattle.frames.specs.Lengths.{tam2MacAt, tam2ReplyLength}
 use Rattle.frames.specs.Messages.{tam2Of}
 use Rattle.payload.specs.Data.{wordsIn, headerFits, fillerFits}
-use Rattle.payload.specs.Protected.{encrypts}
+use Rattle.frames.specs.declared.ProtMode.{ProtMode}
+use Rattle.frames.specs.declared.ProtModeField.the-variants.{Mode, NoMode}
+use Rattle.frames.specs.Modes.{encrypts, protModeOf}
 use Rattle.payload.proofs.Data.{blocks-hold, blocks-fit}
 use Rattle.payload.proofs.Lengths.{blocks-whole, dec-joined}
 use Rattle.payload.proofs.Macs.{into-taken}
 use Rattle.payload.proofs.Overs.{over-taken}
 use Rattle.reader.specs.declared.Keys.{Keys}
+use Rattle.reader.specs.declared.Fault.the-variants.{OwnMessage}
 use Rattle.reader_judge.specs.declared.Judgement.{Judgement}
-use Rattle.reader_judge.specs.Findings.{carries, worthOf, saidOf, Judges}
-use Rattle.reader_judge.specs.Judged.{dataFinding}
+use Rattle.reader_judge.specs.Findings.{carries, refused, worthOf, saidOf, Judges}
+use Rattle.reader_judge.specs.Judged.{dataFinding, tam2InMode, tam2Finding}
 use Rattle.reader_judge.specs.Opened.{dataSent, openedData}
 use Rattle.ground.proofs.Checked.{passes, ends}
 use Rattle.reader_judge.proofs.Judging.{judges, judges-as}
@@ -43,15 +46,15 @@ use Rattle.reader_judge.proofs.Judging.{judges, judges-as}
 -- ---- lengths
 
 -- a reply of its length has the authentication block and the data before the MAC
-pub mac-place : (s : BlockSize) (rev : Bool) (n protmode k : ℕ) → k ≡ tam2ReplyLength s rev n protmode
+pub mac-place : (s : BlockSize) (rev : Bool) (n : ℕ) (mode : ProtMode) (k : ℕ) → k ≡ tam2ReplyLength s rev n mode
     → tam2MacAt s rev n ≤ k
 unfolding tam2ReplyLength
-mac-place s rev n protmode k e = omega arith
+mac-place s rev n mode k e = omega arith
 
-pub data-place : (s : BlockSize) (rev : Bool) (n protmode k : ℕ) → k ≡ tam2ReplyLength s rev n protmode
+pub data-place : (s : BlockSize) (rev : Bool) (n : ℕ) (mode : ProtMode) (k : ℕ) → k ≡ tam2ReplyLength s rev n mode
     → 16 + blocksLength s rev n ≤ k
 unfolding tam2ReplyLength tam2MacAt
-data-place s rev n protmode k e = omega arith
+data-place s rev n mode k e = omega arith
 
 pub rest-sent : (m : List ℕ) (a : ℕ) → take (length m - a) (drop a m) ≡ drop a m
 rest-sent m a = take-all (length m - a) (drop a m) (omega (arith, length-drop a m))
@@ -65,7 +68,7 @@ words-most rev c p fit =
 
 -- ---- what is opened
 
-module _ (keys : Keys) (f : Tam2) (reply : List ℕ)
+module _ (keys : Keys) (mode : ProtMode) (f : Tam2) (reply : List ℕ)
     (h : 16 + blocksLength (f .custom .blocksize) (f .rev) (f .custom .blockcount) ≤ length reply) where
   sent-long : length (dataSent f reply) ≡ blocksLength (f .custom .blocksize) (f .rev) (f .custom .blockcount)
   sent-long = length-take-le _ (drop 16 reply) (omega (arith, length-drop 16 reply))
@@ -73,11 +76,11 @@ module _ (keys : Keys) (f : Tam2) (reply : List ℕ)
   sent-whole : length (dataSent f reply) % 16 ≡ 0
   sent-whole = omega (arith, sent-long, blocks-whole (f .custom .blocksize) (f .rev) (f .custom .blockcount))
 
-  pub opened-long : length (openedData keys f reply) ≡ blocksLength (f .custom .blocksize) (f .rev)
+  pub opened-long : length (openedData keys mode f reply) ≡ blocksLength (f .custom .blocksize) (f .rev)
       (f .custom .blockcount)
   unfolding openedData cbcDecAesInv
   opened-long =
-      picked (encrypts (f .protmode)) _ _
+      picked (encrypts mode) _ _
       (dec-joined (aesDec (keys .enc)) (wholeBlocks (dataSent f reply)) (take 16 reply)
       ∙ omega (arith, whole-count (dataSent f reply), sent-whole, sent-long)) sent-long
     where
@@ -91,50 +94,50 @@ module _ (keys : Keys) (f : Tam2) (reply : List ℕ)
     sent : take (16 + r - 16) (drop 16 reply) ≡ dataSent f reply
     sent = let k : 16 + r - 16 ≡ r = omega arith in ap (λ (j : ℕ). take j (drop 16 reply)) (k ∙ e)
 
-    pub opened-chained : (iv : List ℕ) (answer : Chaining) → encrypts (f .protmode) ≡ true → iv ≡ firstBlock reply
+    pub opened-chained : (iv : List ℕ) (answer : Chaining) → encrypts mode ≡ true → iv ≡ firstBlock reply
         → Into (chains (length (take (16 + r - 16) (drop 16 reply))) (length room))
         (cbcDecAesInv iv (keys .enc) (take (16 + r - 16) (drop 16 reply))) room answer after
-        → after ≡ over (openedData keys f reply) room
+        → after ≡ over (openedData keys mode f reply) room
     unfolding openedData
     opened-chained iv answer t v i =
         let part = take (16 + r - 16) (drop 16 reply) in
         let l : length part ≡ length (dataSent f reply) = ap length sent in
         let whole : length part % 16 ≡ 0 = omega (arith, sent-whole) in
         let small : length part ≤ length room = omega (arith, sent-long) in
-        let opens : cbcDecAesInv (take 16 reply) (keys .enc) (dataSent f reply) ≡ openedData keys f reply = rw t in
+        let opens : cbcDecAesInv (take 16 reply) (keys .enc) (dataSent f reply) ≡ openedData keys mode f reply = rw t in
         into-taken (chains (length part) (length room)) (cbcDecAesInv iv (keys .enc) part) room after answer i
         (enough (length part) (length room) whole small)
         ∙ ap (λ (d : List ℕ). over d room) (ap₂ (λ (x y : List ℕ). cbcDecAesInv x (keys .enc) y)
         (v ∙ first-block-is reply (omega arith)) sent ∙ opens)
 
-    pub opened-plain : encrypts (f .protmode) ≡ false
+    pub opened-plain : encrypts mode ≡ false
         → after ≡ take (length (take (16 + r - 16) (drop 16 reply))) (take (16 + r - 16) (drop 16 reply)) ++ drop
         (length (take (16 + r - 16) (drop 16 reply))) room
-        → after ≡ over (openedData keys f reply) room
+        → after ≡ over (openedData keys mode f reply) room
     unfolding openedData
     opened-plain t q =
-        let opens : dataSent f reply ≡ openedData keys f reply = rw t in
+        let opens : dataSent f reply ≡ openedData keys mode f reply = rw t in
         copied (take (16 + r - 16) (drop 16 reply)) room after q ∙ ap (λ (d : List ℕ). over d room) (sent ∙ opens)
 
   -- the front of a room that holds it
   pub opened-front : (n : ℕ) (room after : List ℕ)
       → n ≡ blocksLength (f .custom .blocksize) (f .rev) (f .custom .blockcount)
-      → after ≡ over (openedData keys f reply) room
-      → take n after ≡ openedData keys f reply
-  opened-front n room after e q = ap (take n) q ∙ over-taken (openedData keys f reply) room n (opened-long ∙ sym e)
+      → after ≡ over (openedData keys mode f reply) room
+      → take n after ≡ openedData keys mode f reply
+  opened-front n room after e q = ap (take n) q ∙ over-taken (openedData keys mode f reply) room n (opened-long ∙ sym e)
 
 -- ---- what is handed over
 
-pub stored : (f : Tam2) (p words room after : List ℕ) (r : Judgement) → headerFits (f .rev) (f .custom) p ≡ true
+pub stored : (mode : ProtMode) (f : Tam2) (p words room after : List ℕ) (r : Judgement) → headerFits (f .rev) (f .custom) p ≡ true
     → fillerFits (f .rev) (f .custom) p ≡ true
-    → words ≡ wordsIn (f .rev) (f .custom) p → r ≡ saidOf (carries (worthOf (f .protmode)) words)
+    → words ≡ wordsIn (f .rev) (f .custom) p → r ≡ saidOf (carries (worthOf mode) words)
     → after ≡ take (length words) words ++ drop (length words) room
-    → Judges (dataFinding f p) room r after
+    → Judges (dataFinding mode f p) room r after
 unfolding dataFinding
-stored f p words room after r h k e s q =
+stored mode f p words room after r h k e s q =
     judges-as (passes _ _ _ _ h (passes _ _ _ _ k (ends _ _)))
-    (judges (carries (worthOf (f .protmode)) (wordsIn (f .rev) (f .custom) p)) room after r
-    (s ∙ ap (λ (l : List ℕ). saidOf (carries (worthOf (f .protmode)) l)) e)
+    (judges (carries (worthOf mode) (wordsIn (f .rev) (f .custom) p)) room after r
+    (s ∙ ap (λ (l : List ℕ). saidOf (carries (worthOf mode) l)) e)
     (copied words room after q ∙ ap (λ (l : List ℕ). over l room) e))
 
 -- the fields of a message of bytes fit their bits
@@ -146,3 +149,15 @@ tam2-in-range m h =
     let z = getD m 14 0 in
     ap₂ both (lt-ltb (x / 16) 16 (omega (arith, h 12)))
     (ap₂ both (lt-ltb (x % 16 * 256 + y) 4096 (omega (arith, h 12, h 13))) (lt-ltb (z / 16) 16 (omega (arith, h 14))))
+
+-- ---- the judgement is that of the mode
+
+module _ (keys : Keys) (f : Tam2) (reply : List ℕ) where
+  pub tam2-named : (mode : ProtMode) → protModeOf (f .protmode) ≡ Mode mode
+      → tam2Finding keys f reply ≡ tam2InMode keys f reply mode
+  unfolding tam2Finding
+  tam2-named mode named = rw named
+
+  pub tam2-unnamed : protModeOf (f .protmode) ≡ NoMode → tam2Finding keys f reply ≡ refused OwnMessage
+  unfolding tam2Finding
+  tam2-unnamed none = rw none

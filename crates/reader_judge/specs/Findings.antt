@@ -6,7 +6,8 @@ use mathlib.Core.List.{List, []}
 use lib.ListN.{length, replicate}
 use Rattle.ground.specs.Choice.{pick}
 use Rattle.modes.specs.Room.{over}
-use Rattle.frames.specs.Lengths.{hasMac}
+use Rattle.frames.specs.declared.ProtMode.{ProtMode}
+use Rattle.frames.specs.Modes.{hasMac}
 use Rattle.reader.specs.declared.Fault.{Fault}
 use Rattle.reader_judge.specs.declared.Worth.{Worth}
 use Rattle.reader_judge.specs.declared.Worth.the-variants.{NoData, Unproved, Proved}
@@ -35,8 +36,8 @@ nothingMore = silent Accepted
 
 -- Table 3: only a MAC proves data. In Rev 0 it proves the blocks as they were sent: no constant of its own says the
 -- ProtMode, and no header the address and the count.
-unfoldable pub worthOf : ℕ → Worth
-worthOf protmode = pick (hasMac protmode) Proved Unproved
+unfoldable pub worthOf : ProtMode → Worth
+worthOf mode = pick (hasMac mode) Proved Unproved
 
 abbrev pub carries : Worth → List ℕ → Finding
 carries w bytes = record { verdict = Accepted; bytes = bytes; worth = w; issued = false; challenge = replicate 10 0 }

@@ -17,6 +17,8 @@ use Rattle.frames.specs.Kinds.{kindOf}
 use Rattle.frames.specs.Lengths.{tam1ReplyLength, tam2ReplyLength, tam2MacAt, iam1ReplyLength, mam1ReplyLength}
 use Rattle.frames.specs.Lengths.{emptyReplyLength}
 use Rattle.frames.specs.Messages.{tam1Of, tam2Of, mam1Of}
+use Rattle.frames.specs.declared.ProtMode.{ProtMode}
+use Rattle.frames.specs.Modes.{inMode, protModeOf}
 use Rattle.payload.specs.Protected.{macFits}
 use Rattle.payload.specs.Data.{headerFits, fillerFits, wordsIn}
 use Rattle.reader.specs.declared.Keys.{Keys}
@@ -26,13 +28,13 @@ use Rattle.reader_judge.specs.Opened.{openedBlock, blockFits, challengeI
 use Rattle.reader.specs.Own.{ownFits}
 
 -- 9.2, 9.4.7.3: header, data and filler of TAM2, in the clear. The scope paper asks for zeros as filler in both Revs.
-unfoldable pub dataFinding : Tam2Fields → List ℕ → Finding
-dataFinding f p =
+unfoldable pub dataFinding : ProtMode → Tam2Fields → List ℕ → Finding
+dataFinding mode f p =
     judgedTo refused
     ((headerFits (f .rev) (f .custom) p else HeaderWrong)
     ∷ (fillerFits (f .rev) (f .custom) p else HeaderWrong)
     ∷ [])
-    (carries (worthOf (f .protmode)) (wordsIn (f .rev) (f .custom) p))
+    (carries (worthOf mode) (wordsIn (f .rev) (f .custom) p))
 
 -- 9.5.3, 9.5.4: the reply to IAM1 is the challenge.
 unfoldable pub iam1Finding : List ℕ → Finding
@@ -51,19 +53,23 @@ tam1Finding keys f reply =
     ∷ [])
     nothingMore
 
--- 9.4.7
-unfoldable pub tam2Finding : Keys → Tam2Fields → List ℕ → Finding
-tam2Finding keys f reply =
+-- 9.4.7, in the mode that the message asked for
+unfoldable pub tam2InMode : Keys → Tam2Fields → List ℕ → ProtMode → Finding
+tam2InMode keys f reply mode =
     let c = f .custom in
     let at = tam2MacAt (c .blocksize) (f .rev) (c .blockcount) in
-    let long = tam2ReplyLength (c .blocksize) (f .rev) (c .blockcount) (f .protmode) in
-    let constant = twoBytes (tam2Constant (f .rev) (f .protmode)) in
+    let long = tam2ReplyLength (c .blocksize) (f .rev) (c .blockcount) mode in
+    let constant = twoBytes (tam2Constant (f .rev) mode) in
     judgedTo refused
     ((eqb (length reply) long else ReplyLength)
     ∷ (blockFits constant (f .ichallenge) (openedBlock keys reply) else ChallengeWrong)
-    ∷ (macFits (keys .mackey) (f .protmode) (take at reply) (drop at reply) else MacWrong)
+    ∷ (macFits (keys .mackey) mode (take at reply) (drop at reply) else MacWrong)
     ∷ [])
-    (dataFinding f (openedData keys f reply))
+    (dataFinding mode f (openedData keys mode f reply))
+
+-- A message that asks for no mode is none of the table.
+unfoldable pub tam2Finding : Keys → Tam2Fields → List ℕ → Finding
+tam2Finding keys f reply = inMode (protModeOf (f .protmode)) (tam2InMode keys f reply) (refused OwnMessage)
 
 -- 9.6.3, 9.6.4
 unfoldable pub mam1Finding : Keys → Mam1Fields → List ℕ → Finding

@@ -11,7 +11,8 @@ use Rattle.frames.specs.declared.Tam2.{Tam2}
 use Rattle.frames.specs.Blocks.{blocksLength}
 use Rattle.frames.specs.Lengths.{authLength}
 use Rattle.payload.specs.Alike.{same}
-use Rattle.payload.specs.Protected.{encrypts}
+use Rattle.frames.specs.declared.ProtMode.{ProtMode}
+use Rattle.frames.specs.Modes.{encrypts}
 use Rattle.reader.specs.declared.Keys.{Keys}
 
 -- The block that a reply starts with, opened.
@@ -32,6 +33,6 @@ abbrev pub dataSent : Tam2 → List ℕ → List ℕ
 dataSent f reply = take (blocksLength (f .custom .blocksize) (f .rev) (f .custom .blockcount)) (drop authLength reply)
 
 -- 9.4.7: header, data and filler in the clear. The chain starts with the authentication block as it came.
-unfoldable pub openedData : Keys → Tam2 → List ℕ → List ℕ
-openedData keys f reply = pick (encrypts (f .protmode))
+unfoldable pub openedData : Keys → ProtMode → Tam2 → List ℕ → List ℕ
+openedData keys mode f reply = pick (encrypts mode)
     (cbcDecAesInv (take authLength reply) (keys .enc) (dataSent f reply)) (dataSent f reply)

@@ -1,8 +1,9 @@
 // What the reader opens of a reply (9.4.4, 9.4.7, 9.6.4).
+use frames::ProtMode;
 use frames::Tam2;
+use frames::modes::encrypts;
 use frames::sizes::blocks_length;
 use frames::sizes::tam2_mac_at;
-use payload::encrypts;
 use payload::same;
 use reader::Keys;
 ghost use mathlib.Core.Path.{_≡_};
@@ -55,15 +56,15 @@ pub fn challenge_in(b: [u8; 16], reply: &[u8]) -> [u8; 10]
 
 /// Header, data and filler of a TAM2 reply in the clear, over the first bytes of `out` (9.4.7).
 /// Ruled out: the chain started at the opened block; data that are opened in ProtMode 2.
-pub fn open_data(keys: Keys, f: Tam2, reply: &[u8], out: &mut [u8])
+pub fn open_data(keys: Keys, mode: ProtMode, f: Tam2, reply: &[u8], out: &mut [u8])
     requires { ⌜ (authLength + blocksLength (f .custom .blocksize) (f .rev) (f .custom .blockcount) ≤ length
         (now reply)) × (blocksLength (f .custom .blocksize) (f .rev) (f .custom .blockcount) ≤ length (now out)) ⌝ }
-    ensures { λ _. ⌜ now (out .exit) ≡ over (openedData keys f (now (reply .entry))) (now (out .entry)) ⌝ }
+    ensures { λ _. ⌜ now (out .exit) ≡ over (openedData keys mode f (now (reply .entry))) (now (out .entry)) ⌝ }
 {
     let custom = f.custom;
     let size = custom.blocksize;
     let end = 16 + blocks_length(size, f.rev, custom.blockcount);
-    if encrypts(f.protmode) {
+    if encrypts(mode) {
         let enc = keys.enc;
         let iv = field::first_block(reply);
         modes_inverse::cbc_dec_aes_inv(iv, enc, &reply[16..end], out);
@@ -74,9 +75,9 @@ pub fn open_data(keys: Keys, f: Tam2, reply: &[u8], out: &mut [u8])
 
 /// Where the ProtMode has a MAC: is it that of the authentication block and the data as they came (9.4.7.1)?
 /// Ruled out: a MAC over the data in the clear; one that leaves the authentication block out.
-pub fn mac_fits(keys: Keys, f: Tam2, reply: &[u8]) -> bool
+pub fn mac_fits(keys: Keys, mode: ProtMode, f: Tam2, reply: &[u8]) -> bool
     requires { ⌜ tam2MacAt (f .custom .blocksize) (f .rev) (f .custom .blockcount) ≤ length (now reply) ⌝ }
-    ensures { λ r. ⌜ r ≡ macFits (keys .mackey) (f .protmode)
+    ensures { λ r. ⌜ r ≡ macFits (keys .mackey) mode
         (take (tam2MacAt (f .custom .blocksize) (f .rev) (f .custom .blockcount)) (now (reply .entry)))
         (drop (tam2MacAt (f .custom .blocksize) (f .rev) (f .custom .blockcount)) (now (reply .entry))) ⌝ }
 {
@@ -84,5 +85,5 @@ pub fn mac_fits(keys: Keys, f: Tam2, reply: &[u8]) -> bool
     let size = custom.blocksize;
     let at = tam2_mac_at(size, f.rev, custom.blockcount);
     let mackey = keys.mackey;
-    payload::mac_fits(mackey, f.protmode, &reply[..at], &reply[at..])
+    payload::mac_fits(mackey, mode, &reply[..at], &reply[at..])
 }

@@ -2,7 +2,8 @@
 use super::Judgement;
 use super::Verdict;
 use super::Worth;
-use payload::has_mac;
+use frames::ProtMode;
+use frames::modes::has_mac;
 use reader::Fault;
 ghost use mathlib.Core.Path.{_≡_};
 ghost use Rattle.reader_judge.specs.Findings.{silent, refused, issues, carries, worthOf, saidOf};
@@ -41,20 +42,20 @@ pub fn issues(challenge: [u8; 10]) -> Judgement
 }
 
 // What data are worth: only a MAC proves them (Table 3).
-fn worth_of(protmode: u8) -> Worth
-    ensures { λ r. ⌜ r ≡ worthOf protmode ⌝ }
+fn worth_of(mode: ProtMode) -> Worth
+    ensures { λ r. ⌜ r ≡ worthOf mode ⌝ }
 {
-    if has_mac(protmode) {
+    if has_mac(mode) {
         return Worth::Proved;
     }
     Worth::Unproved
 }
 
 /// Data, and what they are worth. Ruled out: data of ProtMode 1 called proved; one byte fewer counted.
-pub fn carries(protmode: u8, words: &[u8]) -> Judgement
-    ensures { λ r. ⌜ r ≡ saidOf (carries (worthOf protmode) (now (words .entry))) ⌝ }
+pub fn carries(mode: ProtMode, words: &[u8]) -> Judgement
+    ensures { λ r. ⌜ r ≡ saidOf (carries (worthOf mode) (now (words .entry))) ⌝ }
 {
-    let worth = worth_of(protmode);
+    let worth = worth_of(mode);
     Judgement {
         verdict: Verdict::Accepted,
         data: words.len(),

@@ -36,7 +36,7 @@ returns c = let p = c .before .before .before .before in
     let a = p .before .before .before .args in
     let reply = a .reply .now in
     c .mac-fits .ensures
-    ∙ ap₂ (λ (x y : List ℕ). macFits (a .keys .mackey) (a .f .protmode) x y)
+    ∙ ap₂ (λ (x y : List ℕ). macFits (a .keys .mackey) (a .mode) x y)
     (ap (λ (k : ℕ). take k reply) (p .tam2-mac-at .ensures))
     (rest-sent reply (p .tam2-mac-at .result) ∙ ap (λ (k : ℕ). drop k reply) (p .tam2-mac-at .ensures))
 

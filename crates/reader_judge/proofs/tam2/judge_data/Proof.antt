@@ -58,7 +58,7 @@ returns-3 : tie.Need-returns-3
 returns-3 c = let w = c .before .before .before .before .before in
     let t = w .before .before .before in
     let a = t .before .before .before .before .before .args in
-    stored (a .f) (a .p .now) (w .words-in .result .now) (a .room .now) _ _
+    stored (a .mode) (a .f) (a .p .now) (w .words-in .result .now) (a .room .now) _ _
     (yes (t .before .header-fits .ensures) (t .if1 .left))
     (yes (w .before .before .filler-fits .ensures) (w .before .if2 .left))
     (w .words-in .ensures) (c .carries .ensures) (c .before .before .before .copy .ensures .1)

@@ -28,7 +28,7 @@ array-share-prefix-clear c = let s = c .before .before .before .before .before .
 slice-aggregate-judge-data : tie.Need-slice-aggregate-judge-data
 slice-aggregate-judge-data c = let s = c .before .before .before .before .before .before .before .before in
     sym (length-take-le (c .before .blocks-length .result)
-    (c .before .before .before .before .open-data .last .1 .1 .1 .0)
+    (c .before .before .before .before .open-data .last .1 .1 .1 .1 .0)
     (omega (arith, c .before .blocks-length .ensures, blocks-fit (s .args .f .rev) (s .args .f .custom) (s .pre .0))))
 
 judge-data-requires : tie.Need-judge-data-requires
@@ -41,9 +41,9 @@ returns : tie.Need-returns
 returns c = let b = c .before .before .before .before .before in
     let o = b .before .before .before in
     let s = o .before .before .before .before in
-    judges-as (ap (dataFinding (s .args .f)) (opened-front (s .args .keys) (s .args .f) (s .args .reply .now)
+    judges-as (ap (dataFinding (s .args .mode) (s .args .f)) (opened-front (s .args .keys) (s .args .mode) (s .args .f) (s .args .reply .now)
     (s .pre .1) (b .blocks-length .result)
-    (replicate 144 0) (o .open-data .last .1 .1 .1 .0) (b .blocks-length .ensures) (o .open-data .ensures)))
+    (replicate 144 0) (o .open-data .last .1 .1 .1 .1 .0) (b .blocks-length .ensures) (o .open-data .ensures)))
     (c .before .before .judge-data .ensures)
 
 pub open-and-judge-spec : {M : Type 1} → statement M
