@@ -21,7 +21,7 @@ use Rattle.tag.specs.Answers.{Answer, Call, answerOf}
 use Rattle.tag.specs.Plays.{Brought, Doing, Step, Wake, eventsOf}
 use Rattle.tag.specs.Reactions.{lent}
 use Rattle.tag.specs.Runs.{PowerUp, answerTo, run}
-use Rattle.tag.specs.States.{KeyedTag, keyed, poweredUp}
+use Rattle.tag.specs.States.{KeyedTag, holding, keyed, poweredUp}
 use Rattle.tag.proofs.Holding.{Holds, holds-fits, powered-up-holds, answer-holds}
 use Rattle.image.specs.Image.{kept, keyedIn, isTag}
 use Rattle.image.specs.Kept.{accepts, sheetImage, Fits}
@@ -67,7 +67,7 @@ module _ (sheet : List ℕ) (y : Bytes sheet) (e : Accepted keyLimit sheet) wher
   table = keyTable sheet (readOf keyLimit sheet .keys)
 
   abbrev tagOf : Session → KeyedTag
-  tagOf s = record { setup = saidOf keyLimit sheet; session = s }
+  tagOf s = holding (saidOf keyLimit sheet) s
 
   awake-holds : Holds (saidOf keyLimit sheet .keys) cleared
   unfolding poweredUp
@@ -98,10 +98,10 @@ module _ (sheet : List ℕ) (y : Bytes sheet) (e : Accepted keyLimit sheet) wher
         let c = lent (b .message) (b .draws) (b .room) identity user in
         let a = answerOf c (tagOf s) in
         let g = answered c in
-        let n : z .image ≡ sheetImage (a .session) sheet
+        let n : z .image ≡ sheetImage (a .tag .session) sheet
         = h .holds
-        ∙ ap₂ (λ (t : Bool) (d : Answer). pick t (kept (d .session) image) image) tag-there g
-        ∙ kept-again terms table (a .session) s (answer-fits c (tagOf s) w) w in
+        ∙ ap₂ (λ (t : Bool) (d : Answer). pick t (kept (d .tag .session) image) image) tag-there g
+        ∙ kept-again terms table (a .tag .session) s (answer-fits c (tagOf s) w) w in
         λ j. record {
           number = (h .number ∙ ap (λ (d : Answer). numberGiven (d .outcome)) g) j;
           told = (h .long ∙ ap (λ (d : Answer). replyLength (d .outcome)) g) j;
@@ -122,7 +122,7 @@ module _ (sheet : List ℕ) (y : Bytes sheet) (e : Accepted keyLimit sheet) wher
     -- as one call of a run
     woken : (identity user : List ℕ) (z : Left) → Wakes image identity user z
         → z ≡ leftOf sheet Wake (answerTo (tagOf s) identity user PowerUp)
-    unfolding answerTo
+    unfolding answerTo poweredUp
     woken identity user z h =
         λ j. record {
           number = (h .wakes .number ∙ ap (λ (t : Bool). pick t 0 7) tag-there) j;
@@ -145,7 +145,7 @@ module _ (sheet : List ℕ) (y : Bytes sheet) (e : Accepted keyLimit sheet) wher
       (k : Holds (saidOf keyLimit sheet .keys) s) (identity user : List ℕ)
       → CallsAll (sheetImage s sheet) identity user ds zs
       → zs ≡ leftAll sheet ds (run (tagOf s) identity user (eventsOf ds))
-  unfolding CallsAll leftAll run answerTo eventsOf
+  unfolding CallsAll leftAll run answerTo poweredUp eventsOf
   all-called [] [] s w k identity user h = refl
   all-called [] (z ∷ zs) s w k identity user h = absurd h
   all-called (d ∷ ds) [] s w k identity user h = absurd h

@@ -10,7 +10,7 @@ use Rattle.tag.specs.declared.Stepped.{Stepped}
 use Rattle.tag.specs.declared.Tag.{Tag}
 use Rattle.tag.specs.States.{keyed, awake}
 use Rattle.tag.specs.Answers.{Answer, answerOf}
-use Rattle.tag.specs.Reactions.{lent, nextTag, Steps}
+use Rattle.tag.specs.Reactions.{lent, steppedOf, Steps}
 use Rattle.tag.specs.Runs.{Sent, Event, Message, PowerUp}
 
 -- What the bench brings to a step, the room with its bytes.
@@ -34,7 +34,7 @@ pub record Left : Type 0 where
 -- One step of the code, by its contract.
 abbrev pub Called : List ℕ → Tag → List ℕ → List ℕ → Brought → Left → Type 0
 Called keys tag identity user b x =
-    Steps (answerOf (lent (b .message) (b .draws) (b .room) identity user) (keyed tag keys)) tag (b .room) (x .stepped)
+    Steps (answerOf (lent (b .message) (b .draws) (b .room) identity user) (keyed tag keys)) (b .room) (x .stepped)
     (x .room) (x .identity) (x .user)
 
 -- `power_up` has no room and is lent no area: it leaves its tag.
@@ -75,15 +75,15 @@ abbrev pub roomOf : Doing → List ℕ
 roomOf (Step b) = b .room
 roomOf Wake = []
 
-abbrev pub leftOf : Tag → Doing → Answer → Left
-leftOf tag d a = record {
-  stepped = record { outcome = a .outcome; tag = nextTag tag a };
+abbrev pub leftOf : Doing → Answer → Left
+leftOf d a = record {
+  stepped = steppedOf a;
   room = over (a .reply) (roomOf d);
   identity = a .identity;
   user = a .user;
 }
 
-unfoldable pub leftAll : Tag → List Doing → List Answer → List Left
-leftAll tag [] answers = []
-leftAll tag (d ∷ ds) [] = []
-leftAll tag (d ∷ ds) (a ∷ answers) = leftOf tag d a ∷ leftAll (nextTag tag a) ds answers
+unfoldable pub leftAll : List Doing → List Answer → List Left
+leftAll [] answers = []
+leftAll (d ∷ ds) [] = []
+leftAll (d ∷ ds) (a ∷ answers) = leftOf d a ∷ leftAll ds answers
