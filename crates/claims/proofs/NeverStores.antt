@@ -23,6 +23,7 @@ use Rattle.offer.specs.Judged.{benchChecks, openingChecks}
 use Rattle.tag.specs.Answers.{Answer, effectOf, answerOf, ofMessage, inOrder, byKind, iam1Answer, ifFine, replied}
 use Rattle.tag.specs.Answers.{refused, letIn}
 use Rattle.tag.specs.Runs.{answerTo, run}
+use Rattle.tag.specs.Reactions.{steppedOf}
 use Rattle.tag.specs.Plays.{Doing, Step, Left, eventsOf, leftOf, leftAll}
 use Rattle.claims.specs.ShutOut.{Program, Standard, steps, Each, NeverStores, ShutOut}
 use Rattle.claims.proofs.Bench.{terms, table, setup, bench, user, brings, iam1}
@@ -41,7 +42,7 @@ module _ (p : Program) (h : Standard p) where
   ds = Step (brings iam1 0) ∷ Step (brings iam3 0) ∷ []
 
   left : p table bench [] user ds
-      ≡ answered 0 ∷ leftOf (Step (brings iam3 0)) (answerOf (call iam3) (waiting IamInit)) ∷ []
+      ≡ answered 0 ∷ leftOf steppedOf (Step (brings iam3 0)) (answerOf (call iam3) (waiting IamInit)) ∷ []
   unfolding leftAll run answerTo eventsOf setup terms keysIn recordsIn keyOf bench cleared atRest inTurn judgedTo
       offered hasKey benchChecks openingChecks effectOf ofMessage inOrder byKind iam1Answer ifFine replied refused
       kindOf iamKind lengthFits iam1Of keyLimit profileLimit

@@ -24,7 +24,8 @@ use Rattle.offer.specs.Records.{offered}
 use Rattle.offer.specs.Judged.{benchChecks, openingChecks}
 use Rattle.tag.specs.Answers.{effectOf, ofMessage, inOrder, byKind, iam1Answer, ifFine, replied, refused}
 use Rattle.tag.specs.Runs.{answerTo, run}
-use Rattle.tag.specs.Plays.{Doing, Step, Wake, Left, Plays, eventsOf, leftAll}
+use Rattle.tag.specs.Reactions.{steppedOf}
+use Rattle.tag.specs.Plays.{Doing, Step, Wake, Left, OneByOne, Plays, eventsOf, leftAll}
 use Rattle.tag.proofs.Played.{played}
 use Rattle.claims.specs.ShutOut.{
   Program,
@@ -44,7 +45,7 @@ use Rattle.claims.proofs.Bench.{terms, table, bench, user, drawn, bring
 -- ---- there is one standard's tag
 
 abbrev pub defined : Program
-defined table tag identity user ds = leftAll ds (run (keyed tag table) identity user (eventsOf ds))
+defined table tag identity user ds = leftAll steppedOf ds (run (keyed tag table) identity user (eventsOf ds))
 
 pub one-tag : OneTag
 one-tag p q hp hq table tag identity user ds =
@@ -53,7 +54,7 @@ one-tag p q hp hq table tag identity user ds =
 
 plays : (ds : List Doing) (table : List ℕ) (tag : Tag) (identity user : List ℕ)
     → Plays table tag identity user ds (defined table tag identity user ds)
-unfolding Plays leftAll run answerTo poweredUp eventsOf
+unfolding OneByOne leftAll run answerTo poweredUp eventsOf
 plays [] table tag identity user = tt
 plays (Step b ∷ ds) table tag identity user = (
   record { outcome = refl; number = refl; next = refl; reply = refl; identity = refl; user = refl },

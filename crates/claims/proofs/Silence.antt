@@ -14,6 +14,7 @@ use Rattle.entry.specs.Sessions.{cleared}
 use Rattle.tag.specs.States.{holding, keyed, awake, poweredUp}
 use Rattle.tag.specs.Answers.{Answer, answerOf}
 use Rattle.tag.specs.Runs.{Event, Message, PowerUp, callOf, answerTo, run}
+use Rattle.tag.specs.Reactions.{steppedOf}
 use Rattle.tag.specs.Plays.{Doing, Left, eventsOf, roomOf, leftAll}
 use Rattle.tag.proofs.Played.{played}
 use Rattle.claims.specs.Names.{namedBy, namedIn}
@@ -86,7 +87,7 @@ silent es s t x y alike mem =
 -- ---- the code
 
 lefts : (x y : Memory) (ds : List Doing) (as′ bs′ : List Answer) → SameAnswers x y as′ bs′
-    → SameLefts x y (leftAll ds as′) (leftAll ds bs′)
+    → SameLefts x y (leftAll steppedOf ds as′) (leftAll steppedOf ds bs′)
 unfolding SameAnswers SameLefts leftAll
 lefts x y [] as′ bs′ h = tt
 lefts x y (d ∷ ds) [] [] h = tt
@@ -110,7 +111,7 @@ silent-code ds p q k l x y ls rs alike mem u v =
     let e = played ds ls k (awake p) (x .identity) (x .user) u in
     let f = played ds rs l (awake q) (y .identity) (y .user) v in
     let h = lefts x y ds _ _ (silent (eventsOf ds) _ _ x y alike mem) in
-    let right = leftAll ds (run (keyed (awake q) l) (y .identity) (y .user) (eventsOf ds)) in
+    let right = leftAll steppedOf ds (run (keyed (awake q) l) (y .identity) (y .user) (eventsOf ds)) in
     subst (λ (z : List Left). SameLefts x y ls z) (sym f) (subst (λ (z : List Left). SameLefts x y z right) (sym e) h)
 
 -- ---- from one moment to another

@@ -10,8 +10,10 @@ use denote.Ref.{now}
 use Rattle.tag.specs.declared.Tag.{Tag}
 use Rattle.tag.specs.States.{KeyedTag, keyed, keyless, awake, poweredUp}
 use Rattle.tag.specs.Answers.{Answer}
+use Rattle.tag.specs.Reactions.{steppedOf}
 use Rattle.tag.specs.Runs.{answerTo, run}
-use Rattle.tag.specs.Plays.{Doing, Step, Wake, Left, Called, Does, Plays, eventOf, eventsOf, leftOf, leftAll}
+use Rattle.tag.specs.Plays.{Doing, Step, Wake, Left, OneByOne, eventOf, eventsOf, leftOf, leftAll}
+use Rattle.tag.specs.Plays.{Called, Does, Plays}
 use Rattle.tag.proofs.power_up.Reads as power-up
 use Rattle.tag.proofs.power_up.Kinds as power-up-kinds
 use Rattle.tag.proofs.step.Reads as step
@@ -42,7 +44,7 @@ module _ (keys identity user : List ℕ) (tag : Tag) where
   answer d = answerTo (keyed tag keys) identity user (eventOf d)
 
   -- what one call leaves
-  done : (d : Doing) (x : Left) → Does keys tag identity user d x → x ≡ leftOf d (answer d)
+  done : (d : Doing) (x : Left) → Does keys tag identity user d x → x ≡ leftOf steppedOf d (answer d)
   unfolding answerTo poweredUp
   done (Step b) x h =
       λ j. record {
@@ -61,8 +63,8 @@ module _ (keys identity user : List ℕ) (tag : Tag) where
 
 -- what a run leaves
 pub played : (ds : List Doing) (xs : List Left) (keys : List ℕ) (tag : Tag) (identity user : List ℕ)
-    → Plays keys tag identity user ds xs → xs ≡ leftAll ds (run (keyed tag keys) identity user (eventsOf ds))
-unfolding Plays leftAll run eventsOf
+    → Plays keys tag identity user ds xs → xs ≡ leftAll steppedOf ds (run (keyed tag keys) identity user (eventsOf ds))
+unfolding OneByOne leftAll run eventsOf
 played [] [] keys tag identity user h = refl
 played [] (x ∷ xs) keys tag identity user h = absurd h
 played (d ∷ ds) [] keys tag identity user h = absurd h
@@ -70,6 +72,6 @@ played (d ∷ ds) (x ∷ xs) keys tag identity user (h, hs) =
     let e = done keys identity user tag d x h in
     let k = subst (λ (y : Left). Plays keys (y .stepped .tag) (y .identity) (y .user) ds xs) e hs in
     let a = answer keys identity user tag d in
-    let f = ap (λ (t : KeyedTag). leftAll ds (run t (a .identity) (a .user) (eventsOf ds)))
+    let f = ap (λ (t : KeyedTag). leftAll steppedOf ds (run t (a .identity) (a .user) (eventsOf ds)))
     (lent-again keys identity user tag d) in
     λ j. e j ∷ (played ds xs keys _ _ _ k ∙ f) j
