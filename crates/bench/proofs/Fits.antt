@@ -9,8 +9,9 @@ use Rattle.tag.specs.declared.Tag.{Tag}
 use Rattle.offer.specs.declared.Outcome.{Outcome}
 use Rattle.tag.specs.declared.Stepped.{Stepped}
 use Rattle.tag.specs.States.{awake, keyed}
-use Rattle.tag.specs.Answers.{Answer, answerOf}
-use Rattle.tag.specs.Reactions.{lent, nextTag, Steps}
+use Rattle.tag.specs.Answers.{answerOf}
+use Rattle.tag.specs.Reactions.{lent, Steps}
+use Rattle.tag.proofs.Fits.{stepped}
 use Rattle.bench.specs.Kept.{left}
 use Rattle.bench.specs.OneWalked.{OneWalked}
 use Rattle.bench.proofs.power_up as power-up
@@ -30,7 +31,7 @@ pub step-one : OneWalked step.ended (λ M. step.clauses {M = M})
     let room = in-turn .1 .1 in
     let after = e .1 .1 .1 .1 in
     Steps (answerOf (lent (now (in-turn .0)) (now (in-turn .1 .0)) (now (room .0)) (now (room .1 .0))
-    (now (room .1 .1 .0))) (keyed tag (now (a .1 .0)))) tag (now (room .0))
+    (now (room .1 .1 .0))) (keyed tag (now (a .1 .0)))) (now (room .0))
     (left r (now (e .0))) (now (after .0)) (now (after .1 .0)) (now (after .1 .1 .0)))
     (Outcome × Tag × List ℕ × List ℕ × List ℕ)
     (λ κs r e.
@@ -48,16 +49,11 @@ step-one = (
   )),
 )
 
--- what is returned is what the contract says of it
-returned : (a : Answer) (tag : Tag) (room : List ℕ) (r : Stepped) (after i u : List ℕ) → Steps a tag room r after i u
-    → r ≡ record { outcome = a .outcome; tag = nextTag tag a }
-returned a tag room r after i u h = λ j. record { outcome = h .outcome j; tag = h .next j }
-
 pub kept-one : OneAnswer 6 kept-kinds.ps kept-kinds.r kept.Post (Stepped × List ℕ × List ℕ × List ℕ)
     (λ κs r s. let after = s .1 .1 .1 .1 in (r, now (after .0), now (after .1 .0), now (after .1 .1 .0)))
 kept-one κs a x y s t p q =
     λ j. (
-      one (returned _ _ _ x _ _ _ p) (returned _ _ _ y _ _ _ q) j,
+      one (stepped _ _ x _ _ _ p) (stepped _ _ y _ _ _ q) j,
       one (p .reply) (q .reply) j,
       one (p .identity)
           (q .identity) j,

@@ -36,8 +36,8 @@ pub fn step(
     user: &mut [u8],
 ) -> Outcome
     ensures { λ r. ⌜ Steps (answerOf (lent (now (message .entry)) (now (draws .entry)) (now (room .entry))
-        (now (identity .entry)) (now (user .entry))) (keyed (now (tag .entry)) (now (keys .entry)))) (now (tag .entry))
-        (now (room .entry)) (left r (now (tag .exit))) (now (room .exit)) (now (identity .exit)) (now (user .exit)) ⌝ }
+        (now (identity .entry)) (now (user .entry))) (keyed (now (tag .entry)) (now (keys .entry)))) (now (room .entry))
+        (left r (now (tag .exit))) (now (room .exit)) (now (identity .exit)) (now (user .exit)) ⌝ }
 {
     let s = tag::step(*tag, keys, message, draws, room, identity, user);
     *tag = s.tag;
@@ -57,7 +57,7 @@ pub fn kept(
     user: &mut [u8],
 ) -> Stepped
     ensures { λ r. ⌜ Steps (answerOf (lent (now (message .entry)) (now (draws .entry)) (now (room .entry))
-        (now (identity .entry)) (now (user .entry))) (keyed tag (now (keys .entry)))) tag (now (room .entry)) r
+        (now (identity .entry)) (now (user .entry))) (keyed tag (now (keys .entry)))) (now (room .entry)) r
         (now (room .exit)) (now (identity .exit)) (now (user .exit)) ⌝ }
 {
     let mut place = tag;

@@ -13,11 +13,11 @@ use Rattle.sheet.specs.Sheet.{Accepted}
 use Rattle.sheet.proofs.Examples.{smallest, example-11, said-11}
 use Rattle.entry.specs.Sessions.{cleared}
 use Rattle.tag.specs.States.{poweredUp}
-use Rattle.tag.specs.Plays.{Doing, eventsOf}
+use Rattle.tag.specs.Plays.{Doing, LeftWith, eventsOf, leftAll}
 use Rattle.tag.specs.Runs.{run}
 use Rattle.image.specs.Image.{isTag}
 use Rattle.image.specs.Kept.{sheetImage}
-use Rattle.capi.specs.Run.{Left, CallsAll, leftAll}
+use Rattle.capi.specs.Run.{Told, CallsAll, toldOf}
 use Rattle.capi.proofs.Runs.{sheet-tag, sheet-run}
 
 smallest-accepted : Accepted keyLimit smallest
@@ -62,8 +62,8 @@ smallest-bytes =
 pub smallest-tag : isTag (sheetImage cleared smallest) ≡ true
 smallest-tag = sheet-tag smallest smallest-bytes smallest-accepted
 
-pub smallest-run : (ds : List Doing) (zs : List Left) → CallsAll (sheetImage cleared smallest) [] [] ds zs
-    → zs ≡ leftAll smallest ds (run (poweredUp emptySetup) [] [] (eventsOf ds))
+pub smallest-run : (ds : List Doing) (zs : List (LeftWith Told)) → CallsAll (sheetImage cleared smallest) [] [] ds zs
+    → zs ≡ leftAll toldOf ds (run (poweredUp emptySetup) [] [] (eventsOf ds))
 smallest-run ds zs h =
-    subst (λ (x : Setup). zs ≡ leftAll smallest ds (run (poweredUp x) [] [] (eventsOf ds))) (said-11 keyLimit)
+    subst (λ (x : Setup). zs ≡ leftAll toldOf ds (run (poweredUp x) [] [] (eventsOf ds))) (said-11 keyLimit)
     (sheet-run smallest smallest-bytes smallest-accepted ds zs [] [] h)

@@ -82,7 +82,7 @@ module _ (image : List ℕ) (e : isTag image ≡ true) where
     keyed-is j = keyed (record { terms = f j; session = g j }) (i j)
 
     pub answer-some : (c : Call) (room : List ℕ) (s : Stepped) (r told purpose : ℕ) (after reply a u : List ℕ)
-        → Steps (answerOf c (keyed t keys)) t room s reply a u → r ≡ numberGiven (s .outcome)
+        → Steps (answerOf c (keyed t keys)) room s reply a u → r ≡ numberGiven (s .outcome)
         → told ≡ replyLength (s .outcome) → purpose ≡ purposeGiven (s .outcome) → after ≡ kept (s .tag .session) image
         → Answered image (answerIn image c) room r told purpose after reply a u
     answer-some c room s r told purpose after reply a u h n l p k =

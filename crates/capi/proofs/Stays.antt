@@ -7,7 +7,7 @@ use lib.ListN.{length}
 use Rattle.ground.specs.Choice.{pick}
 use Rattle.offer.specs.declared.Fault.the-variants.{BenchFault}
 use Rattle.offer.specs.declared.Outcome.the-variants.{Refused}
-use Rattle.entry.specs.declared.Session.{Session}
+use Rattle.tag.specs.States.{KeyedTag}
 use Rattle.tag.specs.Answers.{Answer, Call}
 use Rattle.tag.proofs.Kept.{refusal-kept}
 use Rattle.image.specs.Image.{kept, keyedIn, isTag}
@@ -18,14 +18,14 @@ use Rattle.capi.proofs.Keeps.{answer-of}
 module _ (image : List ℕ) (long : 16 ≤ length image) where
   -- what `roualint_message` leaves in the image
   pub stays : (c : Call) → answerIn image c .outcome ≡ Refused BenchFault
-      → pick (isTag image) (kept (answerIn image c .session) image) image ≡ image
+      → pick (isTag image) (kept (answerIn image c .tag .session) image) image ≡ image
   stays c h = by-tag (isTag image) refl
     where
-      by-tag : (b : Bool) → isTag image ≡ b → pick b (kept (answerIn image c .session) image) image ≡ image
+      by-tag : (b : Bool) → isTag image ≡ b → pick b (kept (answerIn image c .tag .session) image) image ≡ image
       by-tag true e =
           let g = answer-of image e (keyedIn image) refl c in
           let o = sym (ap (λ (a : Answer). a .outcome) g) ∙ h in
-          ap (λ (s : Session). kept s image)
-          (ap (λ (a : Answer). a .session) g ∙ refusal-kept c (keyedIn image) BenchFault o .session)
+          ap (λ (t : KeyedTag). kept (t .session) image)
+          (ap (λ (a : Answer). a .tag) g ∙ refusal-kept c (keyedIn image) BenchFault o .tag)
           ∙ kept-same image long e
       by-tag false e = refl

@@ -13,8 +13,8 @@ use Rattle.offer.specs.declared.Outcome.the-variants.{Replied, Entered, Refused
 use Rattle.offer.specs.declared.Fault.the-variants.{BenchFault}
 use Rattle.offer.specs.Outcomes.{numberGiven, replyLength}
 use Rattle.entry.specs.Sessions.{cleared}
-use Rattle.tag.specs.Answers.{Answer, Call, answerOf, refused}
-use Rattle.image.specs.Image.{kept, sessionIn, termsIn, keyedIn, isTag}
+use Rattle.tag.specs.Answers.{Answer, Call, refused, answerWith, answerOf}
+use Rattle.image.specs.Image.{kept, termsIn, keyedIn, isTag}
 use Rattle.image.specs.Kept.{accepts, sheetImage}
 
 -- A sheet that is accepted becomes a tag at its power-up; one that is refused changes nothing.
@@ -49,7 +49,9 @@ purposeGiven (Refused f) = 255
 
 -- The tag's answer to a message.
 abbrev pub answerIn : List ℕ → Call → Answer
-answerIn image c = pick (isTag image) (answerOf c (keyedIn image)) (refused c BenchFault (sessionIn image))
+answerIn image c =
+    let tag = keyedIn image in
+    pick (isTag image) (answerOf c tag) (answerWith (tag .setup) (refused c BenchFault (tag .session)))
 
 -- What is left of it: number, length of the reply and Purpose; the image with the next session; the reply over the
 -- room's first bytes; and both areas.
@@ -58,7 +60,7 @@ pub record Answered (image : List ℕ) (a : Answer) (room : List ℕ) (r told pu
   pub number : r ≡ numberGiven (a .outcome)
   pub long : told ≡ replyLength (a .outcome)
   pub given : purpose ≡ purposeGiven (a .outcome)
-  pub holds : after ≡ pick (isTag image) (kept (a .session) image) image
+  pub holds : after ≡ pick (isTag image) (kept (a .tag .session) image) image
   pub sent : reply ≡ over (a .reply) room
   pub identity : i ≡ a .identity
   pub user : u ≡ a .user

@@ -59,7 +59,7 @@ use Rattle.offer.specs.declared.Fault.the-variants.{
   BenchFault,
 }
 use Rattle.tag.specs.declared.Tag.{Tag}
-use Rattle.tag.specs.States.{keyed}
+use Rattle.tag.specs.States.{keyed, keyless}
 use Rattle.offer.specs.Outcomes as outcomes
 use Rattle.tag.specs.Reactions.{lent}
 use Rattle.tag.proofs.Kept.{refusal-kept}
@@ -80,13 +80,14 @@ pub tag-answers : TagAnswers
 tag-answers table tag identity user b x f h e =
     let c = lent (b .message) (b .draws) (b .room) identity user in
     let k = refusal-kept c (keyed tag table) f (sym (h .outcome) ∙ e) in
+    let next = h .next ∙ ap keyless (k .tag) in
     record {
       number = tag-number f;
       silent = h .reply ∙ ap (λ (l : List ℕ). over l (b .room)) (k .silent);
       identity-kept = h .identity ∙ k .identity;
       user-kept = h .user ∙ k .user;
-      terms = ap (λ (t : Tag). t .terms) (h .next);
-      session = ap (λ (t : Tag). t .session) (h .next) ∙ k .session;
+      terms = ap (λ (t : Tag). t .terms) next;
+      session = ap (λ (t : Tag). t .session) next;
     }
 
 -- ---- the sheet

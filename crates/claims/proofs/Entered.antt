@@ -24,14 +24,14 @@ use Rattle.entry.specs.declared.State.{State}
 use Rattle.entry.specs.declared.State.the-variants.{IamInit, MamInit}
 use Rattle.offer.specs.declared.Fault.the-variants.{OutOfTurn}
 use Rattle.entry.specs.Sessions.{cleared}
-use Rattle.tag.specs.States.{KeyedTag}
+use Rattle.tag.specs.States.{KeyedTag, holding, poweredUp}
 use Rattle.tag.specs.States.{afterIam1, afterMam1, inTurn}
 use Rattle.ground.specs.Checks.{judgedTo}
 use Rattle.offer.specs.Judged.{benchChecks}
 use Rattle.keytable.specs.Named.{keyWith}
 use Rattle.offer.specs.Records.{offered, sizeOffered, modeOffered, modeSupported, slotNamed, blockAsked}
-use Rattle.tag.specs.Answers.{Call, answerOf, ofMessage, inOrder, refused, letIn}
-use Rattle.tag.specs.Runs.{PowerUp, answerTo, tagAfter}
+use Rattle.tag.specs.Answers.{Call, effectOf, answerWith, answerOf, ofMessage, inOrder, refused, letIn}
+use Rattle.tag.specs.Runs.{PowerUp, answerTo}
 use Rattle.tag.specs.Reactions.{lent}
 use Rattle.reader.specs.declared.Keys.{Keys}
 use Rattle.reader.specs.Own.{modeFits}
@@ -49,11 +49,8 @@ zeros (suc n) (suc i) = zeros n i
 
 -- the tag after an IAM1 or a MAM1 whose draws are zeros, and a call
 abbrev pub waiting : State → KeyedTag
-waiting state = record {
-  setup = setup;
-  session =
-      record { state = state; keyid = 0; tchallenge = drawn 0; ichallenge = replicate 4 0 };
-}
+waiting state =
+    holding setup (record { state = state; keyid = 0; tchallenge = drawn 0; ichallenge = replicate 4 0 })
 
 abbrev pub call : List ℕ → Call
 call message = lent message (drawn 0) (replicate 172 0) [] user
@@ -85,16 +82,16 @@ iam2-waits : Waits iam2 (waiting IamInit) Iam2
 unfolding judgedTo benchChecks offered inTurn afterIam1 setup terms
 iam2-waits = record { bench = refl; there = refl; turn = refl }
 
-pub iam2-entered : answerOf iam2 (waiting IamInit) ≡ letIn iam2 0 [] user
+pub iam2-entered : answerOf iam2 (waiting IamInit) ≡ answerWith setup (letIn iam2 0 [] user)
 iam2-entered = iam2-enters iam2 (waiting IamInit) keys 0 (replicate 4 0) iam2-waits (knows IamInit) ten four purpose-0
     refl
 
 -- The power goes before it comes: the same message of the same reader is out of turn, since no challenge outlives it.
 pub iam2-after-power :
-    answerOf iam2 (tagAfter (waiting IamInit) (answerTo (waiting IamInit) [] user PowerUp))
-    ≡ refused iam2 OutOfTurn cleared
-unfolding answerTo answerOf ofMessage inOrder judgedTo benchChecks offered inTurn afterIam1 cleared setup terms iam2Made
-    iam2Message kindOf iamKind
+    answerOf iam2 (answerTo (waiting IamInit) [] user PowerUp .tag)
+    ≡ answerWith setup (refused iam2 OutOfTurn cleared)
+unfolding answerTo poweredUp effectOf ofMessage inOrder judgedTo benchChecks offered inTurn afterIam1 cleared setup
+    terms iam2Made iam2Message kindOf iamKind
 iam2-after-power = refl
 
 abbrev mam2 : Call
@@ -104,7 +101,7 @@ mam2-waits : Waits mam2 (waiting MamInit) Mam2
 unfolding judgedTo benchChecks offered inTurn afterMam1 setup terms
 mam2-waits = record { bench = refl; there = refl; turn = refl }
 
-pub mam2-entered : answerOf mam2 (waiting MamInit) ≡ letIn mam2 0 [] user
+pub mam2-entered : answerOf mam2 (waiting MamInit) ≡ answerWith setup (letIn mam2 0 [] user)
 mam2-entered = mam2-enters mam2 (waiting MamInit) keys 0 (replicate 10 0) mam2-waits (knows MamInit) ten ten refl
     purpose-0 refl
 
@@ -137,8 +134,8 @@ unfolding setup terms modeSupported modeOffered hasMac keyWith slotNamed permitt
 writable = record { mode = refl; present = refl; right = refl; size = refl; inside = refl; unlocked = refl }
 
 pub iam3-entered : answerOf (call iam3) (waiting IamInit)
-    ≡ letIn (call iam3) 0 (storedIn Identity (blockAsked (setup .profiles) custom) words [])
-    (storedIn User (blockAsked (setup .profiles) custom) words user)
+    ≡ answerWith setup (letIn (call iam3) 0 (storedIn Identity (blockAsked (setup .profiles) custom) words [])
+    (storedIn User (blockAsked (setup .profiles) custom) words user))
 unfolding iam3
 iam3-entered = iam3-enters (call iam3) (waiting IamInit) keys custom 0 0 (replicate 4 0) words iam3-waits
     (knows IamInit) ten four words-bytes fits writable refl

@@ -24,7 +24,7 @@ use Rattle.offer.specs.declared.Verdict.the-variants.{Fine}
 use Rattle.entry.specs.Judged.{iam2Checks, mam2Checks}
 use Rattle.entry.specs.Opened.{purposeIn, iamProof, mamProof}
 use Rattle.keytable.specs.Named.{keyWith}
-use Rattle.tag.specs.Answers.{Call, Answer, letIn, ifFine, iam2Answer, mam2Answer, byKind}
+use Rattle.tag.specs.Answers.{Call, Effect, letIn, ifFine, iam2Answer, mam2Answer, byKind, answerWith}
 use Rattle.offer.proofs.Lines.{passes, ends}
 use Rattle.reader_build.specs.Builds.{purposeFits, iam2Made, mam2Made}
 use Rattle.sheet.specs.Setups.{Setup}
@@ -38,7 +38,7 @@ use Rattle.claims.proofs.Proofs.{sent, sixteen, opened, clear, purpose-
 entered : (c : Call) (v : Verdict) (p purpose : ℕ) → v ≡ Fine → p ≡ purpose
     → ifFine c v (letIn c p (c .identity) (c .user)) ≡ letIn c purpose (c .identity) (c .user)
 unfolding ifFine
-entered c v p purpose e q = ap₂ {C = Answer} (λ x y. ifFine c x (letIn c y (c .identity) (c .user))) e q
+entered c v p purpose e q = ap₂ {C = Effect} (λ x y. ifFine c x (letIn c y (c .identity) (c .user))) e q
 
 iam2-let-in : (c : Call) (setup : Setup) (held : Session) (keys : Keys) (purpose : ℕ) (irnd : List ℕ)
     → Knows keys (keyWith (held .keyid) (setup .keys))
@@ -118,9 +118,10 @@ iam2-enters c tag keys purpose irnd w knows t m fit e =
       iresponse =
           sent keys key C-IAM2 purpose irnd (tag .session .tchallenge) knows small m t;
     }) n (omega arith) in
-    in-turn c tag Iam2Kind w (let l : length (c .message) ≡ 17 = ap length e ∙ shape .0 in omega (arith, l))
+    ap (answerWith (tag .setup))
+    (in-turn c tag Iam2Kind w (let l : length (c .message) ≡ 17 = ap length e ∙ shape .0 in omega (arith, l))
     (ap (λ (l : List ℕ). kindOf (byte l 0)) e ∙ shape .1)
-    ∙ iam2-let-in c (tag .setup) (tag .session) keys purpose irnd knows t m fit e
+    ∙ iam2-let-in c (tag .setup) (tag .session) keys purpose irnd knows t m fit e)
 
 pub mam2-enters : Mam2Enters
 unfolding byKind mam2Made
@@ -135,6 +136,7 @@ mam2-enters c tag keys purpose ichallenge w knows t i own fit e =
           sent keys key C-MAM2 purpose (drop 6 ichallenge) (tag .session .tchallenge) knows small m t;
     }) n (omega arith)
     in
-    in-turn c tag Mam2Kind w (let l : length (c .message) ≡ 17 = ap length e ∙ shape .0 in omega (arith, l))
+    ap (answerWith (tag .setup))
+    (in-turn c tag Mam2Kind w (let l : length (c .message) ≡ 17 = ap length e ∙ shape .0 in omega (arith, l))
     (ap (λ (l : List ℕ). kindOf (byte l 0)) e ∙ shape .1)
-    ∙ mam2-let-in c (tag .setup) (tag .session) keys purpose ichallenge knows t i own fit e
+    ∙ mam2-let-in c (tag .setup) (tag .session) keys purpose ichallenge knows t i own fit e)

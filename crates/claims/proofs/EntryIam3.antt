@@ -31,7 +31,7 @@ use Rattle.entry.specs.Opened.{purposeIn, iamProof, sentBlock, openedData, word
 use Rattle.entry.specs.Judged.{iam3Checks}
 use Rattle.keytable.specs.Named.{keyWith}
 use Rattle.offer.specs.Records.{blockAsked}
-use Rattle.tag.specs.Answers.{Call, letIn, ifFine, iam3Answer, byKind}
+use Rattle.tag.specs.Answers.{Call, letIn, ifFine, iam3Answer, byKind, answerWith}
 use Rattle.offer.proofs.Lines.{passes, ends}
 use Rattle.tam.proofs.ReplyBytes.{carried-bytes}
 use Rattle.reader.specs.declared.Keys.{Keys}
@@ -143,6 +143,7 @@ iam3-enters c tag keys custom protmode purpose irnd words w knows t m b fit may 
     let r = body keys custom protmode a p n bl ++ mac keys custom protmode a p n bl in
     let form = e ∙ as-head keys custom protmode a p n bl in
     let l : length (c .message) ≡ length (iam3Head f) + length r = ap length form ∙ length-append (iam3Head f) r in
-    in-turn c tag Iam3K w (omega (arith, l, iam3-head f n))
+    ap (answerWith (tag .setup))
+    (in-turn c tag Iam3K w (omega (arith, l, iam3-head f n))
     (ap (λ (x : List ℕ). kindOf (byte x 0)) form ∙ iam3-begins f n r (omega arith))
-    ∙ iam3-let-in c (tag .setup) (tag .session) keys custom protmode purpose irnd words knows t m b fit may e
+    ∙ iam3-let-in c (tag .setup) (tag .session) keys custom protmode purpose irnd words knows t m b fit may e)

@@ -12,14 +12,14 @@ use Rattle.frames.specs.Kinds.{kindOf}
 use Rattle.offer.specs.declared.Fault.the-variants.{NotSupported, OutOfTurn}
 use Rattle.tag.specs.States.{KeyedTag}
 use Rattle.entry.specs.Sessions.{cleared}
-use Rattle.tag.specs.Answers.{Answer, Call, refused, byKind, inOrder, ofMessage, ofBench, answerOf}
+use Rattle.tag.specs.Answers.{Effect, Call, refused, byKind, inOrder, ofMessage, ofBench, effectOf}
 use Rattle.claims.specs.Entry.{Waits}
 
 module _ (c : Call) (tag : KeyedTag) (kind : Kind) (w : Waits c tag kind) where
   ordered : inOrder c (tag .setup) (tag .session) kind ≡ byKind c (tag .setup) (tag .session) kind
   unfolding inOrder
   ordered =
-      ap₂ {C = Answer} (λ (x y : Bool). pick x (pick y (byKind c (tag .setup) (tag .session) kind)
+      ap₂ {C = Effect} (λ (x y : Bool). pick x (pick y (byKind c (tag .setup) (tag .session) kind)
       (refused c OutOfTurn cleared)) (refused c NotSupported cleared)) (w .there) (w .turn)
 
   of-kind : (m : List ℕ) → 1 ≤ length m → kindOf (byte m 0) ≡ kind
@@ -29,6 +29,6 @@ module _ (c : Call) (tag : KeyedTag) (kind : Kind) (w : Waits c tag kind) where
   of-kind (first ∷ rest) h e = ap (inOrder c (tag .setup) (tag .session)) e ∙ ordered
 
   pub in-turn : 1 ≤ length (c .message) → kindOf (byte (c .message) 0) ≡ kind
-      → answerOf c tag ≡ byKind c (tag .setup) (tag .session) kind
-  unfolding answerOf
+      → effectOf c tag ≡ byKind c (tag .setup) (tag .session) kind
+  unfolding effectOf
   in-turn h e = ap (ofBench c (tag .setup) (tag .session)) (w .bench) ∙ of-kind (c .message) h e

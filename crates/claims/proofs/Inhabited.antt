@@ -23,7 +23,7 @@ use Rattle.tag.specs.declared.Tag.{Tag}
 use Rattle.entry.specs.Sessions.{cleared}
 use Rattle.ground.specs.Checks.{judgedTo}
 use Rattle.offer.specs.Judged.{benchChecks}
-use Rattle.tag.specs.Answers.{answerOf, ofMessage, refused}
+use Rattle.tag.specs.Answers.{effectOf, ofMessage, refused}
 use Rattle.tag.specs.States.{awake}
 use Rattle.tag.specs.Plays.{Brought, Doing, Step, Wake, Left, Called, woken}
 use Rattle.reader.specs.declared.Fault.the-variants.{OwnMessage}
@@ -51,7 +51,7 @@ use Rattle.claims.proofs.ShutOut.{unanswered}
 -- ---- demand 1
 
 called : Called table bench [] user (brings [] 0) unanswered
-unfolding answerOf judgedTo benchChecks ofMessage refused bench terms cleared
+unfolding effectOf judgedTo benchChecks ofMessage refused bench terms cleared
 called = record { outcome = refl; number = refl; next = refl; reply = refl; identity = refl; user = refl }
 
 pub tag-refused : TagRefused bench [] user (brings [] 0) unanswered OtherError

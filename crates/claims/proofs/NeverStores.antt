@@ -16,13 +16,14 @@ use Rattle.frames.specs.Messages.{iam1Of}
 use Rattle.entry.specs.declared.State.the-variants.{IamInit}
 use Rattle.entry.specs.Sessions.{cleared}
 use Rattle.tag.specs.States.{atRest, inTurn}
-use Rattle.tag.specs.declared.Tag.{Tag}
 use Rattle.ground.specs.Checks.{judgedTo}
 use Rattle.keytable.specs.Named.{hasKey}
 use Rattle.offer.specs.Records.{offered, slotNamed, blockAsked}
 use Rattle.offer.specs.Judged.{benchChecks, openingChecks}
-use Rattle.tag.specs.Answers.{Answer, answerOf, ofMessage, inOrder, byKind, iam1Answer, ifFine, replied, refused, letIn}
+use Rattle.tag.specs.Answers.{Answer, effectOf, answerOf, ofMessage, inOrder, byKind, iam1Answer, ifFine, replied}
+use Rattle.tag.specs.Answers.{refused, letIn}
 use Rattle.tag.specs.Runs.{answerTo, run}
+use Rattle.tag.specs.Reactions.{steppedOf}
 use Rattle.tag.specs.Plays.{Doing, Step, Left, eventsOf, leftOf, leftAll}
 use Rattle.claims.specs.ShutOut.{Program, Standard, steps, Each, NeverStores, ShutOut}
 use Rattle.claims.proofs.Bench.{terms, table, setup, bench, user, brings, iam1}
@@ -40,14 +41,10 @@ module _ (p : Program) (h : Standard p) where
   abbrev ds : List Doing
   ds = Step (brings iam1 0) ∷ Step (brings iam3 0) ∷ []
 
-  -- the tag of the code that waits for it
-  abbrev held : Tag
-  held = record { terms = terms; session = waiting IamInit .session }
-
   left : p table bench [] user ds
-      ≡ answered 0 ∷ leftOf held (Step (brings iam3 0)) (answerOf (call iam3) (waiting IamInit)) ∷ []
+      ≡ answered 0 ∷ leftOf steppedOf (Step (brings iam3 0)) (answerOf (call iam3) (waiting IamInit)) ∷ []
   unfolding leftAll run answerTo eventsOf setup terms keysIn recordsIn keyOf bench cleared atRest inTurn judgedTo
-      offered hasKey benchChecks openingChecks answerOf ofMessage inOrder byKind iam1Answer ifFine replied refused
+      offered hasKey benchChecks openingChecks effectOf ofMessage inOrder byKind iam1Answer ifFine replied refused
       kindOf iamKind lengthFits iam1Of keyLimit profileLimit
   left = is-defined p h table bench [] user ds
 

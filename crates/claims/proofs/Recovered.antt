@@ -30,7 +30,8 @@ use Rattle.ground.specs.Checks.{judgedTo}
 use Rattle.keytable.specs.Named.{hasKey, keyWith}
 use Rattle.offer.specs.Records.{offered}
 use Rattle.offer.specs.Judged.{benchChecks, openingChecks}
-use Rattle.tag.specs.Answers.{Call, refused, replied, ifFine, iam1Answer, byKind, inOrder, ofMessage, answerOf}
+use Rattle.tag.specs.Answers.{Call, refused, replied, ifFine, iam1Answer, byKind, inOrder, ofMessage, effectOf}
+use Rattle.tag.specs.Answers.{answerOf}
 use Rattle.tag.specs.Reactions.{lent}
 use Rattle.tag.specs.Plays.{Called}
 use Rattle.reader.specs.declared.Keys.{Keys}
@@ -103,7 +104,7 @@ shares = record { enc = refl; mac = refl; mackey = refl }
 
 called : Called table bench [] user (brings iam1 0) (answered 0)
 unfolding terms keysIn recordsIn keyOf bench cleared atRest inTurn judgedTo offered hasKey benchChecks openingChecks
-    answerOf ofMessage inOrder byKind iam1Answer ifFine replied refused kindOf iamKind lengthFits iam1Of keyLimit
+    effectOf ofMessage inOrder byKind iam1Answer ifFine replied refused kindOf iamKind lengthFits iam1Of keyLimit
     profileLimit
 called = record { outcome = refl; number = refl; next = refl; reply = refl; identity = refl; user = refl }
 

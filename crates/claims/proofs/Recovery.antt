@@ -33,7 +33,7 @@ use Rattle.offer.specs.Judged.{benchChecks, openingChecks}
 use Rattle.tam.specs.Judged.{tam2Checks}
 use Rattle.entry.specs.Judged.{iam2Checks, iam3Checks, mam2Checks}
 use Rattle.tag.specs.Answers.{
-  Answer,
+  Effect,
   Call,
   refused,
   replied,
@@ -50,7 +50,8 @@ use Rattle.tag.specs.Answers.{
   inOrder,
   ofMessage,
   ofBench,
-  answerOf,
+  effectOf,
+  answerWith,
 }
 use Rattle.offer.proofs.Lines.{first-holds, others-hold}
 use Rattle.offer.proofs.Passed.{mode-below, bench-draws}
@@ -85,19 +86,20 @@ unfolding emptyFinding
 empty-found = sym (passes _ _ _ _ refl (ends _ _))
 
 module _ (c : Call) (tag : KeyedTag) (keys : Keys) (room : ℕ) (fit : Fit c tag keys) (enough : dataRoom ≤ room) where
-  -- what is claimed of an answer to a message of kind k
-  abbrev Claim : Kind → Answer → Type 0
-  Claim k a = Taken (a .outcome) → judgementOf keys (c .message) (a .reply) room ≡ due c tag a k
+  -- what is claimed of what a message of kind k does
+  abbrev Claim : Kind → Effect → Type 0
+  Claim k a = Taken (a .outcome)
+      → judgementOf keys (c .message) (a .reply) room ≡ due c tag (answerWith (tag .setup) a) k
 
-  refusal : (k : Kind) (a : Answer) → (Taken (a .outcome) → ⊥) → Claim k a
+  refusal : (k : Kind) (a : Effect) → (Taken (a .outcome) → ⊥) → Claim k a
   refusal k a h t = absurd (h t)
 
-  fine : (k : Kind) (v : Verdict) (a : Answer) → (v ≡ Fine → Claim k a) → Claim k (ifFine c v a)
+  fine : (k : Kind) (v : Verdict) (a : Effect) → (v ≡ Fine → Claim k a) → Claim k (ifFine c v a)
   unfolding ifFine refused
   fine k Fine a h = h refl
   fine k (Wrong f) a h = refusal k (refused c f cleared) (λ t. t)
 
-  picked : (k : Kind) (b : Bool) (x y : Answer) → Claim k x → Claim k y → Claim k (pick b x y)
+  picked : (k : Kind) (b : Bool) (x y : Effect) → Claim k x → Claim k y → Claim k (pick b x y)
   picked k true x y h g = h
   picked k false x y h g = g
 
@@ -255,5 +257,5 @@ module _ (c : Call) (tag : KeyedTag) (keys : Keys) (room : ℕ) (fit : Fit c tag
     of-bench (Wrong f) e = λ t. absurd t
 
 pub recovery : Recovery
-unfolding answerOf
+unfolding effectOf
 recovery c tag keys room fit s enough = of-bench c tag keys room fit enough s _ refl

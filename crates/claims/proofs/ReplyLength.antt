@@ -28,7 +28,7 @@ use Rattle.keytable.specs.Named.{keyWith}
 use Rattle.offer.specs.Records.{offered, blockAsked}
 use Rattle.offer.specs.Judged.{benchChecks}
 use Rattle.tag.specs.Answers.{
-  Answer,
+  Effect,
   Call,
   refused,
   replied,
@@ -45,7 +45,7 @@ use Rattle.tag.specs.Answers.{
   ofMessage,
   ofBench,
   ifFine,
-  answerOf,
+  effectOf,
 }
 use Rattle.tag.specs.Reactions.{lent}
 use Rattle.tag.proofs.Cases.{fine-case}
@@ -55,9 +55,9 @@ use Rattle.entry.proofs.Mam1Reply.{mam1-long}
 use Rattle.tam.proofs.Tam2Asked.{words-most}
 use Rattle.claims.specs.ShutOut.{layoutLength, LengthFixed}
 
--- an answer that, where it is a reply, has k bytes
-abbrev Long : ℕ → Answer → Type 0
-Long k a = (n : ℕ) → a .outcome ≡ Replied n → n ≡ k
+-- what a message does that, where it is a reply, has k bytes
+abbrev Long : ℕ → Effect → Type 0
+Long k e = (n : ℕ) → e .outcome ≡ Replied n → n ≡ k
 
 module _ (c : Call) where
   refusal-long : (k : ℕ) (s : Session) (f : Fault) → Long k (refused c f s)
@@ -72,10 +72,10 @@ module _ (c : Call) where
   unfolding letIn
   entry-long k purpose identity user n e = let z : _≡_ {A = ℕ} 0 1 = cc in absurd (omega arith)
 
-  fine-long : (k : ℕ) (v : Verdict) (a : Answer) → Long k a → Long k (ifFine c v a)
+  fine-long : (k : ℕ) (v : Verdict) (e : Effect) → Long k e → Long k (ifFine c v e)
   fine-long k = fine-case c (Long k) (refusal-long k cleared)
 
-  picked-long : (k : ℕ) (t : Bool) (x y : Answer) → Long k x → Long k y → Long k (pick t x y)
+  picked-long : (k : ℕ) (t : Bool) (x y : Effect) → Long k x → Long k y → Long k (pick t x y)
   picked-long k true x y hx hy = hx
   picked-long k false x y hx hy = hy
 
@@ -120,8 +120,8 @@ module _ (c : Call) where
         (c .message) refl
     bench-long (Wrong f) e = refusal-long _ (tag .session) f
 
-    answer-long : Long (layoutLength (kindOf (byte (c .message) 0)) (c .message)) (answerOf c tag)
-    unfolding answerOf
+    answer-long : Long (layoutLength (kindOf (byte (c .message) 0)) (c .message)) (effectOf c tag)
+    unfolding effectOf
     answer-long = bench-long verdict refl
 
 pub length-fixed : LengthFixed

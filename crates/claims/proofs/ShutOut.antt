@@ -17,14 +17,15 @@ use Rattle.tag.specs.declared.Tag.{Tag}
 use Rattle.sheet.specs.KeyTable.{keysIn, recordsIn}
 use Rattle.sheet.specs.Records.{keyOf}
 use Rattle.entry.specs.Sessions.{cleared}
-use Rattle.tag.specs.States.{keyed, atRest, inTurn}
+use Rattle.tag.specs.States.{keyed, poweredUp, atRest, inTurn}
 use Rattle.ground.specs.Checks.{judgedTo}
 use Rattle.keytable.specs.Named.{hasKey}
 use Rattle.offer.specs.Records.{offered}
 use Rattle.offer.specs.Judged.{benchChecks, openingChecks}
-use Rattle.tag.specs.Answers.{answerOf, ofMessage, inOrder, byKind, iam1Answer, ifFine, replied, refused}
+use Rattle.tag.specs.Answers.{effectOf, ofMessage, inOrder, byKind, iam1Answer, ifFine, replied, refused}
 use Rattle.tag.specs.Runs.{answerTo, run}
-use Rattle.tag.specs.Plays.{Doing, Step, Wake, Left, Plays, eventsOf, leftAll}
+use Rattle.tag.specs.Reactions.{steppedOf}
+use Rattle.tag.specs.Plays.{Doing, Step, Wake, Left, OneByOne, Plays, eventsOf, leftAll}
 use Rattle.tag.proofs.Played.{played}
 use Rattle.claims.specs.ShutOut.{
   Program,
@@ -44,7 +45,7 @@ use Rattle.claims.proofs.Bench.{terms, table, bench, user, drawn, bring
 -- ---- there is one standard's tag
 
 abbrev pub defined : Program
-defined table tag identity user ds = leftAll tag ds (run (keyed tag table) identity user (eventsOf ds))
+defined table tag identity user ds = leftAll steppedOf ds (run (keyed tag table) identity user (eventsOf ds))
 
 pub one-tag : OneTag
 one-tag p q hp hq table tag identity user ds =
@@ -53,7 +54,7 @@ one-tag p q hp hq table tag identity user ds =
 
 plays : (ds : List Doing) (table : List ℕ) (tag : Tag) (identity user : List ℕ)
     → Plays table tag identity user ds (defined table tag identity user ds)
-unfolding Plays leftAll run answerTo eventsOf
+unfolding OneByOne leftAll run answerTo poweredUp eventsOf
 plays [] table tag identity user = tt
 plays (Step b ∷ ds) table tag identity user = (
   record { outcome = refl; number = refl; next = refl; reply = refl; identity = refl; user = refl },
@@ -99,14 +100,14 @@ unanswered = record {
 
 one-call : (n : ℕ) → defined table bench [] user (Step (brings iam1 n) ∷ []) ≡ answered n ∷ []
 unfolding leftAll run answerTo eventsOf terms keysIn recordsIn keyOf bench cleared atRest inTurn judgedTo offered hasKey
-    benchChecks openingChecks answerOf ofMessage inOrder byKind iam1Answer ifFine replied refused kindOf iamKind
+    benchChecks openingChecks effectOf ofMessage inOrder byKind iam1Answer ifFine replied refused kindOf iamKind
     lengthFits iam1Of keyLimit profileLimit
 one-call n = refl
 
 two-calls : (n : ℕ) → defined table bench [] user (Step (brings [] 0) ∷ Step (brings iam1 n) ∷ []) ≡ unanswered ∷
     answered n ∷ []
 unfolding leftAll run answerTo eventsOf terms keysIn recordsIn keyOf bench cleared atRest inTurn judgedTo offered hasKey
-    benchChecks openingChecks answerOf ofMessage inOrder byKind iam1Answer ifFine replied refused kindOf iamKind
+    benchChecks openingChecks effectOf ofMessage inOrder byKind iam1Answer ifFine replied refused kindOf iamKind
     lengthFits iam1Of keyLimit profileLimit
 two-calls n = refl
 

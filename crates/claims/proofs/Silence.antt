@@ -11,11 +11,10 @@ use Rattle.modes.specs.Room.{over}
 use Rattle.sheet.specs.Setups.{Setup}
 use Rattle.entry.specs.declared.Session.{Session}
 use Rattle.entry.specs.Sessions.{cleared}
-use Rattle.tag.specs.States.{KeyedTag, keyed, awake, poweredUp}
+use Rattle.tag.specs.States.{holding, keyed, awake, poweredUp}
 use Rattle.tag.specs.Answers.{Answer, answerOf}
 use Rattle.tag.specs.Runs.{Event, Message, PowerUp, callOf, answerTo, run}
-use Rattle.tag.specs.declared.Tag.{Tag}
-use Rattle.tag.specs.Reactions.{nextTag}
+use Rattle.tag.specs.Reactions.{steppedOf}
 use Rattle.tag.specs.Plays.{Doing, Left, eventsOf, roomOf, leftAll}
 use Rattle.tag.proofs.Played.{played}
 use Rattle.claims.specs.Names.{namedBy, namedIn}
@@ -44,15 +43,12 @@ either-right false d h = h
 
 module _ (named : ℕ → Bool) (s t : Setup) (alike : SetupsAlike named s t) (x y : Memory)
     (mem : MemoriesAlike named s x y) where
-  abbrev holding : Setup → Session → KeyedTag
-  holding setup held = record { setup = setup; session = held }
-
   -- from any moment on
   silent-from : (es : List Event) → ((keyid : ℕ) → namedIn es keyid ≡ true → named keyid ≡ true) → (held : Session)
       → HeldNamed named held
       → (i u j v : List ℕ) → SameChange (x .identity) (y .identity) i j → SameChange (x .user) (y .user) u v
       → SameAnswers x y (run (holding s held) i u es) (run (holding t held) j v es)
-  unfolding SameAnswers run answerTo namedIn
+  unfolding SameAnswers run answerTo poweredUp namedIn
   silent-from [] all held h i u j v f g = tt
   silent-from (PowerUp ∷ es) all held h i u j v f g = (
     record { outcome = refl; reply = refl; session = refl; identity = f; user = g },
@@ -74,10 +70,10 @@ module _ (named : ℕ → Bool) (s t : Setup) (alike : SetupsAlike named s t) (x
               f′;
           user = g′;
         },
-        subst (λ (z : Session). SameAnswers x y (run (holding s (a .session)) (a .identity) (a .user) es)
+        subst (λ (z : Session). SameAnswers x y (run (holding s (a .tag .session)) (a .identity) (a .user) es)
             (run (holding t z) (b .identity) (b .user) es)) (step .same .session)
-            (silent-from es (λ k n. all k (either-right (namedBy (sent .message) k) _ n)) (a .session) (step .holds)
-            (a .identity) (a .user) (b .identity) (b .user) f′ g′),
+            (silent-from es (λ k n. all k (either-right (namedBy (sent .message) k) _ n)) (a .tag .session)
+            (step .holds) (a .identity) (a .user) (b .identity) (b .user) f′ g′),
       )
 
 -- Demand 3.
@@ -90,14 +86,14 @@ silent es s t x y alike mem =
 
 -- ---- the code
 
-lefts : (x y : Memory) (ds : List Doing) (p q : Tag) (as′ bs′ : List Answer) → SameAnswers x y as′ bs′
-    → SameLefts x y (leftAll p ds as′) (leftAll q ds bs′)
+lefts : (x y : Memory) (ds : List Doing) (as′ bs′ : List Answer) → SameAnswers x y as′ bs′
+    → SameLefts x y (leftAll steppedOf ds as′) (leftAll steppedOf ds bs′)
 unfolding SameAnswers SameLefts leftAll
-lefts x y [] p q as′ bs′ h = tt
-lefts x y (d ∷ ds) p q [] [] h = tt
-lefts x y (d ∷ ds) p q [] (c ∷ cs) h = absurd h
-lefts x y (d ∷ ds) p q (a ∷ more) [] h = absurd h
-lefts x y (d ∷ ds) p q (a ∷ more) (c ∷ cs) (e, h) = (
+lefts x y [] as′ bs′ h = tt
+lefts x y (d ∷ ds) [] [] h = tt
+lefts x y (d ∷ ds) [] (c ∷ cs) h = absurd h
+lefts x y (d ∷ ds) (a ∷ more) [] h = absurd h
+lefts x y (d ∷ ds) (a ∷ more) (c ∷ cs) (e, h) = (
   record {
     outcome = e .outcome;
     session = e .session;
@@ -106,7 +102,7 @@ lefts x y (d ∷ ds) p q (a ∷ more) (c ∷ cs) (e, h) = (
     identity = e .identity;
     user = e .user;
   },
-  lefts x y ds (nextTag p a) (nextTag q c) more cs h,
+  lefts x y ds more cs h,
 )
 
 pub silent-code : SilentCode
@@ -114,8 +110,8 @@ unfolding poweredUp
 silent-code ds p q k l x y ls rs alike mem u v =
     let e = played ds ls k (awake p) (x .identity) (x .user) u in
     let f = played ds rs l (awake q) (y .identity) (y .user) v in
-    let h = lefts x y ds (awake p) (awake q) _ _ (silent (eventsOf ds) _ _ x y alike mem) in
-    let right = leftAll (awake q) ds (run (keyed (awake q) l) (y .identity) (y .user) (eventsOf ds)) in
+    let h = lefts x y ds _ _ (silent (eventsOf ds) _ _ x y alike mem) in
+    let right = leftAll steppedOf ds (run (keyed (awake q) l) (y .identity) (y .user) (eventsOf ds)) in
     subst (λ (z : List Left). SameLefts x y ls z) (sym f) (subst (λ (z : List Left). SameLefts x y z right) (sym e) h)
 
 -- ---- from one moment to another

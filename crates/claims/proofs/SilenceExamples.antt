@@ -24,11 +24,11 @@ use Rattle.offer.specs.declared.Outcome.the-variants.{Replied}
 use Rattle.entry.specs.declared.State.the-variants.{IamInit}
 use Rattle.ground.specs.Checks.{judgedTo}
 use Rattle.entry.specs.Sessions.{cleared}
-use Rattle.tag.specs.States.{atRest, inTurn, poweredUp}
+use Rattle.tag.specs.States.{holding, atRest, inTurn, poweredUp}
 use Rattle.keytable.specs.Named.{hasKey, keyWith}
 use Rattle.offer.specs.Records.{offered, slotNamed}
 use Rattle.offer.specs.Judged.{benchChecks, openingChecks}
-use Rattle.tag.specs.Answers.{replied, ifFine, iam1Answer, byKind, inOrder, ofMessage, answerOf}
+use Rattle.tag.specs.Answers.{replied, ifFine, iam1Answer, byKind, inOrder, ofMessage, effectOf}
 use Rattle.tag.specs.Runs.{Event, Message, answerTo, run}
 use Rattle.claims.specs.Names.{carriesKeyid, namedBy, namedIn}
 use Rattle.claims.specs.Silence.{RecordsAlike, SetupsAlike, Memory, MemoriesAlike, SameAnswers, wordOf, answers}
@@ -162,12 +162,13 @@ not-named = refl
 pub answered : (enc : List ℕ) (l : Key) (a b : ℕ) → answers (carrying (ours enc) l) (keeping a b) asked
     ≡ record {
       outcome = Replied 10;
-      session = record { state = IamInit; keyid = 1; tchallenge = ten; ichallenge = replicate 4 0 };
+      tag = holding (carrying (ours enc) l)
+          (record { state = IamInit; keyid = 1; tchallenge = ten; ichallenge = replicate 4 0 });
       reply = ten;
       identity = [];
       user = 1 ∷ 2 ∷ a ∷ b ∷ [];
     } ∷ []
-unfolding run answerTo poweredUp answerOf benchChecks judgedTo ofMessage inOrder kindOf iamKind offered inTurn atRest
+unfolding run answerTo poweredUp effectOf benchChecks judgedTo ofMessage inOrder kindOf iamKind offered inTurn atRest
     cleared byKind iam1Answer iam1Of openingChecks lengthFits hasKey carrying ifFine replied
 answered enc l a b = refl
 

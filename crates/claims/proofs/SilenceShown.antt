@@ -30,13 +30,13 @@ use Rattle.payload.specs.Protected.{encrypts, withMac}
 use Rattle.offer.specs.declared.Outcome.the-variants.{Replied}
 use Rattle.ground.specs.Checks.{judgedTo}
 use Rattle.entry.specs.Sessions.{cleared}
-use Rattle.tag.specs.States.{inTurn, poweredUp}
+use Rattle.tag.specs.States.{holding, inTurn, poweredUp}
 use Rattle.keytable.specs.Named.{hasKey, keyWith}
 use Rattle.offer.specs.Records.{offered, sizeOffered, revOffered, modeOffered, modeSupported, slotNamed, blockAsked}
 use Rattle.tam.specs.Replies.{tamBlock, tam1Reply, tam2Body, tam2Reply}
 use Rattle.offer.specs.Judged.{benchChecks, openingChecks}
 use Rattle.tam.specs.Judged.{tam2Checks}
-use Rattle.tag.specs.Answers.{replied, ifFine, tam1Answer, tam2Answer, byKind, inOrder, ofMessage, answerOf}
+use Rattle.tag.specs.Answers.{replied, ifFine, tam1Answer, tam2Answer, byKind, inOrder, ofMessage, effectOf}
 use Rattle.tag.specs.Runs.{Event, Message, answerTo, run}
 use Rattle.claims.specs.Silence.{Memory, SameAnswers, answers}
 use Rattle.claims.proofs.SilenceExamples.{ours, carrying, keeping}
@@ -141,13 +141,13 @@ asked = Message (record {
 answered : (enc : List ℕ) (l : Key) (a b : ℕ) → answers (carrying (ours enc) l) (keeping a b) asked
     ≡ record {
       outcome = Replied (length (aesEnc enc block));
-      session = cleared;
+      tag = holding (carrying (ours enc) l) cleared;
       reply = aesEnc enc block;
       identity =
           [];
       user = 1 ∷ 2 ∷ a ∷ b ∷ [];
     } ∷ []
-unfolding run answerTo poweredUp answerOf benchChecks judgedTo ofMessage inOrder kindOf tamKind offered inTurn byKind
+unfolding run answerTo poweredUp effectOf benchChecks judgedTo ofMessage inOrder kindOf tamKind offered inTurn byKind
     tam1Answer tam1Of bytesFrom openingChecks lengthFits hasKey keyWith carrying ifFine replied tam1Reply tamBlock
     twoBytes
 answered enc l a b = refl
@@ -198,13 +198,13 @@ shown enc a b = (authentication enc ++ clear a b) ++ []
 word-answered : (enc : List ℕ) (l : Key) (a b : ℕ) → answers (carrying (ours enc) l) (showing a b) read
     ≡ record {
       outcome = Replied (length (shown enc a b));
-      session = cleared;
+      tag = holding (carrying (ours enc) l) cleared;
       reply = shown enc a b;
       identity =
           [];
       user = a ∷ b ∷ 3 ∷ 4 ∷ [];
     } ∷ []
-unfolding run answerTo poweredUp answerOf benchChecks judgedTo ofMessage inOrder kindOf tamKind offered inTurn byKind
+unfolding run answerTo poweredUp effectOf benchChecks judgedTo ofMessage inOrder kindOf tamKind offered inTurn byKind
     tam2Answer tam2Of bytesFrom sizeOf selectCustom tam2Checks lengthFits sizeOffered revOffered modeSupported
     modeOffered hasMac hasKey keyWith slotNamed blockAsked wordsAsked addressOf stepOf overruns profileEnd lastWord
     permitted windowOf areaOf partOf within carrying ifFine replied tam2Reply tam2Body tamBlock twoBytes byMode

@@ -29,7 +29,7 @@ use Rattle.offer.specs.declared.Verdict.{Verdict}
 use Rattle.offer.specs.declared.Verdict.the-variants.{Fine, Wrong}
 use Rattle.offer.specs.Checks.{judged}
 use Rattle.entry.specs.Sessions.{cleared, entered}
-use Rattle.tag.specs.States.{atRest, afterIam1, afterMam1, inTurn}
+use Rattle.tag.specs.States.{holding, atRest, afterIam1, afterMam1, inTurn}
 use Rattle.keytable.specs.Named.{keyWith}
 use Rattle.offer.specs.Records.{offered, blockAsked}
 use Rattle.tam.specs.Replies.{tam1Reply, tam2Reply}
@@ -38,7 +38,7 @@ use Rattle.entry.specs.Opened.{purposeIn, openedData, wordsIn, sentBlock}
 use Rattle.offer.specs.Judged.{benchChecks}
 use Rattle.tam.specs.Judged.{tam2Checks}
 use Rattle.tag.specs.Answers.{
-  Answer,
+  Effect,
   Call,
   refused,
   replied,
@@ -55,7 +55,8 @@ use Rattle.tag.specs.Answers.{
   inOrder,
   ofMessage,
   ofBench,
-  answerOf,
+  effectOf,
+  answerWith,
 }
 use Rattle.tag.specs.Runs.{Sent, callOf}
 use Rattle.offer.proofs.Passed.{opening-length}
@@ -141,8 +142,8 @@ module _ (named : ℕ → Bool) (s t : Setup) (alike : SetupsAlike named s t) (x
   abbrev d : Call
   d = callOf sent (y .identity) (y .user)
 
-  pub record Step (a b : Answer) : Type 0 where
-    pub same : SameAnswer x y a b
+  pub record Step (a b : Effect) : Type 0 where
+    pub same : SameAnswer x y (answerWith s a) (answerWith t b)
     pub holds : HeldNamed named (a .session)
 
   refusal : (f : Fault) (held : Session) → HeldNamed named held → Step (refused c f held) (refused d f held)
@@ -186,7 +187,7 @@ module _ (named : ℕ → Bool) (s t : Setup) (alike : SetupsAlike named s t) (x
         entered-named named;
   }
 
-  fine-alike : (v w : Verdict) (a b : Answer) → v ≡ w → (v ≡ Fine → Step a b) → Step (ifFine c v a) (ifFine d w b)
+  fine-alike : (v w : Verdict) (a b : Effect) → v ≡ w → (v ≡ Fine → Step a b) → Step (ifFine c v a) (ifFine d w b)
   unfolding ifFine
   fine-alike v w a b e h = subst (λ (z : Verdict). Step (ifFine c v a) (ifFine d z b)) e (as-judged v h)
     where
@@ -194,7 +195,7 @@ module _ (named : ℕ → Bool) (s t : Setup) (alike : SetupsAlike named s t) (x
       as-judged Fine k = k refl
       as-judged (Wrong f) k = to-initial f
 
-  pick-alike : (b e : Bool) (p q p′ q′ : Answer) → b ≡ e → (b ≡ true → Step p p′) → Step q q′
+  pick-alike : (b e : Bool) (p q p′ q′ : Effect) → b ≡ e → (b ≡ true → Step p p′) → Step q q′
       → Step (pick b p q) (pick e p′ q′)
   pick-alike b e p q p′ q′ h f g = subst (λ (z : Bool). Step (pick b p q) (pick z p′ q′)) h (as-tested b f)
     where
@@ -318,8 +319,8 @@ module _ (named : ℕ → Bool) (s t : Setup) (alike : SetupsAlike named s t) (x
 
   -- one call
   pub step-alike : (held : Session) → HeldNamed named held
-      → Step (answerOf c (record { setup = s; session = held })) (answerOf d (record { setup = t; session = held }))
-  unfolding answerOf
+      → Step (effectOf c (holding s held)) (effectOf d (holding t held))
+  unfolding effectOf
   step-alike held h =
       subst (λ (w : Verdict). Step (ofBench c s held v) (ofBench d t held w))
       (bench-alike named s t alike (length (sent .draws)) (sent .room) _ _ _ _ (mem .identityLength) (mem .userLength))

@@ -22,7 +22,7 @@ use Rattle.offer.specs.Judged.{benchChecks}
 use Rattle.tag.specs.States.{inTurn}
 use Rattle.keytable.specs.Named.{keyWith}
 use Rattle.offer.specs.Records.{offered, slotNamed, sizeOffered, modeSupported, blockAsked}
-use Rattle.tag.specs.Answers.{Call, letIn, answerOf}
+use Rattle.tag.specs.Answers.{Call, letIn, answerWith, answerOf}
 use Rattle.reader.specs.declared.Keys.{Keys}
 use Rattle.reader_build.specs.Builds.{purposeFits, iam2Made, mam2Made, iam3Made, iam3Fits}
 
@@ -54,7 +54,7 @@ Iam2Enters =
     → Array 4 irnd
     → purposeFits purpose ≡ true
     → c .message ≡ iam2Made keys purpose irnd (tag .session .tchallenge)
-    → answerOf c tag ≡ letIn c purpose (c .identity) (c .user)
+    → answerOf c tag ≡ answerWith (tag .setup) (letIn c purpose (c .identity) (c .user))
 
 -- 9.6.4 to 9.6.6: MAM2, by the reader whose own challenge the tag holds the end of.
 abbrev pub Mam2Enters : Type 0
@@ -67,7 +67,7 @@ Mam2Enters =
     → tag .session .ichallenge ≡ drop 6 ichallenge
     → purposeFits purpose ≡ true
     → c .message ≡ mam2Made keys purpose ichallenge (tag .session .tchallenge)
-    → answerOf c tag ≡ letIn c purpose (c .identity) (c .user)
+    → answerOf c tag ≡ answerWith (tag .setup) (letIn c purpose (c .identity) (c .user))
 
 -- The tag supports what an IAM3 asks for, and may write there (9.5.8).
 pub record Writable (setup : Setup) (key : Key) (custom : Custom) (protmode : ℕ) : Type 0 where
@@ -93,5 +93,6 @@ Iam3Enters =
     → Writable (tag .setup) (keyWith (tag .session .keyid) (tag .setup .keys)) custom protmode
     → c .message ≡ iam3Made keys custom protmode purpose irnd (tag .session .tchallenge) words
     → answerOf c tag
-    ≡ letIn c purpose (storedIn Identity (blockAsked (tag .setup .profiles) custom) words (c .identity))
-    (storedIn User (blockAsked (tag .setup .profiles) custom) words (c .user))
+    ≡ answerWith (tag .setup) (letIn c purpose
+    (storedIn Identity (blockAsked (tag .setup .profiles) custom) words (c .identity))
+    (storedIn User (blockAsked (tag .setup .profiles) custom) words (c .user)))

@@ -72,10 +72,10 @@ unfoldable pub due : Call → KeyedTag → Answer → Kind → Finding
 due c tag a Tam1 = nothingMore
 due c tag a Tam2 = carries (worthOf (tam2Of (c .message) .protmode))
     (windowOf (c .identity) (c .user) (blockAsked (tag .setup .profiles) (tam2Of (c .message) .custom)))
-due c tag a Iam1 = issues (a .session .tchallenge)
+due c tag a Iam1 = issues (a .tag .session .tchallenge)
 due c tag a Iam2 = nothingMore
 due c tag a Iam3 = nothingMore
-due c tag a Mam1 = issues (a .session .tchallenge)
+due c tag a Mam1 = issues (a .tag .session .tchallenge)
 due c tag a Mam2 = nothingMore
 due c tag a Unsupported = nothingMore
 

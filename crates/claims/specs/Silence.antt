@@ -74,7 +74,7 @@ pub record SameChange (before before′ now now′ : List ℕ) : Type 0 where
 pub record SameAnswer (x y : Memory) (a b : Answer) : Type 0 where
   pub outcome : a .outcome ≡ b .outcome
   pub reply : a .reply ≡ b .reply
-  pub session : a .session ≡ b .session
+  pub session : a .tag .session ≡ b .tag .session
   pub identity : SameChange (x .identity) (y .identity) (a .identity) (b .identity)
   pub user : SameChange (x .user) (y .user) (a .user) (b .user)
 

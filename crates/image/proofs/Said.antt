@@ -15,10 +15,13 @@ use Rattle.sheet.specs.Limits.{keyLimit, profileLimit, lockLimit}
 use Rattle.sheet.specs.KeyTable.{recordCount, recordsIn, keysIn, keyTable}
 use Rattle.sheet.specs.Sheet.{readOf, saidOf, Accepted}
 use Rattle.sheet.specs.Within.{Within}
-use Rattle.sheet.proofs.RoundTrip.{written-read}
+use Rattle.sheet.specs.Writer.{keysWritten}
+use Rattle.sheet.proofs.RoundTrip.{written-read, written-table}
 use Rattle.sheet.proofs.Sheets.{accepted}
+use Rattle.entry.specs.declared.Session.{Session}
 use Rattle.entry.specs.Sessions.{cleared}
-use Rattle.image.specs.Image.{imageOf}
+use Rattle.tag.specs.States.{holding}
+use Rattle.image.specs.Image.{imageOf, tagImage}
 use Rattle.image.specs.Kept.{accepts, sheetImage, Laid}
 
 records-length : (n : ℕ) (s : List ℕ) → length (recordsIn n s) ≡ n
@@ -48,13 +51,15 @@ module _ (sheet : List ℕ) (y : Bytes sheet) (e : Accepted keyLimit sheet) wher
   abbrev table : List ℕ
   table = keyTable sheet n
 
-  -- as many records stand in the table as were counted
-  counted : n ≡ recordCount table
-  unfolding saidOf
-  counted =
+  -- as many records were counted as the sheet says keys, and as stand in the table
+  keys-said : n ≡ length (saidOf keyLimit sheet .keys)
+  keys-said =
       ap (λ (s : List ℕ). readOf keyLimit s .keys) (sym (accepted keyLimit sheet y e .1))
       ∙ ap (λ (r : Reading). r .keys) (written-read keyLimit (saidOf keyLimit sheet) within)
-      ∙ keys-count table
+
+  counted : n ≡ recordCount table
+  unfolding saidOf
+  counted = keys-said ∙ keys-count table
 
   no-longer : length table ≤ 37 * n
   unfolding keyTable
@@ -73,6 +78,16 @@ module _ (sheet : List ℕ) (y : Bytes sheet) (e : Accepted keyLimit sheet) wher
   pub said-room : length table ≤ 592
   unfolding keyLimit
   said-room = omega (arith, said-fits .whole, said-fits .few)
+
+  -- the table is the keys as they are written, so that the sheet's image is that of the tag
+  table-written : table ≡ keysWritten (saidOf keyLimit sheet .keys)
+  table-written =
+      (λ j. keyTable (sym (accepted keyLimit sheet y e .1) j) (keys-said j))
+      ∙ written-table keyLimit (saidOf keyLimit sheet) within
+
+  pub said-image : (s : Session) → sheetImage s sheet ≡ tagImage (holding (saidOf keyLimit sheet) s)
+  unfolding saidOf
+  said-image s = ap (imageOf s (readOf keyLimit sheet .terms)) table-written
 
 -- ---- what `lay` leaves
 

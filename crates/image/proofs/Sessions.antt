@@ -19,9 +19,9 @@ use Rattle.offer.specs.Judged.{benchChecks}
 use Rattle.offer.proofs.Lines.{fails}
 use Rattle.entry.specs.Sessions.{cleared, entered}
 use Rattle.tag.specs.States.{KeyedTag, atRest}
-use Rattle.tag.specs.Answers.{Answer, Call, refused, replied, letIn, tam1Answer, tam2Answer, iam1Answer, iam2Answer}
-use Rattle.tag.specs.Answers.{iam3Answer, mam1Answer, mam2Answer, byKind, ofBench, answerOf}
-use Rattle.tag.proofs.Cases.{fine-case, answer-case}
+use Rattle.tag.specs.Answers.{Effect, Call, refused, replied, letIn, tam1Answer, tam2Answer, iam1Answer, iam2Answer}
+use Rattle.tag.specs.Answers.{iam3Answer, mam1Answer, mam2Answer, byKind, ofBench, effectOf, answerOf}
+use Rattle.tag.proofs.Cases.{fine-case, effect-case}
 use Rattle.image.specs.Image.{rests}
 use Rattle.image.specs.Kept.{Fits}
 
@@ -35,8 +35,8 @@ entered-fits = record { tchallenge = refl; ichallenge = refl; rest = refl }
 
 module _ (c : Call) where
   -- with ten draws
-  abbrev Of : Answer → Type 0
-  Of a = length (c .draws) ≡ 10 → Fits (a .session)
+  abbrev Of : Effect → Type 0
+  Of e = length (c .draws) ≡ 10 → Fits (e .session)
 
   refused-fits : (f : Fault) → Of (refused c f cleared)
   unfolding refused
@@ -63,19 +63,19 @@ module _ (c : Call) where
     kind-fits Mam2 = fine-case c Of refused-fits _ _ (λ d. entered-fits)
     kind-fits Unsupported = refused-fits NotSupported
 
-    ten-drawn : Of (answerOf c tag)
+    ten-drawn : Of (effectOf c tag)
     unfolding refused
-    ten-drawn = answer-case c Of refused-fits tag (λ f d. h) (λ first rest e o t. kind-fits (kindOf first))
+    ten-drawn = effect-case c Of refused-fits tag (λ f d. h) (λ first rest e o t. kind-fits (kindOf first))
 
     -- any other number of draws is number 7, and the session stays
-    not-ten : eqb (length (c .draws)) 10 ≡ false → Fits (answerOf c tag .session)
-    unfolding answerOf benchChecks refused
+    not-ten : eqb (length (c .draws)) 10 ≡ false → Fits (answerOf c tag .tag .session)
+    unfolding effectOf benchChecks refused
     not-ten e =
         subst (λ (v : Verdict). Fits (ofBench c (tag .setup) (tag .session) v .session)) (fails BenchFault _ e) h
 
-    by-draws : (b : Bool) → eqb (length (c .draws)) 10 ≡ b → Fits (answerOf c tag .session)
+    by-draws : (b : Bool) → eqb (length (c .draws)) 10 ≡ b → Fits (answerOf c tag .tag .session)
     by-draws true e = ten-drawn (eqb-true _ _ e)
     by-draws false e = not-ten e
 
-    pub answer-fits : Fits (answerOf c tag .session)
+    pub answer-fits : Fits (answerOf c tag .tag .session)
     answer-fits = by-draws (eqb (length (c .draws)) 10) refl

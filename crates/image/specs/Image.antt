@@ -16,7 +16,8 @@ use Rattle.sheet.specs.Kinds.{bodyLength}
 use Rattle.sheet.specs.Limits.{keyLimit, profileLimit, lockLimit}
 use Rattle.sheet.specs.KeyTable.{keyRecord, recordCount, keysIn}
 use Rattle.sheet.specs.Records.{featuresOf, sizesOf, slotOf, lockOf}
-use Rattle.sheet.specs.Writer.{featuresBody, sizesBody, profileBody, lockBody}
+use Rattle.sheet.specs.Setups.{termsOf}
+use Rattle.sheet.specs.Writer.{featuresBody, sizesBody, profileBody, lockBody, keysWritten}
 use Rattle.entry.specs.declared.State.{State}
 use Rattle.entry.specs.declared.State.the-variants.{Initial, IamInit, MamInit, IaOk}
 use Rattle.entry.specs.declared.Session.{Session}
@@ -72,6 +73,10 @@ termsBytes t =
 unfoldable pub imageOf : Session → Terms → List ℕ → List ℕ
 imageOf s t table =
     sessionBytes s ++ (termsBytes t ++ (twoBytes (recordCount table) ++ over table (replicate keyRoom 0)))
+
+-- The same of a tag with its keys: they stand as a sheet has them.
+abbrev pub tagImage : KeyedTag → List ℕ
+tagImage tag = imageOf (tag .session) (termsOf (tag .setup)) (keysWritten (tag .setup .keys))
 
 -- ---- how any bytes are read
 

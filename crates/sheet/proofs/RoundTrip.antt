@@ -242,7 +242,7 @@ module _ (limit : ℕ) (s : Setup) (w : Within limit s) where
       ks 0 keysAt 2 0 count refl (w .keys) (omega arith) (omega arith)
 
   -- the key table of what is written is the keys as they are written
-  written-table : keyTable (written s) (length (s .keys)) ≡ keysWritten (s .keys)
+  pub written-table : keyTable (written s) (length (s .keys)) ≡ keysWritten (s .keys)
   unfolding written
   written-table =
       let o = (1 ∷ featuresBody (s .features)) ++ (2 ∷ sizesBody (s .sizes)) in

@@ -23,9 +23,9 @@ use Rattle.tag.specs.States.{KeyedTag}
 use Rattle.offer.specs.declared.Fault.the-variants.{NotSupported}
 use Rattle.entry.specs.Sessions.{cleared}
 use Rattle.offer.specs.Records.{blockAsked}
-use Rattle.tag.specs.Answers.{Answer, Call, refused, replied, letIn, tam1Answer, tam2Answer, iam1Answer}
-use Rattle.tag.specs.Answers.{iam2Answer, iam3Answer, mam1Answer, mam2Answer, byKind, answerOf}
-use Rattle.tag.proofs.Cases.{fine-case, answer-case}
+use Rattle.tag.specs.Answers.{Effect, Call, refused, replied, letIn, tam1Answer, tam2Answer, iam1Answer}
+use Rattle.tag.specs.Answers.{iam2Answer, iam3Answer, mam1Answer, mam2Answer, byKind, effectOf}
+use Rattle.tag.proofs.Cases.{fine-case, effect-case}
 
 -- A byte of an area that is none of the block's: the block is in the other area, or the byte lies before it or behind
 -- it.
@@ -33,18 +33,18 @@ abbrev pub Outside : Area → Block → ℕ → Type 0
 Outside area b i = (sameArea area (b .area) ≡ false) ⊎ ((i < firstByte b) ⊎ (firstByte b + byteCount b ≤ i))
 
 -- Both areas are as they were.
-pub record Still (c : Call) (a : Answer) : Type 0 where
-  pub identity : a .identity ≡ c .identity
-  pub user : a .user ≡ c .user
+pub record Still (c : Call) (e : Effect) : Type 0 where
+  pub identity : e .identity ≡ c .identity
+  pub user : e .user ≡ c .user
 
 -- Every byte but those of the addressed block is as it was, in both areas, and none is added or lost.
-pub record Elsewhere (c : Call) (tag : KeyedTag) (a : Answer) : Type 0 where
+pub record Elsewhere (c : Call) (tag : KeyedTag) (e : Effect) : Type 0 where
   pub identity : (i : ℕ) → Outside Identity (blockAsked (tag .setup .profiles) (iam3Of (c .message) .custom)) i
-      → getD (a .identity) i 0 ≡ getD (c .identity) i 0
+      → getD (e .identity) i 0 ≡ getD (c .identity) i 0
   pub user : (i : ℕ) → Outside User (blockAsked (tag .setup .profiles) (iam3Of (c .message) .custom)) i
-      → getD (a .user) i 0 ≡ getD (c .user) i 0
-  pub identityLength : length (a .identity) ≡ length (c .identity)
-  pub userLength : length (a .user) ≡ length (c .user)
+      → getD (e .user) i 0 ≡ getD (c .user) i 0
+  pub identityLength : length (e .identity) ≡ length (c .identity)
+  pub userLength : length (e .user) ≡ length (c .user)
 
 -- a store changes no such byte
 stored-apart : (area : Area) (b : Block) (bytes s : List ℕ) (i : ℕ) → Outside area b i
@@ -76,13 +76,13 @@ module _ (c : Call) where
 
   -- a message that is no IAM3 changes no area
   pub still : (tag : KeyedTag) → ((first : ℕ) (rest : List ℕ) → c .message ≡ first ∷ rest → kindOf first ≡ Iam3 → ⊥)
-      → Still c (answerOf c tag)
+      → Still c (effectOf c tag)
   still tag h =
-      answer-case c (Still c) (λ f. refusal-still f cleared) tag (λ f. refusal-still f (tag .session))
+      effect-case c (Still c) (λ f. refusal-still f cleared) tag (λ f. refusal-still f (tag .session))
       (λ first rest e o t. kind-still (tag .setup) (tag .session) (kindOf first) (h first rest e))
 
-  still-elsewhere : (tag : KeyedTag) (a : Answer) → Still c a → Elsewhere c tag a
-  still-elsewhere tag a s = record {
+  still-elsewhere : (tag : KeyedTag) (e : Effect) → Still c e → Elsewhere c tag e
+  still-elsewhere tag e s = record {
     identity = λ i o. ap (λ (l : List ℕ). getD l i 0) (s .identity);
     user = λ i o. ap (λ (l : List ℕ). getD l i 0) (s .user);
     identityLength = ap length (s .identity);
@@ -126,8 +126,8 @@ module _ (c : Call) where
       (kind-still (tag .setup) (tag .session) Unsupported (λ e. (let z : _≡_ {A = ℕ} 0 1 = cc in omega arith)))
 
   -- whatever the message, every byte outside the addressed block stays
-  pub elsewhere : (tag : KeyedTag) → Elsewhere c tag (answerOf c tag)
+  pub elsewhere : (tag : KeyedTag) → Elsewhere c tag (effectOf c tag)
   elsewhere tag =
-      answer-case c (Elsewhere c tag) (λ f. still-elsewhere tag (refused c f cleared) (refusal-still f cleared)) tag
+      effect-case c (Elsewhere c tag) (λ f. still-elsewhere tag (refused c f cleared) (refusal-still f cleared)) tag
       (λ f. still-elsewhere tag (refused c f (tag .session)) (refusal-still f (tag .session)))
       (λ first rest e o t. kind-elsewhere tag (kindOf first))

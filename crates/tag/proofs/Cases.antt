@@ -1,5 +1,5 @@
 -- What holds of every refusal, and of what each kind of message comes to where it is offered and in its turn, holds of
--- the tag's answer.
+-- what any message does.
 use mathlib.Core.Path.{_≡_, refl}
 use mathlib.Core.Bool.{Bool, true, false}
 use mathlib.Core.List.{List, [], _∷_}
@@ -17,20 +17,20 @@ use Rattle.tag.specs.States.{inTurn}
 use Rattle.offer.specs.Checks.{judged}
 use Rattle.offer.specs.Records.{offered}
 use Rattle.offer.specs.Judged.{benchChecks}
-use Rattle.tag.specs.Answers.{Answer, Call, refused, ifFine, byKind, inOrder, ofMessage, ofBench, answerOf}
+use Rattle.tag.specs.Answers.{Effect, Call, refused, ifFine, byKind, inOrder, ofMessage, ofBench, effectOf}
 
-module _ (c : Call) (P : Answer → Type 0) (initial : (f : Fault) → P (refused c f cleared)) where
-  pub fine-case : (v : Verdict) (a : Answer) → P a → P (ifFine c v a)
+module _ (c : Call) (P : Effect → Type 0) (initial : (f : Fault) → P (refused c f cleared)) where
+  pub fine-case : (v : Verdict) (e : Effect) → P e → P (ifFine c v e)
   unfolding ifFine
-  fine-case Fine a h = h
-  fine-case (Wrong f) a h = initial f
+  fine-case Fine e h = h
+  fine-case (Wrong f) e h = initial f
 
-  pub fine-known : (v : Verdict) (a : Answer) → (v ≡ Fine → P a) → P (ifFine c v a)
+  pub fine-known : (v : Verdict) (e : Effect) → (v ≡ Fine → P e) → P (ifFine c v e)
   unfolding ifFine
-  fine-known Fine a h = h refl
-  fine-known (Wrong f) a h = initial f
+  fine-known Fine e h = h refl
+  fine-known (Wrong f) e h = initial f
 
-  picked : (b : Bool) (x y : Answer) → (b ≡ true → P x) → P y → P (pick b x y)
+  picked : (b : Bool) (x y : Effect) → (b ≡ true → P x) → P y → P (pick b x y)
   picked true x y h k = h refl
   picked false x y h k = k
 
@@ -53,8 +53,8 @@ module _ (c : Call) (P : Answer → Type 0) (initial : (f : Fault) → P (refuse
       of-bench Fine = of-message (c .message) refl
       of-bench (Wrong f) = asItWas f
 
-      pub answer-case : P (answerOf c tag)
-      unfolding answerOf
-      answer-case =
+      pub effect-case : P (effectOf c tag)
+      unfolding effectOf
+      effect-case =
           of-bench (judged
           (benchChecks (tag .setup .sizes) (length (c .draws)) (c .room) (length (c .identity)) (length (c .user))))

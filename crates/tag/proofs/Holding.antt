@@ -19,9 +19,9 @@ use Rattle.entry.specs.declared.State.the-variants.{Initial, IamInit, MamInit, 
 use Rattle.entry.specs.Sessions.{cleared, entered}
 use Rattle.keytable.specs.Named.{hasKey}
 use Rattle.tag.specs.States.{KeyedTag, poweredUp, keyFits}
-use Rattle.tag.specs.Answers.{Answer, Call, refused, replied, letIn, tam1Answer, tam2Answer, iam1Answer}
+use Rattle.tag.specs.Answers.{Effect, Call, refused, replied, letIn, tam1Answer, tam2Answer, iam1Answer}
 use Rattle.tag.specs.Answers.{iam2Answer, iam3Answer, mam1Answer, mam2Answer, byKind, answerOf}
-use Rattle.tag.proofs.Cases.{fine-case, fine-known, answer-case}
+use Rattle.tag.proofs.Cases.{fine-case, fine-known, effect-case}
 use Rattle.offer.proofs.Passed.{opening-key}
 
 pub record Holds (keys : List Key) (s : Session) : Type 0 where
@@ -59,8 +59,8 @@ module _ (setup : Setup) where
   powered-up-holds = cleared-holds
 
   module _ (c : Call) where
-    abbrev Of : Answer → Type 0
-    Of a = Holds (setup .keys) (a .session)
+    abbrev Of : Effect → Type 0
+    Of e = Holds (setup .keys) (e .session)
 
     refused-holds : (f : Fault) → Of (refused c f cleared)
     unfolding refused
@@ -89,8 +89,8 @@ module _ (setup : Setup) where
 
 -- a call keeps it so
 pub answer-holds : (c : Call) (tag : KeyedTag) → Holds (tag .setup .keys) (tag .session)
-    → Holds (tag .setup .keys) (answerOf c tag .session)
+    → Holds (answerOf c tag .tag .setup .keys) (answerOf c tag .tag .session)
 unfolding refused
 answer-holds c tag h =
-    answer-case c (Of (tag .setup) c) (refused-holds (tag .setup) c) tag (λ f. h)
+    effect-case c (Of (tag .setup) c) (refused-holds (tag .setup) c) tag (λ f. h)
     (λ first rest e o t. kind-holds (tag .setup) c (tag .session) (kindOf first))

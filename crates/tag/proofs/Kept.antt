@@ -1,6 +1,6 @@
--- Every refusal keeps everything: it sends nothing, changes no byte of either area, and leaves the tag in Initial with
--- nothing held (1 to 6) or as it was (7).
-use mathlib.Core.Path.{_≡_, refl, sym, _∙_, subst}
+-- Every refusal keeps everything: it sends nothing, changes no byte of either area and nothing of the setup, and leaves
+-- the tag in Initial with nothing held (1 to 6) or as it was (7).
+use mathlib.Core.Path.{_≡_, refl, sym, ap, _∙_, subst}
 use mathlib.Core.Bool.{Bool, true, false}
 use mathlib.Core.List.{List, [], _∷_}
 use Prim.Native.Nat.{ℕ}
@@ -14,7 +14,7 @@ use Rattle.offer.specs.declared.Fault.{Fault}
 use Rattle.offer.specs.declared.Fault.the-variants.{OtherError, NotSupported, OutOfTurn}
 use Rattle.offer.specs.declared.Outcome.the-variants.{Refused}
 use Rattle.entry.specs.declared.Session.{Session}
-use Rattle.tag.specs.States.{KeyedTag}
+use Rattle.tag.specs.States.{KeyedTag, holding}
 use Rattle.offer.specs.declared.Verdict.{Verdict}
 use Rattle.offer.specs.declared.Verdict.the-variants.{Fine, Wrong}
 use Rattle.entry.specs.Sessions.{cleared}
@@ -25,16 +25,16 @@ use Rattle.offer.specs.Records.{offered}
 use Rattle.offer.specs.Judged.{benchChecks, openingChecks}
 use Rattle.tam.specs.Judged.{tam2Checks}
 use Rattle.entry.specs.Judged.{iam2Checks, iam3Checks, mam2Checks}
-use Rattle.tag.specs.Answers.{Answer, Call, refused, replied, letIn, ifFine, tam1Answer, tam2Answer, iam1Answer}
-use Rattle.tag.specs.Answers.{iam2Answer, iam3Answer, mam1Answer, mam2Answer, byKind, inOrder, ofMessage, ofBench}
-use Rattle.tag.specs.Answers.{answerOf}
+use Rattle.tag.specs.Answers.{Answer, Effect, Call, refused, replied, letIn, ifFine, tam1Answer, tam2Answer}
+use Rattle.tag.specs.Answers.{iam1Answer, iam2Answer, iam3Answer, mam1Answer, mam2Answer, byKind, inOrder}
+use Rattle.tag.specs.Answers.{ofMessage, ofBench, effectOf, answerWith, answerOf}
 
--- Nothing was sent and no byte of an area changed; the tag holds `s`.
-pub record Kept (c : Call) (s : Session) (a : Answer) : Type 0 where
+-- Nothing was sent and no byte of an area changed; the tag is `t`.
+pub record Kept (c : Call) (t : KeyedTag) (a : Answer) : Type 0 where
   pub silent : a .reply ≡ []
   pub identity : a .identity ≡ c .identity
   pub user : a .user ≡ c .user
-  pub session : a .session ≡ s
+  pub tag : a .tag ≡ t
 
 -- ---- a line of checks refuses by one of its own numbers
 
@@ -58,42 +58,43 @@ module _ (P : Fault → Type 0) where
 abbrev ToInitial : Fault → Type 0
 ToInitial f = (held : Session) → sessionAfter f held ≡ cleared
 
-abbrev KeptInitial : Call → Answer → Type 0
-KeptInitial c a = (f : Fault) → a .outcome ≡ Refused f → Kept c cleared a × ToInitial f
+module _ (c : Call) (setup : Setup) where
+  abbrev KeptInitial : Effect → Type 0
+  KeptInitial e = (f : Fault) → e .outcome ≡ Refused f → Kept c (holding setup cleared) (answerWith setup e)
+      × ToInitial f
 
-module _ (c : Call) where
-  refusal-keeps : (g : Fault) → ToInitial g → KeptInitial c (refused c g cleared)
+  refusal-keeps : (g : Fault) → ToInitial g → KeptInitial (refused c g cleared)
   unfolding refused
   refusal-keeps g h f e = (
-    record { silent = refl; identity = refl; user = refl; session = refl },
+    record { silent = refl; identity = refl; user = refl; tag = refl },
     (let q : g ≡ f = cc in
         subst (λ (x : Fault). ToInitial x) q h),
   )
 
-  reply-keeps : (reply : List ℕ) (s : Session) → KeptInitial c (replied c reply s)
+  reply-keeps : (reply : List ℕ) (s : Session) → KeptInitial (replied c reply s)
   unfolding replied
   reply-keeps reply s f e = let z : _≡_ {A = ℕ} 0 1 = cc in absurd (omega arith)
 
-  entry-keeps : (purpose : ℕ) (identity user : List ℕ) → KeptInitial c (letIn c purpose identity user)
+  entry-keeps : (purpose : ℕ) (identity user : List ℕ) → KeptInitial (letIn c purpose identity user)
   unfolding letIn
   entry-keeps purpose identity user f e = let z : _≡_ {A = ℕ} 0 1 = cc in absurd (omega arith)
 
-  verdict-keeps : (v : Verdict) (a : Answer) → ((f : Fault) → v ≡ Wrong f → ToInitial f) → KeptInitial c a
-      → KeptInitial c (ifFine c v a)
+  verdict-keeps : (v : Verdict) (e : Effect) → ((f : Fault) → v ≡ Wrong f → ToInitial f) → KeptInitial e
+      → KeptInitial (ifFine c v e)
   unfolding ifFine
-  verdict-keeps Fine a g k = k
-  verdict-keeps (Wrong f) a g k = refusal-keeps f (g f refl)
+  verdict-keeps Fine e g k = k
+  verdict-keeps (Wrong f) e g k = refusal-keeps f (g f refl)
 
-  fine-keeps : (ks : List (Check Fault)) (a : Answer) → Each ToInitial ks → KeptInitial c a
-      → KeptInitial c (ifFine c (judged ks) a)
-  fine-keeps ks a h k = verdict-keeps (judged ks) a (fault-of ToInitial ks h) k
+  fine-keeps : (ks : List (Check Fault)) (e : Effect) → Each ToInitial ks → KeptInitial e
+      → KeptInitial (ifFine c (judged ks) e)
+  fine-keeps ks e h k = verdict-keeps (judged ks) e (fault-of ToInitial ks h) k
 
-  picked-keeps : (b : Bool) (x y : Answer) → KeptInitial c x → KeptInitial c y → KeptInitial c (pick b x y)
+  picked-keeps : (b : Bool) (x y : Effect) → KeptInitial x → KeptInitial y → KeptInitial (pick b x y)
   picked-keeps true x y hx hy = hx
   picked-keeps false x y hx hy = hy
 
-  module _ (setup : Setup) (held : Session) where
-    kind-keeps : (k : Kind) → KeptInitial c (byKind c setup held k)
+  module _ (held : Session) where
+    kind-keeps : (k : Kind) → KeptInitial (byKind c setup held k)
     unfolding byKind tam1Answer tam2Answer iam1Answer iam2Answer iam3Answer mam1Answer mam2Answer openingChecks
         tam2Checks iam2Checks iam3Checks mam2Checks
     kind-keeps Tam1 = fine-keeps _ _ ((λ h. refl), ((λ h. refl), ((λ h. refl), tt))) (reply-keeps _ _)
@@ -118,7 +119,7 @@ module _ (c : Call) where
     kind-keeps Mam2 = fine-keeps _ _ ((λ h. refl), ((λ h. refl), ((λ h. refl), tt))) (entry-keeps _ _ _)
     kind-keeps Unsupported = refusal-keeps NotSupported (λ h. refl)
 
-    order-keeps : (k : Kind) → KeptInitial c (inOrder c setup held k)
+    order-keeps : (k : Kind) → KeptInitial (inOrder c setup held k)
     unfolding inOrder
     order-keeps k =
         picked-keeps (offered (setup .features) k) _ (refused c NotSupported cleared)
@@ -126,14 +127,14 @@ module _ (c : Call) where
         (refusal-keeps OutOfTurn (λ h. refl)))
         (refusal-keeps NotSupported (λ h. refl))
 
-    message-keeps : (m : List ℕ) → KeptInitial c (ofMessage c setup held m)
+    message-keeps : (m : List ℕ) → KeptInitial (ofMessage c setup held m)
     unfolding ofMessage
     message-keeps [] = refusal-keeps OtherError (λ h. refl)
     message-keeps (b ∷ m) = order-keeps (kindOf b)
 
     bench-keeps : (v : Verdict) → ((f : Fault) → v ≡ Wrong f → sessionAfter f held ≡ held) → (f : Fault)
         → ofBench c setup held v .outcome ≡ Refused f
-        → Kept c (sessionAfter f held) (ofBench c setup held v)
+        → Kept c (holding setup (sessionAfter f held)) (answerWith setup (ofBench c setup held v))
     unfolding refused
     bench-keeps Fine h f e =
         let k = message-keeps (c .message) f e in
@@ -141,8 +142,7 @@ module _ (c : Call) where
           silent = k .0 .silent;
           identity = k .0 .identity;
           user = k .0 .user;
-          session =
-              k .0 .session ∙ sym (k .1 held);
+          tag = k .0 .tag ∙ ap (holding setup) (sym (k .1 held));
         }
     bench-keeps (Wrong g) h f e =
         let q : g ≡ f = cc in
@@ -150,14 +150,13 @@ module _ (c : Call) where
           silent = refl;
           identity = refl;
           user = refl;
-          session =
-              sym (subst (λ (x : Fault). sessionAfter x held ≡ held) q (h g refl));
+          tag = ap (holding setup) (sym (subst (λ (x : Fault). sessionAfter x held ≡ held) q (h g refl)));
         }
 
 -- Every refusal keeps everything.
 pub refusal-kept : (c : Call) (tag : KeyedTag) (f : Fault) → answerOf c tag .outcome ≡ Refused f
-    → Kept c (sessionAfter f (tag .session)) (answerOf c tag)
-unfolding answerOf benchChecks
+    → Kept c (holding (tag .setup) (sessionAfter f (tag .session))) (answerOf c tag)
+unfolding effectOf benchChecks
 refusal-kept c tag f e =
     bench-keeps c (tag .setup) (tag .session) _
     (fault-of (λ x. sessionAfter x (tag .session) ≡ tag .session) _ (refl, (refl, (refl, (refl, tt))))) f e

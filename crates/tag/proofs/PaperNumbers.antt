@@ -13,9 +13,9 @@ use Rattle.tag.specs.States.{KeyedTag}
 use Rattle.entry.specs.Sessions.{cleared}
 use Rattle.offer.specs.Outcomes.{replyLength}
 use Rattle.tag.specs.States.{sessionAfter}
-use Rattle.tag.specs.Answers.{Answer, Call, refused, replied, letIn, tam1Answer, tam2Answer, iam1Answer}
+use Rattle.tag.specs.Answers.{Effect, Call, refused, replied, letIn, tam1Answer, tam2Answer, iam1Answer}
 use Rattle.tag.specs.Answers.{iam2Answer, iam3Answer, mam1Answer, mam2Answer, byKind, answerOf}
-use Rattle.tag.proofs.Cases.{fine-case, answer-case}
+use Rattle.tag.proofs.Cases.{fine-case, effect-case}
 
 -- A row: what the tag holds afterwards, where it held `held`. (The numbers stand in `offer`.)
 abbrev ToInitial : Fault → Type 0
@@ -43,8 +43,8 @@ pub bench-fault : (held : Session) → sessionAfter BenchFault held ≡ held
 bench-fault held = refl
 
 -- The length that is told is that of the reply; with a refusal it is 0.
-abbrev Told : Answer → Type 0
-Told a = replyLength (a .outcome) ≡ length (a .reply)
+abbrev Told : Effect → Type 0
+Told e = replyLength (e .outcome) ≡ length (e .reply)
 
 module _ (c : Call) where
   refusal-told : (f : Fault) (s : Session) → Told (refused c f s)
@@ -64,5 +64,5 @@ module _ (c : Call) where
 
   pub length-told : (tag : KeyedTag) → replyLength (answerOf c tag .outcome) ≡ length (answerOf c tag .reply)
   length-told tag =
-      answer-case c Told (λ f. refusal-told f cleared) tag (λ f. refusal-told f (tag .session))
+      effect-case c Told (λ f. refusal-told f cleared) tag (λ f. refusal-told f (tag .session))
       (λ first rest e o t. kind-told (tag .setup) (tag .session) (kindOf first))

@@ -14,15 +14,16 @@ use Rattle.entry.specs.declared.State.the-variants.{Initial, IamInit, MamInit, 
 use Rattle.offer.specs.declared.Fault.{Fault}
 use Rattle.offer.specs.declared.Fault.the-variants.{NotSupported}
 use Rattle.entry.specs.declared.Session.{Session}
+use Rattle.offer.specs.declared.Outcome.{Outcome}
 use Rattle.offer.specs.declared.Outcome.the-variants.{Refused}
 use Rattle.tag.specs.States.{KeyedTag}
 use Rattle.entry.specs.Sessions.{cleared, entered}
 use Rattle.tag.specs.States.{poweredUp, atRest, afterIam1, afterMam1, inTurn, tableA1}
-use Rattle.tag.specs.Runs.{Event, Message, PowerUp, callOf, answerTo, tagAfter, run}
+use Rattle.tag.specs.Runs.{Event, Message, PowerUp, callOf, answerTo, run}
 use Rattle.offer.specs.Records.{offered}
-use Rattle.tag.specs.Answers.{Answer, Call, refused, replied, letIn, tam1Answer, tam2Answer, iam1Answer}
-use Rattle.tag.specs.Answers.{iam2Answer, iam3Answer, mam1Answer, mam2Answer, byKind, answerOf}
-use Rattle.tag.proofs.Cases.{fine-case, answer-case}
+use Rattle.tag.specs.Answers.{Answer, Effect, Call, refused, replied, letIn, tam1Answer, tam2Answer, iam1Answer}
+use Rattle.tag.specs.Answers.{iam2Answer, iam3Answer, mam1Answer, mam2Answer, byKind, answerWith, answerOf}
+use Rattle.tag.proofs.Cases.{fine-case, effect-case}
 
 -- Table A.1, the last column.
 abbrev nextState : Kind → State
@@ -110,8 +111,8 @@ row IamInit Unsupported e = absurd (false≢true e)
 row MamInit Unsupported e = absurd (false≢true e)
 row IaOk Unsupported e = absurd (false≢true e)
 
-abbrev pub Accepted : Answer → Type 0
-Accepted a = (f : Fault) → a .outcome ≡ Refused f → ⊥
+abbrev pub Accepted : Outcome → Type 0
+Accepted o = (f : Fault) → o ≡ Refused f → ⊥
 
 -- What is known of an accepted message: the tag offers it, and Table A.1 has a row for it, whose next state is the
 -- tag's.
@@ -120,18 +121,18 @@ pub record Successor (c : Call) (tag : KeyedTag) (a : Answer) : Type 0 where
   pub rest : List ℕ
   pub message : c .message ≡ first ∷ rest
   pub offer : offered (tag .setup .features) (kindOf first) ≡ true
-  pub row : tableA1 (tag .session .state) (kindOf first) ≡ a .session .state ∷ []
+  pub row : tableA1 (tag .session .state) (kindOf first) ≡ a .tag .session .state ∷ []
 
 module _ (c : Call) where
-  refusal-not : (P : Answer → Type 0) (f : Fault) (s : Session) → Accepted (refused c f s) → P (refused c f s)
+  refusal-not : (P : Effect → Type 0) (f : Fault) (s : Session) → Accepted (refused c f s .outcome) → P (refused c f s)
   unfolding refused
   refusal-not P f s h = absurd (h f refl)
 
-  abbrev In : Kind → Answer → Type 0
-  In k a = a .session .state ≡ nextState k
+  abbrev In : Kind → Effect → Type 0
+  In k e = e .session .state ≡ nextState k
 
-  abbrev Leads : Kind → Answer → Type 0
-  Leads k a = Accepted a → In k a
+  abbrev Leads : Kind → Effect → Type 0
+  Leads k e = Accepted (e .outcome) → In k e
 
   kind-leads : (setup : Setup) (held : Session) (k : Kind) → Leads k (byKind c setup held k)
   unfolding byKind tam1Answer tam2Answer iam1Answer iam2Answer iam3Answer mam1Answer mam2Answer replied letIn cleared
@@ -145,10 +146,13 @@ module _ (c : Call) where
   kind-leads setup held Mam2 = fine-case c (Leads Mam2) (λ f. refusal-not (In Mam2) f cleared) _ _ (λ h. refl)
   kind-leads setup held Unsupported = refusal-not (In Unsupported) NotSupported cleared
 
-  pub successor : (tag : KeyedTag) → Accepted (answerOf c tag) → Successor c tag (answerOf c tag)
+  abbrev Follows : KeyedTag → Effect → Type 0
+  Follows tag e = Successor c tag (answerWith (tag .setup) e)
+
+  pub successor : (tag : KeyedTag) → Accepted (answerOf c tag .outcome) → Successor c tag (answerOf c tag)
   successor tag =
-      answer-case c (λ a. Accepted a → Successor c tag a) (λ f. refusal-not (Successor c tag) f cleared) tag
-      (λ f. refusal-not (Successor c tag) f (tag .session))
+      effect-case c (λ e. Accepted (e .outcome) → Follows tag e) (λ f. refusal-not (Follows tag) f cleared) tag
+      (λ f. refusal-not (Follows tag) f (tag .session))
       (λ first rest e o t h. record {
         first = first;
         rest = rest;
@@ -188,26 +192,26 @@ module _ (c : Call) where
 
   kind-rests : (setup : Setup) (held : Session) (k : Kind) → Rested (byKind c setup held k .session)
   unfolding byKind tam1Answer tam2Answer iam1Answer iam2Answer iam3Answer mam1Answer mam2Answer replied letIn
-  kind-rests setup held Tam1 = fine-case c (λ a. Rested (a .session)) (λ f. refused-rests f) _ _ cleared-rests
-  kind-rests setup held Tam2 = fine-case c (λ a. Rested (a .session)) (λ f. refused-rests f) _ _ cleared-rests
+  kind-rests setup held Tam1 = fine-case c (λ e. Rested (e .session)) (λ f. refused-rests f) _ _ cleared-rests
+  kind-rests setup held Tam2 = fine-case c (λ e. Rested (e .session)) (λ f. refused-rests f) _ _ cleared-rests
   kind-rests setup held Iam1 =
-      fine-case c (λ a. Rested (a .session)) (λ f. refused-rests f) _ _
+      fine-case c (λ e. Rested (e .session)) (λ f. refused-rests f) _ _
       (waiting-rests _ (λ e. (let z : _≡_ {A = ℕ} 0 1 = cc in omega arith))
       (λ e. (let z : _≡_ {A = ℕ} 0 1 = cc in omega arith)))
-  kind-rests setup held Iam2 = fine-case c (λ a. Rested (a .session)) (λ f. refused-rests f) _ _ entered-rests
-  kind-rests setup held Iam3 = fine-case c (λ a. Rested (a .session)) (λ f. refused-rests f) _ _ entered-rests
+  kind-rests setup held Iam2 = fine-case c (λ e. Rested (e .session)) (λ f. refused-rests f) _ _ entered-rests
+  kind-rests setup held Iam3 = fine-case c (λ e. Rested (e .session)) (λ f. refused-rests f) _ _ entered-rests
   kind-rests setup held Mam1 =
-      fine-case c (λ a. Rested (a .session)) (λ f. refused-rests f) _ _
+      fine-case c (λ e. Rested (e .session)) (λ f. refused-rests f) _ _
       (waiting-rests _ (λ e. (let z : _≡_ {A = ℕ} 0 1 = cc in omega arith))
       (λ e. (let z : _≡_ {A = ℕ} 0 1 = cc in omega arith)))
-  kind-rests setup held Mam2 = fine-case c (λ a. Rested (a .session)) (λ f. refused-rests f) _ _ entered-rests
+  kind-rests setup held Mam2 = fine-case c (λ e. Rested (e .session)) (λ f. refused-rests f) _ _ entered-rests
   kind-rests setup held Unsupported = refused-rests NotSupported
 
   -- a call keeps it so
-  pub answer-rests : (tag : KeyedTag) → Rested (tag .session) → Rested (answerOf c tag .session)
+  pub answer-rests : (tag : KeyedTag) → Rested (tag .session) → Rested (answerOf c tag .tag .session)
   unfolding refused
   answer-rests tag h =
-      answer-case c (λ a. Rested (a .session)) (λ f. cleared-rests) tag (λ f. h)
+      effect-case c (λ e. Rested (e .session)) (λ f. cleared-rests) tag (λ f. h)
       (λ first rest e o t. kind-rests (tag .setup) (tag .session) (kindOf first))
 
 -- Any two tags in Initial with the same setup are equal, and so in IA-OK.
@@ -217,7 +221,7 @@ initial-equal s t a b e f = a .initial e ∙ sym (b .initial f)
 -- From power-up on: every session of a run.
 unfoldable pub AllRested : List Answer → Type 0
 AllRested [] = Unit
-AllRested (a ∷ answers) = Rested (a .session) × AllRested answers
+AllRested (a ∷ answers) = Rested (a .tag .session) × AllRested answers
 
 pub run-rests : (es : List Event) (tag : KeyedTag) (identity user : List ℕ) → Rested (tag .session)
     → AllRested (run tag identity user es)
@@ -225,5 +229,7 @@ unfolding run answerTo AllRested
 run-rests [] tag identity user h = tt
 run-rests (Message s ∷ es) tag identity user h =
     let k = answer-rests (callOf s identity user) tag h in
-    (k, run-rests es (tagAfter tag (answerOf (callOf s identity user) tag)) _ _ k)
-run-rests (PowerUp ∷ es) tag identity user h = (cleared-rests, run-rests es _ identity user cleared-rests)
+    (k, run-rests es (answerOf (callOf s identity user) tag .tag) _ _ k)
+run-rests (PowerUp ∷ es) tag identity user h =
+    let k = powered-up-rests (tag .setup) in
+    (k, run-rests es (poweredUp (tag .setup)) identity user k)

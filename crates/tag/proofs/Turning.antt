@@ -25,8 +25,9 @@ use Rattle.offer.specs.Outcomes.{numberGiven}
 use Rattle.offer.specs.Checks.{judged}
 use Rattle.offer.specs.Records.{offered}
 use Rattle.offer.specs.Judged.{benchChecks}
-use Rattle.tag.specs.Answers.{Answer, Call, refused, tam1Answer, tam2Answer, iam1Answer, iam2Answer, iam3Answer}
-use Rattle.tag.specs.Answers.{mam1Answer, mam2Answer, byKind, inOrder, ofMessage, ofBench, answerOf}
+use Rattle.tag.specs.Answers.{Effect, Call, refused, tam1Answer, tam2Answer, iam1Answer, iam2Answer, iam3Answer}
+use Rattle.tag.specs.Answers.{mam1Answer, mam2Answer, byKind, inOrder, ofMessage, ofBench, effectOf}
+use Rattle.tag.specs.Answers.{answerWith, answerOf}
 use Rattle.entry.specs.Given.{LetsIn, Writes, iam2Verdict, iam2Purpose, iam3Verdict, iam3Purpose, iam3Stored}
 use Rattle.entry.specs.Given.{mam2Verdict, mam2Purpose}
 use Rattle.entry.proofs.Giving.{Turned}
@@ -108,7 +109,7 @@ module _ (c : Call) (setup : Setup) (held : Session) (room : List ℕ) (r : Reac
           → ReactsIn (inOrder c setup held k) room r after i u
       unfolding inOrder
       in-place b after i u e =
-          subst (λ (a : Answer). ReactsIn a room r after i u)
+          subst (λ (x : Effect). ReactsIn x room r after i u)
           (λ j. pick (sym o j) (pick (sym e j) (byKind c setup held k) (refused c OutOfTurn cleared))
           (refused c NotSupported cleared))
 
@@ -145,22 +146,22 @@ module _ (tag : Tag) (keys m draws room i u : List ℕ) (v : Verdict)
   setup = setupOf (tag .terms) keys
 
   pub bench-wrong : (f : Fault) → v ≡ Wrong f
-      → Steps (answerOf call (keyed tag keys)) tag room (record { outcome = Refused f; tag = tag }) room i u
-  unfolding answerOf refused
+      → Steps (answerOf call (keyed tag keys)) room (record { outcome = Refused f; tag = tag }) room i u
+  unfolding effectOf refused
   bench-wrong f x =
-      subst (λ (y : Verdict). Steps (ofBench call setup (tag .session) y) tag room
+      subst (λ (y : Verdict). Steps (answerWith setup (ofBench call setup (tag .session) y)) room
       (record { outcome = Refused f; tag = tag }) room i u) (sym x ∙ w)
       (record { outcome = refl; number = refl; next = refl; reply = refl; identity = refl; user = refl })
 
   pub bench-fine : (q : Reacted) (d after i′ u′ : List ℕ) → v ≡ Fine → d ≡ draws
       → ReactsIn (ofMessage (lent m d room i u) setup (tag .session) m) room q after i′ u′
-      → Steps (answerOf call (keyed tag keys)) tag room
+      → Steps (answerOf call (keyed tag keys)) room
       (record { outcome = q .outcome; tag = record { terms = tag .terms; session = q .session } }) after i′ u′
-  unfolding answerOf
+  unfolding effectOf
   bench-fine q d after i′ u′ x e h =
       let k = subst (λ (l : List ℕ). ReactsIn (ofMessage (lent m l room i u) setup (tag .session) m) room q after
       i′ u′) e h in
-      subst (λ (y : Verdict). Steps (ofBench call setup (tag .session) y) tag room
+      subst (λ (y : Verdict). Steps (answerWith setup (ofBench call setup (tag .session) y)) room
       (record { outcome = q .outcome; tag = record { terms = tag .terms; session = q .session } }) after i′ u′)
       (sym x ∙ w)
       (record {

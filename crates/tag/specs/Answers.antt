@@ -1,5 +1,6 @@
--- The tag: what one message comes to. Its entry is `answerOf`, the last definition; read from there upwards: number 7,
--- the empty message, method, step or feature, the turn, and then by kind, as `tam` and `entry` say.
+-- The tag: what one message comes to. Its entry is `answerOf`, the last definition; read from there upwards: the tag
+-- afterwards, number 7, the empty message, method, step or feature, the turn, and then by kind, as `tam` and `entry`
+-- say.
 use Prim.Native.Nat.{ℕ}
 use mathlib.Core.List.{List, [], _∷_}
 use lib.ListN.{length}
@@ -24,15 +25,33 @@ use Rattle.entry.specs.declared.Session.{Session}
 use Rattle.entry.specs.Sessions.{cleared, entered}
 use Rattle.entry.specs.Given.{iam1Verdict, iam1Held, iam2Verdict, iam2Purpose, iam3Verdict, iam3Purpose, iam3Stored}
 use Rattle.entry.specs.Given.{mam1Verdict, mam1Sent, mam1Held, mam2Verdict, mam2Purpose}
-use Rattle.tag.specs.States.{KeyedTag, inTurn}
+use Rattle.tag.specs.States.{KeyedTag, holding, inTurn}
 
--- What a call comes to: the outcome, what the tag holds next, the reply's bytes, and both areas.
+-- What a call comes to: the outcome, the tag afterwards with its key table, the reply's bytes, and both areas.
 pub record Answer : Type 0 where
+  pub outcome : Outcome
+  pub tag : KeyedTag
+  pub reply : List ℕ
+  pub identity : List ℕ
+  pub user : List ℕ
+
+-- What a message does, to a tag whose setup is known: of the tag only what it holds next.
+pub record Effect : Type 0 where
   pub outcome : Outcome
   pub session : Session
   pub reply : List ℕ
   pub identity : List ℕ
   pub user : List ℕ
+
+-- A message leaves the setup as it was, the key table in it too, and changes what is held.
+abbrev pub answerWith : Setup → Effect → Answer
+answerWith setup e = record {
+  outcome = e .outcome;
+  tag = holding setup (e .session);
+  reply = e .reply;
+  identity = e .identity;
+  user = e .user;
+}
 
 -- What a message says: bytes; what the bench lends: draws, the length of the reply room, and the areas.
 pub record Call : Type 0 where
@@ -44,10 +63,10 @@ pub record Call : Type 0 where
 
 module _ (c : Call) where
   -- A refusal sends nothing, writes no word, and leaves the tag in the session that is named.
-  unfoldable pub refused : Fault → Session → Answer
+  unfoldable pub refused : Fault → Session → Effect
   refused f s = record { outcome = Refused f; session = s; reply = []; identity = c .identity; user = c .user }
 
-  unfoldable pub replied : List ℕ → Session → Answer
+  unfoldable pub replied : List ℕ → Session → Effect
   replied reply s = record {
     outcome = Replied (length reply);
     session = s;
@@ -57,7 +76,7 @@ module _ (c : Call) where
   }
 
   -- The reader is let in: an empty reply, and its Purpose for the host.
-  unfoldable pub letIn : ℕ → List ℕ → List ℕ → Answer
+  unfoldable pub letIn : ℕ → List ℕ → List ℕ → Effect
   letIn purpose identity user = record {
     outcome = Entered purpose;
     session = entered;
@@ -67,50 +86,50 @@ module _ (c : Call) where
   }
 
   -- Numbers 1 to 6 end in Initial.
-  unfoldable pub ifFine : Verdict → Answer → Answer
-  ifFine Fine a = a
-  ifFine (Wrong f) a = refused f cleared
+  unfoldable pub ifFine : Verdict → Effect → Effect
+  ifFine Fine e = e
+  ifFine (Wrong f) e = refused f cleared
 
   module _ (keys : List Key) where
     -- TAM ends in Initial, whatever was held.
-    unfoldable pub tam1Answer : Answer
+    unfoldable pub tam1Answer : Effect
     tam1Answer = ifFine (tam1Verdict keys (c .message)) (replied (tam1Sent keys (c .message) (c .draws)) cleared)
 
     -- The challenge is the draws themselves.
-    unfoldable pub iam1Answer : Answer
+    unfoldable pub iam1Answer : Effect
     iam1Answer = ifFine (iam1Verdict keys (c .message)) (replied (c .draws) (iam1Held (c .message) (c .draws)))
 
-    unfoldable pub mam1Answer : Answer
+    unfoldable pub mam1Answer : Effect
     mam1Answer =
         ifFine (mam1Verdict keys (c .message))
         (replied (mam1Sent keys (c .message) (c .draws)) (mam1Held (c .message) (c .draws)))
 
     module _ (held : Session) where
-      unfoldable pub iam2Answer : Answer
+      unfoldable pub iam2Answer : Effect
       iam2Answer =
           ifFine (iam2Verdict keys held (c .message))
           (letIn (iam2Purpose keys held (c .message)) (c .identity) (c .user))
 
-      unfoldable pub mam2Answer : Answer
+      unfoldable pub mam2Answer : Effect
       mam2Answer =
           ifFine (mam2Verdict keys held (c .message))
           (letIn (mam2Purpose keys held (c .message)) (c .identity) (c .user))
 
   module _ (setup : Setup) where
-    unfoldable pub tam2Answer : Answer
+    unfoldable pub tam2Answer : Effect
     tam2Answer =
         ifFine (tam2Verdict setup (c .message))
         (replied (tam2Sent setup (c .message) (c .draws) (c .identity) (c .user)) cleared)
 
     module _ (held : Session) where
       -- After everything was judged the words of the block are written, and no others.
-      unfoldable pub iam3Answer : Answer
+      unfoldable pub iam3Answer : Effect
       iam3Answer =
           ifFine (iam3Verdict setup held (c .message))
           (letIn (iam3Purpose setup held (c .message)) (iam3Stored setup held (c .message) Identity (c .identity))
           (iam3Stored setup held (c .message) User (c .user)))
 
-      unfoldable pub byKind : Kind → Answer
+      unfoldable pub byKind : Kind → Effect
       byKind Tam1 = tam1Answer (setup .keys)
       byKind Tam2 = tam2Answer
       byKind Iam1 = iam1Answer (setup .keys)
@@ -121,23 +140,26 @@ module _ (c : Call) where
       byKind Unsupported = refused NotSupported cleared
 
       -- A message that is there and offered, in its turn.
-      unfoldable pub inOrder : Kind → Answer
+      unfoldable pub inOrder : Kind → Effect
       inOrder kind =
           pick (offered (setup .features) kind)
           (pick (inTurn (held .state) kind) (byKind kind) (refused OutOfTurn cleared))
           (refused NotSupported cleared)
 
-      unfoldable pub ofMessage : List ℕ → Answer
+      unfoldable pub ofMessage : List ℕ → Effect
       ofMessage [] = refused OtherError cleared
       ofMessage (first ∷ rest) = inOrder (kindOf first)
 
       -- Number 7 changes nothing at all.
-      abbrev pub ofBench : Verdict → Answer
+      abbrev pub ofBench : Verdict → Effect
       ofBench Fine = ofMessage (c .message)
       ofBench (Wrong f) = refused f held
 
-  -- The tag's answer.
-  unfoldable pub answerOf : KeyedTag → Answer
-  answerOf tag =
+  unfoldable pub effectOf : KeyedTag → Effect
+  effectOf tag =
       ofBench (tag .setup) (tag .session)
       (judged (benchChecks (tag .setup .sizes) (length (c .draws)) (c .room) (length (c .identity)) (length (c .user))))
+
+  -- The tag's answer.
+  abbrev pub answerOf : KeyedTag → Answer
+  answerOf tag = answerWith (tag .setup) (effectOf tag)

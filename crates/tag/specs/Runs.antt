@@ -1,9 +1,8 @@
--- A run of what reaches a tag: each call is lent the areas as the last one left them.
+-- A run of what reaches a tag: each event finds the tag and the areas as the last one left them.
 use Prim.Native.Nat.{ℕ}
 use mathlib.Core.List.{List, [], _∷_}
 use Rattle.offer.specs.declared.Outcome.the-variants.{Replied}
-use Rattle.entry.specs.Sessions.{cleared}
-use Rattle.tag.specs.States.{KeyedTag}
+use Rattle.tag.specs.States.{KeyedTag, poweredUp}
 use Rattle.tag.specs.Answers.{Answer, Call, answerOf}
 
 -- What comes from outside with each message.
@@ -30,15 +29,11 @@ pub data Event : Type 0 where
 unfoldable pub answerTo : KeyedTag → List ℕ → List ℕ → Event → Answer
 answerTo tag identity user (Message s) = answerOf (callOf s identity user) tag
 answerTo tag identity user PowerUp =
-    record { outcome = Replied 0; session = cleared; reply = []; identity = identity; user = user }
-
--- The tag after an answer.
-abbrev pub tagAfter : KeyedTag → Answer → KeyedTag
-tagAfter tag a = record { setup = tag .setup; session = a .session }
+    record { outcome = Replied 0; tag = poweredUp (tag .setup); reply = []; identity = identity; user = user }
 
 -- The answers to a run of events.
 unfoldable pub run : KeyedTag → List ℕ → List ℕ → List Event → List Answer
 run tag identity user [] = []
 run tag identity user (e ∷ es) =
     let a = answerTo tag identity user e in
-    a ∷ run (tagAfter tag a) (a .identity) (a .user) es
+    a ∷ run (a .tag) (a .identity) (a .user) es

@@ -4,7 +4,7 @@ use mathlib.Core.Bool.{Bool, true, false}
 use mathlib.Core.List.{List, [], _∷_}
 use Rattle.sheet.specs.declared.Key.{Key}
 use Rattle.sheet.specs.declared.Terms.{Terms}
-use Rattle.sheet.specs.Setups.{Setup, setupOf}
+use Rattle.sheet.specs.Setups.{Setup, setupOf, termsOf}
 use Rattle.frames.specs.declared.Kind.{Kind}
 use Rattle.frames.specs.declared.Kind.the-variants.{Tam1, Tam2, Iam1, Iam2, Iam3, Mam1, Mam2, Unsupported}
 use Rattle.offer.specs.declared.Fault.{Fault}
@@ -23,12 +23,19 @@ pub record KeyedTag : Type 0 where
   pub setup : Setup
   pub session : Session
 
+abbrev pub holding : Setup → Session → KeyedTag
+holding setup held = record { setup = setup; session = held }
+
+-- A tag of the code with the key table that is lent to it, and a tag without its keys, as the code has it.
 abbrev pub keyed : Tag → List ℕ → KeyedTag
-keyed tag keys = record { setup = setupOf (tag .terms) keys; session = tag .session }
+keyed tag keys = holding (setupOf (tag .terms) keys) (tag .session)
+
+abbrev pub keyless : KeyedTag → Tag
+keyless tag = record { terms = termsOf (tag .setup); session = tag .session }
 
 -- Power-up and reset; the same of the tag without its keys.
 unfoldable pub poweredUp : Setup → KeyedTag
-poweredUp setup = record { setup = setup; session = cleared }
+poweredUp setup = holding setup cleared
 
 abbrev pub awake : Terms → Tag
 awake terms = record { terms = terms; session = cleared }

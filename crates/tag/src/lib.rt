@@ -91,7 +91,7 @@ pub fn step(
     user: &mut [u8],
 ) -> Stepped
     ensures { λ r. ⌜ Steps (answerOf (lent (now (message .entry)) (now (draws .entry)) (now (room .entry))
-        (now (identity .entry)) (now (user .entry))) (keyed tag (now (keys .entry)))) tag (now (room .entry)) r
+        (now (identity .entry)) (now (user .entry))) (keyed tag (now (keys .entry)))) (now (room .entry)) r
         (now (room .exit)) (now (identity .exit)) (now (user .exit)) ⌝ }
 {
     let terms = tag.terms;

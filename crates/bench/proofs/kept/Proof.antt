@@ -110,7 +110,7 @@ module _ {M : Type 1} (𝓤 : URA M) (H : Heap 𝓤) (A : Atoms 𝓤) (W : Given
 
   abbrev Says : Outcome → Tag → List ℕ → List ℕ → List ℕ → Type 0
   Says n t xs is us =
-      Steps (answerOf (lent (m .now) (d .now) (x .now) (i .now) (u .now)) (keyed h (k .now))) h (x .now)
+      Steps (answerOf (lent (m .now) (d .now) (x .now) (i .now) (u .now)) (keyed h (k .now))) (x .now)
       (left n t) xs is us
 
   -- the borrow, the tokens and the slices give what `bench::step` asks, and key table, message and draws are kept

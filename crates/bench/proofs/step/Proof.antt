@@ -105,7 +105,7 @@ module _ {M : Type 1} (𝓤 : URA M) (H : Heap 𝓤) (A : Atoms 𝓤) (W : Given
 
   abbrev Says : Stepped → List ℕ → List ℕ → List ℕ → Type 0
   Says r xs is us =
-      Steps (answerOf (lent (m .now) (d .now) (x .now) (i .now) (u .now)) (keyed h (k .now))) h (x .now) r xs is us
+      Steps (answerOf (lent (m .now) (d .now) (x .now) (i .now) (u .now)) (keyed h (k .now))) (x .now) r xs is us
 
   -- the tag, the tokens and the slices give what `tag::step` asks, and key table, message and draws are kept
   apart : ent 𝓤 (⋆ 𝓤 H A (‵ (R .own h (mach h ∷ [])) ∷ tokens 𝓤 κs qs ∷ ‵ (OwnSlices 1 κs slices) ∷ []))
