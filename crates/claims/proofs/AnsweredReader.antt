@@ -11,7 +11,13 @@ use Rattle.ground.proofs.Checked.{keeps}
 use Rattle.modes.specs.Room.{over}
 use Rattle.frames.specs.declared.Kind.{Kind}
 use Rattle.frames.specs.declared.Kind.the-variants.{Tam1, Tam2, Iam1, Iam2, Iam3, Mam1, Mam2, Unsupported}
+use Rattle.frames.specs.declared.Tam2.{Tam2 as Tam2Fields}
+use Rattle.frames.specs.declared.ProtMode.{ProtMode}
+use Rattle.frames.specs.declared.ProtModeField.{ProtModeField}
+use Rattle.frames.specs.declared.ProtModeField.the-variants.{Mode, NoMode}
 use Rattle.frames.specs.Kinds.{kindOf}
+use Rattle.frames.specs.Messages.{tam2Of}
+use Rattle.frames.specs.Modes.{inMode, protModeOf}
 use Rattle.reader.specs.declared.Fault.{Fault}
 use Rattle.reader.specs.declared.Fault.the-variants.{ReplyLength, ChallengeWrong, MacWrong, HeaderWrong, OwnMessage}
 use Rattle.reader_judge.specs.declared.Judgement.{Judgement}
@@ -27,6 +33,7 @@ use Rattle.reader_judge.specs.Judged.{
   iam1Finding,
   emptyFinding,
   tam1Finding,
+  tam2InMode,
   tam2Finding,
   mam1Finding,
   byKind,
@@ -68,11 +75,21 @@ picked-quiet false x y hx hy = hy
 judged-quiet : (cs : List (Check Fault)) (x : Finding) → Quiet x → Quiet (judgedTo refused cs x)
 judged-quiet cs x h = keeps refused x Quiet refused-quiet h cs
 
+moded-quiet : (x : ProtModeField) (of : ProtMode → Finding) (none : Finding) → ((mode : ProtMode) → Quiet (of mode))
+    → Quiet none → Quiet (inMode x of none)
+moded-quiet (Mode mode) of none h k = h mode
+moded-quiet NoMode of none h k = k
+
+in-mode-quiet : (keys : Keys) (f : Tam2Fields) (reply : List ℕ) (mode : ProtMode) → Quiet (tam2InMode keys f reply mode)
+unfolding tam2InMode dataFinding
+in-mode-quiet keys f reply mode = judged-quiet _ _ (judged-quiet _ _ (carries-quiet _ _))
+
 module _ (keys : Keys) (m reply : List ℕ) where
   kind-quiet : (k : Kind) → Quiet (byKind keys m reply k)
-  unfolding byKind tam1Finding tam2Finding dataFinding iam1Finding emptyFinding mam1Finding
+  unfolding byKind tam1Finding tam2Finding iam1Finding emptyFinding mam1Finding
   kind-quiet Tam1 = judged-quiet _ _ nothing-quiet
-  kind-quiet Tam2 = judged-quiet _ _ (judged-quiet _ _ (carries-quiet _ _))
+  kind-quiet Tam2 = moded-quiet (protModeOf (tam2Of m .protmode)) (tam2InMode keys (tam2Of m) reply) (refused OwnMessage)
+      (in-mode-quiet keys (tam2Of m) reply) (refused-quiet OwnMessage)
   kind-quiet Iam1 = judged-quiet _ _ (issues-quiet _)
   kind-quiet Iam2 = judged-quiet _ _ nothing-quiet
   kind-quiet Iam3 = judged-quiet _ _ nothing-quiet

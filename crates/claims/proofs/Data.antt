@@ -23,30 +23,36 @@ use Rattle.frames.specs.declared.Tam2.{Tam2}
 use Rattle.frames.specs.Blocks.{dataLength, blocksLength}
 use Rattle.frames.specs.Constants.{C-TAM2-0, C-TAM2-1, C-TAM2-2, C-TAM2-3, tam2Constant, twoBytes}
 use Rattle.frames.specs.Fields.{customFits}
-use Rattle.frames.specs.Lengths.{hasMac, tam2MacAt}
+use Rattle.frames.specs.declared.ProtMode.{ProtMode}
+use Rattle.frames.specs.declared.ProtModeField.{ProtModeField}
+use Rattle.frames.specs.declared.ProtModeField.the-variants.{Mode}
+use Rattle.frames.specs.Modes.{encrypts, hasMac, inMode, protModeOf}
+use Rattle.frames.specs.Lengths.{tam2MacAt}
 use Rattle.frames.proofs.Bounds.{by-mode-le}
 use Rattle.payload.specs.Alike.{same}
 use Rattle.payload.specs.Data.{carriedData}
-use Rattle.payload.specs.Protected.{encrypts, withMac, macFits}
+use Rattle.payload.specs.Protected.{withMac, macFits}
 use Rattle.payload.proofs.Alike.{same-self}
 use Rattle.payload.proofs.Data.{carried-long}
 use Rattle.payload.proofs.Lengths.{blocks-whole}
 use Rattle.payload.proofs.Recovered.{header-carried, words-carried, filler-carried}
-use Rattle.tam.specs.Replies.{tamBlock, tam2Body, tam2Reply}
+use Rattle.tam.specs.Replies.{tamBlock, tam2Body, tam2InMode, tam2Reply}
 use Rattle.offer.proofs.Bytes.{Ten}
 use Rattle.tam.proofs.ReplyBytes.{tam-block-block, carried-bytes}
-use Rattle.tam.proofs.ReplyLengths.{tam-block-long, body-long, tam2-long}
+use Rattle.tam.proofs.ReplyLengths.{tam-block-long, body-long, tam2-long, tam2-named}
 use Rattle.reader.specs.declared.Keys.{Keys}
 use Rattle.reader_judge.specs.Findings.{carries, worthOf}
-use Rattle.reader_judge.specs.Judged.{dataFinding, tam2Finding}
+use Rattle.reader_judge.specs.Judged.{dataFinding, tam2InMode as judgedInMode, tam2Finding}
+use Rattle.reader_judge.specs.declared.Worth.the-variants.{NoData}
+use Rattle.reader_judge.proofs.Clear.{tam2-named as tam2-found-named}
 use Rattle.reader_judge.specs.Opened.{openedBlock, blockFits, dataSent, openedData}
-use Rattle.claims.specs.Recovery.{Shares}
+use Rattle.claims.specs.Recovery.{Shares, worthAsked}
 use Rattle.claims.proofs.Opens.{opens, block-right}
 
-constant-le : (rev : Bool) (protmode : ℕ) → tam2Constant rev protmode ≤ 0xFFFF
+constant-le : (rev : Bool) (mode : ProtMode) → tam2Constant rev mode ≤ 0xFFFF
 unfolding tam2Constant
-constant-le false protmode = omega arith
-constant-le true protmode = by-mode-le C-TAM2-0 C-TAM2-1 C-TAM2-2 C-TAM2-3 protmode 0xFFFF (omega arith) (omega arith)
+constant-le false mode = omega arith
+constant-le true mode = by-mode-le C-TAM2-0 C-TAM2-1 C-TAM2-2 C-TAM2-3 mode 0xFFFF (omega arith) (omega arith)
     (omega arith) (omega arith)
 
 made-block : (enc constant draws ichallenge : List ℕ)
@@ -67,7 +73,7 @@ mac-there true mackey s t = ap₂ both t (same-self (cmac96 mackey s))
 mac-there false mackey s t = refl
 
 module _ (keys : Keys) (key : Key) (e : Shares keys key) (b : Bytes (keys .enc)) (draws : List ℕ) (d : Ten draws)
-    (f : Tam2) (t : Ten (f .ichallenge)) (fit : customFits (f .custom) ≡ true)
+    (f : Tam2) (mode : ProtMode) (t : Ten (f .ichallenge)) (fit : customFits (f .custom) ≡ true)
     (words : List ℕ) (all : length words ≡ dataLength (f .custom .blocksize) (f .custom .blockcount)) (w : Bytes words)
   where
     abbrev count : ℕ
@@ -75,38 +81,38 @@ module _ (keys : Keys) (key : Key) (e : Shares keys key) (b : Bytes (keys .enc))
 
     -- the authentication block, the data in the clear and as they are sent, and the MAC
     abbrev block : List ℕ
-    block = tamBlock (key .enc) (twoBytes (tam2Constant (f .rev) (f .protmode))) draws (f .ichallenge)
+    block = tamBlock (key .enc) (twoBytes (tam2Constant (f .rev) mode)) draws (f .ichallenge)
 
     abbrev clear : List ℕ
     clear = carriedData (f .rev) (f .custom) words
 
     abbrev sent : List ℕ
-    sent = pick (encrypts (f .protmode)) (cbcEncAes block (key .enc) clear) clear
+    sent = pick (encrypts mode) (cbcEncAes block (key .enc) clear) clear
 
     abbrev mac : List ℕ
-    mac = pick (hasMac (f .protmode)) (cmac96 (key .mackey) (block ++ sent)) []
+    mac = pick (hasMac mode) (cmac96 (key .mackey) (block ++ sent)) []
 
     abbrev reply : List ℕ
     reply = (block ++ sent) ++ mac
 
-    reply-is : tam2Reply key f words draws ≡ reply
-    unfolding tam2Reply withMac tam2Body
+    reply-is : tam2InMode key f words draws mode ≡ reply
+    unfolding tam2InMode withMac tam2Body
     reply-is = refl
 
     few : length words ≤ dataLength (f .custom .blocksize) (f .custom .blockcount)
     few = omega (arith, all)
 
     clear-long : length clear ≡ count
-    clear-long = carried-long (f .rev) (f .custom) words few
+    clear-long = carried-long (f .rev) (f .custom) words all
 
     clear-whole : length clear % 16 ≡ 0
     clear-whole = omega (arith, clear-long, blocks-whole (f .custom .blocksize) (f .rev) (f .custom .blockcount))
 
     block-long : length block ≡ 16
-    block-long = tam-block-long (key .enc) (twoBytes (tam2Constant (f .rev) (f .protmode))) draws (f .ichallenge)
+    block-long = tam-block-long (key .enc) (twoBytes (tam2Constant (f .rev) mode)) draws (f .ichallenge)
 
     sent-long : length sent ≡ count
-    sent-long = body-long (f .protmode) block (key .enc) clear clear-whole ∙ clear-long
+    sent-long = body-long mode block (key .enc) clear clear-whole ∙ clear-long
 
     both-long : length (block ++ sent) ≡ 16 + count
     both-long = length-append block sent ∙ ap₂ (λ (i j : ℕ). i + j) block-long sent-long
@@ -118,18 +124,18 @@ module _ (keys : Keys) (key : Key) (e : Shares keys key) (b : Bytes (keys .enc))
     middle = ap (λ (l : List ℕ). take count (drop 16 l)) (append-assoc block sent mac)
         ∙ ap (take count) (drop-at block (sent ++ mac) 16 block-long) ∙ take-at sent mac count sent-long
 
-    block-fits : blockFits (twoBytes (tam2Constant (f .rev) (f .protmode))) (f .ichallenge) (openedBlock keys reply) ≡
+    block-fits : blockFits (twoBytes (tam2Constant (f .rev) mode)) (f .ichallenge) (openedBlock keys reply) ≡
         true
     block-fits =
         let four : length (take 4 draws) ≡ 4 = length-take-le 4 draws (omega (arith, d .ten)) in
-        let k = tam2Constant (f .rev) (f .protmode) in
+        let k = tam2Constant (f .rev) mode in
         ap (blockFits (twoBytes k) (f .ichallenge)) (opens k (take 4 draws) (f .ichallenge) four keys (key .enc) reply
         (e .enc) b
-        (constant-le (f .rev) (f .protmode)) (bytes-take 4 draws (d .bytes)) t
+        (constant-le (f .rev) mode) (bytes-take 4 draws (d .bytes)) t
         (front ∙ made-block (key .enc) (twoBytes k) draws (f .ichallenge)))
         ∙ block-right k (take 4 draws) (f .ichallenge) four
 
-    mac-fits : macFits (keys .mackey) (f .protmode) (take
+    mac-fits : macFits (keys .mackey) mode (take
         (tam2MacAt (f .custom .blocksize) (f .rev) (f .custom .blockcount)) reply)
         (drop (tam2MacAt (f .custom .blocksize) (f .rev) (f .custom .blockcount)) reply) ≡ true
     unfolding macFits tam2MacAt
@@ -137,34 +143,42 @@ module _ (keys : Keys) (key : Key) (e : Shares keys key) (b : Bytes (keys .enc))
         let whole : length (block ++ sent) % 16 ≡ 0 =
         omega (arith, both-long, blocks-whole (f .custom .blocksize) (f .rev) (f .custom .blockcount)) in
         let t = room-for-mac (length (block ++ sent)) 12 (omega (arith, both-long)) whole (omega arith) in
-        (λ i. macFits (e .mackey i) (f .protmode) (take-at (block ++ sent) mac (16 + count) both-long i)
+        (λ i. macFits (e .mackey i) mode (take-at (block ++ sent) mac (16 + count) both-long i)
         (drop-at (block ++ sent) mac (16 + count) both-long i))
-        ∙ mac-there (hasMac (f .protmode)) (key .mackey) (block ++ sent) t
+        ∙ mac-there (hasMac mode) (key .mackey) (block ++ sent) t
 
-    opened : openedData keys f reply ≡ clear
+    opened : openedData keys mode f reply ≡ clear
     unfolding openedData
     opened =
         let be : Bytes (key .enc) = λ i. subst (λ (l : List ℕ). getD l i 0 < 256) (e .enc) (b i) in
-        (λ i. pick (encrypts (f .protmode)) (cbcDecAesInv (front i) (e .enc i) (middle i)) (middle i))
-        ∙ undone (encrypts (f .protmode)) block (key .enc) clear
-        (tam-block-block draws d (key .enc) (f .ichallenge) (tam2Constant (f .rev) (f .protmode)) be
-        (constant-le (f .rev) (f .protmode)) t .bytes) be
+        (λ i. pick (encrypts mode) (cbcDecAesInv (front i) (e .enc i) (middle i)) (middle i))
+        ∙ undone (encrypts mode) block (key .enc) clear
+        (tam-block-block draws d (key .enc) (f .ichallenge) (tam2Constant (f .rev) mode) be
+        (constant-le (f .rev) mode) t .bytes) be
         (carried-bytes (f .rev) (f .custom) words fit w) clear-whole
 
-    clear-found : dataFinding f clear ≡ carries (worthOf (f .protmode)) words
+    clear-found : dataFinding mode f clear ≡ carries (worthOf mode) words
     unfolding dataFinding
     clear-found =
         let h = header-carried (f .custom) words (f .rev) fit in
         let k = filler-carried (f .custom) words (f .rev) all in
         sym (passes _ _ _ _ h (passes _ _ _ _ k (ends _ _)))
-        ∙ ap (carries (worthOf (f .protmode))) (words-carried (f .custom) words (f .rev) all)
+        ∙ ap (carries (worthOf mode)) (words-carried (f .custom) words (f .rev) all)
 
-    pub tam2-found : tam2Finding keys f (tam2Reply key f words draws) ≡ carries (worthOf (f .protmode)) words
-    unfolding tam2Finding
-    tam2-found =
-        ap (tam2Finding keys f) reply-is
+    in-mode : judgedInMode keys f (tam2InMode key f words draws mode) mode ≡ carries (worthOf mode) words
+    unfolding judgedInMode
+    in-mode =
+        ap (λ (l : List ℕ). judgedInMode keys f l mode) reply-is
         ∙ sym
-        (passes _ _ _ _ (eq-eqb _ _ (sym (ap length reply-is) ∙ tam2-long key f words draws few))
+        (passes _ _ _ _ (eq-eqb _ _ (sym (ap length reply-is) ∙ tam2-long key f words draws mode few))
         (passes _ _ _ _ block-fits (passes _ _ _ _ mac-fits (ends _ _))))
-        ∙ ap (dataFinding f) opened
+        ∙ ap (dataFinding mode f) opened
         ∙ clear-found
+
+    pub tam2-found : protModeOf (f .protmode) ≡ Mode mode
+        → tam2Finding keys f (tam2Reply key f words draws) ≡ carries (worthAsked (f .protmode)) words
+    tam2-found named =
+        tam2-found-named keys f (tam2Reply key f words draws) mode named
+        ∙ ap (λ (l : List ℕ). judgedInMode keys f l mode) (tam2-named key f words draws mode named)
+        ∙ in-mode
+        ∙ ap (λ (x : ProtModeField). carries (inMode x worthOf NoData) words) (sym named)

@@ -18,7 +18,7 @@ use Rattle.frames.specs.Asked.{blockAsked as wordsAsked}
 use Rattle.frames.specs.Blocks.{dataLength, blockBytes}
 use Rattle.frames.specs.Fields.{customFits}
 use Rattle.frames.specs.Kinds.{kindOf, iamKind}
-use Rattle.frames.specs.Lengths.{hasMac}
+use Rattle.frames.specs.Modes.{hasMac, protModeOf}
 use Rattle.frames.specs.Messages.{iam2Message}
 use Rattle.entry.specs.declared.State.{State}
 use Rattle.entry.specs.declared.State.the-variants.{IamInit, MamInit}
@@ -29,12 +29,12 @@ use Rattle.tag.specs.States.{afterIam1, afterMam1, inTurn}
 use Rattle.ground.specs.Checks.{judgedTo}
 use Rattle.offer.specs.Judged.{benchChecks}
 use Rattle.keytable.specs.Named.{keyWith}
-use Rattle.offer.specs.Records.{offered, sizeOffered, modeOffered, modeSupported, slotNamed, blockAsked}
+use Rattle.offer.specs.Records.{offered, sizeOffered, modeOffered, modeServed, modeSupported, slotNamed, blockAsked}
 use Rattle.tag.specs.Answers.{Call, effectOf, answerWith, answerOf, ofMessage, inOrder, refused, letIn}
 use Rattle.tag.specs.Runs.{PowerUp, answerTo}
 use Rattle.tag.specs.Reactions.{lent}
 use Rattle.reader.specs.declared.Keys.{Keys}
-use Rattle.reader.specs.Own.{modeFits}
+use Rattle.reader.specs.Own.{modeFits, modeServed as readerServes}
 use Rattle.reader_build.specs.Builds.{purposeFits, dataFits, iam2Made, mam2Made, iam3Made, iam3Fits}
 use Rattle.claims.specs.Entry.{Array, Knows, Waits, Writable}
 use Rattle.claims.proofs.Entry.{iam2-enters, mam2-enters}
@@ -125,11 +125,11 @@ unfolding judgedTo benchChecks offered inTurn afterIam1 setup terms
 iam3-waits = record { bench = refl; there = refl; turn = refl }
 
 fits : iam3Fits keys custom 0 0 8 ≡ true
-unfolding iam3Fits modeFits hasMac purposeFits dataFits dataLength blockBytes customFits
+unfolding iam3Fits modeFits readerServes protModeOf hasMac purposeFits dataFits dataLength blockBytes customFits
 fits = refl
 
 writable : Writable setup (keyWith 0 (setup .keys)) custom 0
-unfolding setup terms modeSupported modeOffered hasMac keyWith slotNamed permitted sizeOffered overruns lastWord
+unfolding setup terms modeSupported modeServed modeOffered protModeOf hasMac keyWith slotNamed permitted sizeOffered overruns lastWord
     profileEnd blockAsked wordsAsked addressOf stepOf someLocked meetsAny keyLimit profileLimit lockLimit
 writable = record { mode = refl; present = refl; right = refl; size = refl; inside = refl; unlocked = refl }
 

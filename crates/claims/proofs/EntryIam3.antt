@@ -20,6 +20,10 @@ use Rattle.frames.specs.Fields.{byte, customFits}
 use Rattle.frames.specs.Kinds.{kindOf}
 use Rattle.frames.specs.Lengths.{lengthFits}
 use Rattle.frames.specs.Messages.{iam3Of, iam3Head}
+use Rattle.frames.specs.declared.ProtMode.{ProtMode}
+use Rattle.frames.specs.declared.ProtModeField.the-variants.{Mode}
+use Rattle.frames.specs.Modes.{protModeOf}
+use Rattle.frames.proofs.ProtModes.{Says, says}
 use Rattle.frames.proofs.Bounds.{by-mode-le}
 use Rattle.frames.proofs.Range.{both-left, both-right, select-range}
 use Rattle.frames.proofs.Shape.{iam3-head, iam3-begins, iam3-whole}
@@ -27,7 +31,8 @@ use Rattle.frames.proofs.Taken.{iam3-taken}
 use Rattle.payload.specs.Data.{carriedData, headerFits, fillerFits}
 use Rattle.payload.proofs.Data.{carried-long}
 use Rattle.payload.proofs.Recovered.{header-carried, words-carried, filler-carried}
-use Rattle.entry.specs.Opened.{purposeIn, iamProof, sentBlock, openedData, wordsIn, iam3Proof}
+use Rattle.entry.specs.Opened.{purposeIn, iamProof, sentBlock, openedIn, openedData, wordsIn, provedIn, iam3Proof}
+use Rattle.entry.proofs.Sent.{opened-named, proof-named}
 use Rattle.entry.specs.Judged.{iam3Checks}
 use Rattle.keytable.specs.Named.{keyWith}
 use Rattle.offer.specs.Records.{blockAsked}
@@ -35,7 +40,8 @@ use Rattle.tag.specs.Answers.{Call, letIn, ifFine, iam3Answer, byKind, answerWi
 use Rattle.offer.proofs.Lines.{passes, ends}
 use Rattle.tam.proofs.ReplyBytes.{carried-bytes}
 use Rattle.reader.specs.declared.Keys.{Keys}
-use Rattle.reader_build.specs.Builds.{purposeFits, iam3Made, iam3Fits}
+use Rattle.reader_build.specs.Builds.{purposeFits, dataFits, iam3Whole, iam3InMode, iam3Made, iam3Fits}
+use Rattle.reader.specs.Own.{modeServed, modeFits}
 use Rattle.reader_build.proofs.Making.{partFits, parts-fit, part-count, part-select, part-purposed}
 use Rattle.sheet.specs.Setups.{Setup}
 use Rattle.entry.specs.declared.Session.{Session}
@@ -44,11 +50,11 @@ use Rattle.claims.specs.Entry.{Array, Knows, Writable, Iam3Enters}
 use Rattle.claims.proofs.Proofs.{sent, sixteen, opened, clear, purpose-in, iam-holds, sent-bytes}
 use Rattle.claims.proofs.Opened.{head, body, mac, as-head, rest-long, block-sent, mac-fits, data-opened}
 
-small : (protmode : ℕ) → iam3Constant protmode < 4096
+small : (mode : ProtMode) → iam3Constant mode < 4096
 unfolding iam3Constant
-small protmode = omega (
+small mode = omega (
   arith,
-  by-mode-le C-IAM3-0 C-IAM3-1 C-IAM3-2 C-IAM3-3 protmode 0xDAB (omega arith) (omega arith)
+  by-mode-le C-IAM3-0 C-IAM3-1 C-IAM3-2 C-IAM3-3 mode 0xDAB (omega arith) (omega arith)
       (omega arith) (omega arith),
 )
 
@@ -67,11 +73,23 @@ module _ (keys : Keys) (custom : Custom) (protmode purpose n : ℕ) (fit : iam3F
     count : n ≡ dataLength (custom .blocksize) (custom .blockcount)
     count = part-count keys custom protmode purpose n part
 
-    mode : protmode < 16
-    mode = select-range 0 custom protmode (part-select keys custom protmode purpose n part ranged) .protmode
+    bits : protmode < 16
+    bits = select-range 0 custom protmode (part-select keys custom protmode purpose n part ranged) .protmode
+
+    asked : Says protmode (modeServed keys)
+    unfolding modeFits
+    asked = says protmode (modeServed keys)
+        (both-left (modeFits keys protmode) (both (purposeFits purpose) (dataFits custom n)) part)
 
     purposed : purposeFits purpose ≡ true
     purposed = part-purposed keys custom protmode purpose n part
+
+made-named : (keys : Keys) (custom : Custom) (protmode purpose : ℕ) (irnd tchallenge words : List ℕ) (mode : ProtMode)
+    → protModeOf protmode ≡ Mode mode
+    → iam3Made keys custom protmode purpose irnd tchallenge words
+    ≡ iam3InMode keys custom protmode purpose irnd tchallenge words mode
+unfolding iam3Made
+made-named keys custom protmode purpose irnd tchallenge words mode named = rw named
 
 iam3-let-in : (c : Call) (setup : Setup) (held : Session) (keys : Keys) (custom : Custom) (protmode purpose : ℕ)
     (irnd words : List ℕ)
@@ -85,42 +103,48 @@ iam3-let-in : (c : Call) (setup : Setup) (held : Session) (keys : Keys) (custom 
     → iam3Answer c setup held
     ≡ letIn c purpose (storedIn Identity (blockAsked (setup .profiles) custom) words (c .identity))
     (storedIn User (blockAsked (setup .profiles) custom) words (c .user))
-unfolding iam3Made iam3Answer iam3Checks iam3Proof lengthFits ifFine
+unfolding iam3InMode iam3Answer iam3Checks provedIn lengthFits ifFine
 iam3-let-in c setup held keys custom protmode purpose irnd words knows t m w fit may e =
     let key = keyWith (held .keyid) (setup .keys) in
-    let k = iam3Constant protmode in
-    let a = sent keys key k purpose irnd (held .tchallenge) knows (small protmode) m t in
-    let n = sixteen keys key k purpose irnd (held .tchallenge) knows (small protmode) m t in
+    let mode = asked keys custom protmode purpose (length words) fit .mode in
+    let named = asked keys custom protmode purpose (length words) fit .named in
+    let k = iam3Constant mode in
+    let a = sent keys key k purpose irnd (held .tchallenge) knows (small mode) m t in
+    let n = sixteen keys key k purpose irnd (held .tchallenge) knows (small mode) m t in
     let p = carriedData true custom words in
     let all = count keys custom protmode purpose (length words) fit in
     let cf = ranged keys custom protmode purpose (length words) fit in
-    let pm = mode keys custom protmode purpose (length words) fit in
+    let pm = bits keys custom protmode purpose (length words) fit in
     let bl : length p ≡ blocksLength (custom .blocksize) true (custom .blockcount) =
-    carried-long true custom words (omega arith) in
-    let f : Iam3 = head keys custom protmode a p n bl in
-    let r = body keys custom protmode a p n bl ++ mac keys custom protmode a p n bl in
-    let form = e ∙ as-head keys custom protmode a p n bl in
+    carried-long true custom words all in
+    let f : Iam3 = head keys custom protmode mode a p n bl in
+    let r = body keys custom protmode mode a p n bl ++ mac keys custom protmode mode a p n bl in
+    let whole : c .message ≡ iam3Whole keys custom protmode mode a p =
+    e ∙ made-named keys custom protmode purpose irnd (held .tchallenge) words mode named in
+    let form = whole ∙ as-head keys custom protmode mode a p n bl in
     let taken : iam3Of (c .message) ≡ f = ap iam3Of form ∙ iam3-taken f r n (omega arith) cf pm in
     let long : lengthFits Iam3K (c .message) ≡ true = ap (lengthFits Iam3K) form
-    ∙ iam3-whole f n r (omega arith) cf pm (rest-long keys custom protmode a p n bl) in
+    ∙ iam3-whole f n r mode (omega arith) cf pm named (rest-long keys custom protmode mode a p n bl) in
     let block : aesEnc (key .enc) (sentBlock (c .message)) ≡ clear k purpose irnd (held .tchallenge) (m .long) (t .long)
     =
-    ap (aesEnc (key .enc)) (block-sent keys custom protmode a p n bl (c .message) e)
-    ∙ opened keys key k purpose irnd (held .tchallenge) knows (small protmode) m t in
-    let pd : openedData key f (c .message) ≡ p =
-    data-opened keys custom protmode a p n bl (c .message) e key knows
-    (sent-bytes keys key k purpose irnd (held .tchallenge) knows (small protmode) m t)
+    ap (aesEnc (key .enc)) (block-sent keys custom protmode mode a p n bl (c .message) whole)
+    ∙ opened keys key k purpose irnd (held .tchallenge) knows (small mode) m t in
+    let pd : openedIn key mode f (c .message) ≡ p =
+    data-opened keys custom protmode mode a p n bl (c .message) whole key knows
+    (sent-bytes keys key k purpose irnd (held .tchallenge) knows (small mode) m t)
     (carried-bytes true custom words cf w) in
     let proof : iam3Proof key held f (c .message) ≡ true =
-    ap₂ both (ap (iamProof k held) block ∙ iam-holds k purpose irnd (held .tchallenge) (m .long) (t .long) held refl)
-    (ap₂ both (mac-fits keys custom protmode a p n bl (c .message) e key knows)
+    proof-named key held mode f (c .message) named
+    ∙ ap₂ both (ap (iamProof k held) block ∙ iam-holds k purpose irnd (held .tchallenge) (m .long) (t .long) held refl)
+    (ap₂ both (mac-fits keys custom protmode mode a p n bl (c .message) whole key knows)
     (ap₂ both (ap (headerFits true custom) pd ∙ header-carried custom words true cf)
     (ap (fillerFits true custom) pd ∙ filler-carried custom words true all))) in
     let fine =
     passes _ _ long (passes _ _ (may .mode) (passes _ _ refl (passes _ _ (may .present) (passes _ _ (may .right)
     (passes _ _ (ap₂ (λ (x y : Bool). both x (not y)) (may .size) (may .inside))
     (passes _ _ (ap not (may .unlocked)) (passes _ _ proof ends))))))) in
-    let ws : wordsIn custom (openedData key f (c .message)) ≡ words = ap (wordsIn custom) pd
+    let ws : wordsIn custom (openedData key f (c .message)) ≡ words =
+    ap (wordsIn custom) (opened-named key held mode f (c .message) named ∙ pd)
     ∙ words-carried custom words true all in
     let ps : purposeIn (aesEnc (key .enc) (sentBlock (c .message))) ≡ purpose =
     ap purposeIn block ∙ purpose-in k purpose irnd (held .tchallenge) (m .long) (t .long)
@@ -130,18 +154,20 @@ iam3-let-in c setup held keys custom protmode purpose irnd words knows t m w fit
     (c .identity)) (storedIn User (blockAsked (setup .profiles) custom) (ws i) (c .user))))
 
 pub iam3-enters : Iam3Enters
-unfolding byKind iam3Made
+unfolding byKind iam3InMode
 iam3-enters c tag keys custom protmode purpose irnd words w knows t m b fit may e =
     let key = keyWith (tag .session .keyid) (tag .setup .keys) in
-    let k = iam3Constant protmode in
-    let a = sent keys key k purpose irnd (tag .session .tchallenge) knows (small protmode) m t in
-    let n = sixteen keys key k purpose irnd (tag .session .tchallenge) knows (small protmode) m t in
+    let mode = asked keys custom protmode purpose (length words) fit .mode in
+    let k = iam3Constant mode in
+    let a = sent keys key k purpose irnd (tag .session .tchallenge) knows (small mode) m t in
+    let n = sixteen keys key k purpose irnd (tag .session .tchallenge) knows (small mode) m t in
     let p = carriedData true custom words in
     let bl : length p ≡ blocksLength (custom .blocksize) true (custom .blockcount) =
-    carried-long true custom words (omega (arith, count keys custom protmode purpose (length words) fit)) in
-    let f : Iam3 = head keys custom protmode a p n bl in
-    let r = body keys custom protmode a p n bl ++ mac keys custom protmode a p n bl in
-    let form = e ∙ as-head keys custom protmode a p n bl in
+    carried-long true custom words (count keys custom protmode purpose (length words) fit) in
+    let f : Iam3 = head keys custom protmode mode a p n bl in
+    let r = body keys custom protmode mode a p n bl ++ mac keys custom protmode mode a p n bl in
+    let form = e ∙ made-named keys custom protmode purpose irnd (tag .session .tchallenge) words mode
+    (asked keys custom protmode purpose (length words) fit .named) ∙ as-head keys custom protmode mode a p n bl in
     let l : length (c .message) ≡ length (iam3Head f) + length r = ap length form ∙ length-append (iam3Head f) r in
     ap (answerWith (tag .setup))
     (in-turn c tag Iam3K w (omega (arith, l, iam3-head f n))

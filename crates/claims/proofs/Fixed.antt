@@ -30,16 +30,20 @@ use Rattle.frames.specs.Blocks.{blocksLength}
 use Rattle.frames.specs.Constants.{C-TAM1, C-MAM1, tam2Constant, twoBytes}
 use Rattle.frames.specs.Fields.{byte}
 use Rattle.frames.specs.Kinds.{kindOf}
-use Rattle.frames.specs.Lengths.{hasMac, macLength, iam1ReplyLength, tam2MacAt, tam2ReplyLength}
+use Rattle.frames.specs.declared.ProtMode.{ProtMode}
+use Rattle.frames.specs.declared.ProtModeField.{ProtModeField}
+use Rattle.frames.specs.declared.ProtModeField.the-variants.{Mode, NoMode}
+use Rattle.frames.specs.Modes.{encrypts, hasMac, inMode, protModeOf}
+use Rattle.frames.specs.Lengths.{macLength, iam1ReplyLength, tam2MacAt, tam2ReplyLength}
 use Rattle.frames.specs.Messages.{tam1Of, tam2Of, mam1Of}
 use Rattle.frames.proofs.Range.{both-left, both-right}
 use Rattle.payload.specs.Alike.{same}
 use Rattle.payload.specs.Data.{carriedData, wordsIn}
-use Rattle.payload.specs.Protected.{encrypts, withMac, macFits}
+use Rattle.payload.specs.Protected.{withMac, macFits}
 use Rattle.payload.proofs.Alike.{same-equal}
 use Rattle.payload.proofs.Lengths.{blocks-whole}
 use Rattle.payload.proofs.Recovered.{carried-only}
-use Rattle.tam.specs.Replies.{tamBlock, tam1Reply, tam2Body, tam2Reply}
+use Rattle.tam.specs.Replies.{tamBlock, tam1Reply, tam2Body, tam2InMode, tam2Reply}
 use Rattle.entry.specs.Replies.{mam1Reply}
 use Rattle.offer.proofs.Bytes.{drop-bytes}
 use Rattle.reader.specs.declared.Fault.{Fault}
@@ -47,6 +51,7 @@ use Rattle.reader.specs.declared.Fault.the-variants.{ReplyLength, OwnMessage}
 use Rattle.reader.specs.declared.Keys.{Keys}
 use Rattle.reader_judge.specs.declared.Verdict.the-variants.{Accepted}
 use Rattle.reader_judge.specs.Findings.{Finding, refused, issues}
+use Rattle.reader_judge.specs.Judged.{tam2InMode as judgedInMode}
 use Rattle.reader_judge.specs.Judged.{
   dataFinding,
   iam1Finding,
@@ -183,66 +188,78 @@ module _ (keys : Keys) (key : Key) (share : Shares keys key) (he : Bytes (keys .
         ∙ (λ j. cmac96 (share .mackey j) covered)
     mac-again false covered mac l h = none mac l
 
-    abbrev opened : List ℕ
-    opened = openedData keys f reply
+    module _ (mode : ProtMode) where
+      abbrev opened : List ℕ
+      opened = openedData keys mode f reply
 
-    -- the parts of a reply of the right length
-    module _ (n : length reply ≡ 16 + count + macLength (f .protmode)) where
-      sent-long : length (dataSent f reply) ≡ count
-      sent-long = length-take-le count (drop 16 reply) (omega (arith, length-drop 16 reply))
+      -- the parts of a reply of the right length
+      module _ (n : length reply ≡ 16 + count + macLength mode) where
+        sent-long : length (dataSent f reply) ≡ count
+        sent-long = length-take-le count (drop 16 reply) (omega (arith, length-drop 16 reply))
 
-      sent-whole : length (dataSent f reply) % 16 ≡ 0
-      sent-whole = omega (arith, sent-long, blocks-whole (f .custom .blocksize) (f .rev) (f .custom .blockcount))
+        sent-whole : length (dataSent f reply) % 16 ≡ 0
+        sent-whole = omega (arith, sent-long, blocks-whole (f .custom .blocksize) (f .rev) (f .custom .blockcount))
 
-      sent-bytes : Bytes (dataSent f reply)
-      sent-bytes = bytes-take count (drop 16 reply) (drop-bytes 16 reply hr)
+        sent-bytes : Bytes (dataSent f reply)
+        sent-bytes = bytes-take count (drop 16 reply) (drop-bytes 16 reply hr)
 
-      data-long : length opened ≡ count
-      unfolding openedData
-      data-long = opened-count (encrypts (f .protmode)) (take 16 reply) (dataSent f reply) (bytes-take 16 reply hr)
-          sent-bytes sent-whole ∙ sent-long
+        data-long : length opened ≡ count
+        unfolding openedData
+        data-long = opened-count (encrypts mode) (take 16 reply) (dataSent f reply) (bytes-take 16 reply hr)
+            sent-bytes sent-whole ∙ sent-long
 
-      sent-again : dataSent f reply ≡ pick (encrypts (f .protmode)) (cbcEncAes (take 16 reply) (key .enc) opened) opened
-      unfolding openedData
-      sent-again = rechained (encrypts (f .protmode)) (take 16 reply) (dataSent f reply) (bytes-take 16 reply hr)
-          sent-bytes sent-whole
+        sent-again : dataSent f reply ≡ pick (encrypts mode) (cbcEncAes (take 16 reply) (key .enc) opened) opened
+        unfolding openedData
+        sent-again = rechained (encrypts mode) (take 16 reply) (dataSent f reply) (bytes-take 16 reply hr)
+            sent-bytes sent-whole
 
-      covered : take (16 + count) reply ≡ take 16 reply ++ dataSent f reply
-      covered = take-add 16 count reply
+        covered : take (16 + count) reply ≡ take 16 reply ++ dataSent f reply
+        covered = take-add 16 count reply
 
-      mac-long : length (drop (16 + count) reply) ≡ pick (hasMac (f .protmode)) 12 0
-      unfolding macLength
-      mac-long = omega (arith, length-drop (16 + count) reply)
+        mac-long : length (drop (16 + count) reply) ≡ pick (hasMac mode) 12 0
+        unfolding macLength
+        mac-long = omega (arith, length-drop (16 + count) reply)
+
+      in-mode-fixed : judgedInMode keys f reply mode .verdict ≡ Accepted
+          → reply ≡ tam2InMode key f (judgedInMode keys f reply mode .bytes) (trndIn keys reply) mode
+      unfolding judgedInMode judgedTo dataFinding tam2ReplyLength tam2MacAt macFits tam2InMode tam2Body withMac tamBlock
+      in-mode-fixed e =
+          let one = accepted-first _ _ _ e in
+          let two = accepted-first _ _ _ (one .1) in
+          let three = accepted-first _ _ _ (two .1) in
+          let four = accepted-first _ _ _ (three .1) in
+          let five = accepted-first _ _ _ (four .1) in
+          let n : length reply ≡ 16 + count + macLength mode = eqb-true _ _ (one .0) in
+          let long : 16 ≤ length reply = omega arith in
+          let words : judgedInMode keys f reply mode .bytes ≡ wordsIn (f .rev) (f .custom) opened =
+          ap (λ (x : Finding). x .bytes) (one .2 ∙ two .2 ∙ three .2 ∙ four .2 ∙ five .2) in
+          let k = twoBytes (tam2Constant (f .rev) mode) in
+          let a : take 16 reply ≡ aesEnc (key .enc) (k ++ (take 4 (trndIn keys reply) ++ f .ichallenge)) =
+          made-again k (f .ichallenge) (two-long (tam2Constant (f .rev) mode)) long (two .0)
+          ∙ ap (λ (l : List ℕ). aesEnc (key .enc) (k ++ (l ++ f .ichallenge))) (sym (trnd-four long)) in
+          let p : opened ≡ carriedData (f .rev) (f .custom) (judgedInMode keys f reply mode .bytes) =
+          carried-only (f .custom) opened (f .rev) (data-long n) (four .0) (five .0)
+          ∙ ap (carriedData (f .rev) (f .custom)) (sym words) in
+          let s : take 16 reply ++ dataSent f reply ≡ _ =
+          ap (λ (l : List ℕ). take 16 reply ++ l) (sent-again n)
+          ∙ (λ j. a j ++ pick (encrypts mode) (cbcEncAes (a j) (key .enc) (p j)) (p j)) in
+          let m : drop (16 + count) reply ≡ pick (hasMac mode) (cmac96 (key .mackey) (take (16 + count) reply))
+          [] =
+          mac-again (hasMac mode) (take (16 + count) reply) (drop (16 + count) reply) (mac-long n) (three .0) in
+          sym (take-append-drop (16 + count) reply)
+          ∙ ap (λ (l : List ℕ). take (16 + count) reply ++ l) m
+          ∙ ap (λ (l : List ℕ). l ++ pick (hasMac mode) (cmac96 (key .mackey) l) []) (covered n ∙ s)
 
     pub tam2-fixed : tam2Finding keys f reply .verdict ≡ Accepted
         → reply ≡ tam2Reply key f (tam2Finding keys f reply .bytes) (trndIn keys reply)
-    unfolding tam2Finding judgedTo dataFinding tam2ReplyLength tam2MacAt macFits tam2Reply tam2Body withMac tamBlock
-    tam2-fixed e =
-        let one = accepted-first _ _ _ e in
-        let two = accepted-first _ _ _ (one .1) in
-        let three = accepted-first _ _ _ (two .1) in
-        let four = accepted-first _ _ _ (three .1) in
-        let five = accepted-first _ _ _ (four .1) in
-        let n : length reply ≡ 16 + count + macLength (f .protmode) = eqb-true _ _ (one .0) in
-        let long : 16 ≤ length reply = omega arith in
-        let words : tam2Finding keys f reply .bytes ≡ wordsIn (f .rev) (f .custom) opened =
-        ap (λ (x : Finding). x .bytes) (one .2 ∙ two .2 ∙ three .2 ∙ four .2 ∙ five .2) in
-        let k = twoBytes (tam2Constant (f .rev) (f .protmode)) in
-        let a : take 16 reply ≡ aesEnc (key .enc) (k ++ (take 4 (trndIn keys reply) ++ f .ichallenge)) =
-        made-again k (f .ichallenge) (two-long (tam2Constant (f .rev) (f .protmode))) long (two .0)
-        ∙ ap (λ (l : List ℕ). aesEnc (key .enc) (k ++ (l ++ f .ichallenge))) (sym (trnd-four long)) in
-        let p : opened ≡ carriedData (f .rev) (f .custom) (tam2Finding keys f reply .bytes) =
-        carried-only (f .custom) opened (f .rev) (data-long n) (four .0) (five .0)
-        ∙ ap (carriedData (f .rev) (f .custom)) (sym words) in
-        let s : take 16 reply ++ dataSent f reply ≡ _ =
-        ap (λ (l : List ℕ). take 16 reply ++ l) (sent-again n)
-        ∙ (λ j. a j ++ pick (encrypts (f .protmode)) (cbcEncAes (a j) (key .enc) (p j)) (p j)) in
-        let m : drop (16 + count) reply ≡ pick (hasMac (f .protmode)) (cmac96 (key .mackey) (take (16 + count) reply))
-        [] =
-        mac-again (hasMac (f .protmode)) (take (16 + count) reply) (drop (16 + count) reply) (mac-long n) (three .0) in
-        sym (take-append-drop (16 + count) reply)
-        ∙ ap (λ (l : List ℕ). take (16 + count) reply ++ l) m
-        ∙ ap (λ (l : List ℕ). l ++ pick (hasMac (f .protmode)) (cmac96 (key .mackey) l) []) (covered n ∙ s)
+    unfolding tam2Finding tam2Reply
+    tam2-fixed e = by (protModeOf (f .protmode)) e
+      where
+        by : (x : ProtModeField)
+            → (let found = inMode x (judgedInMode keys f reply) (refused OwnMessage) in found .verdict ≡ Accepted
+            → reply ≡ inMode x (tam2InMode key f (found .bytes) (trndIn keys reply)) [])
+        by (Mode mode) h = in-mode-fixed mode h
+        by NoMode h = let z : _≡_ {A = ℕ} 0 1 = cc in absurd (omega arith)
 
   -- by kind
   iam1-fixed : iam1Finding reply .verdict ≡ Accepted → reply ≡ iam1Finding reply .challenge

@@ -20,46 +20,48 @@ use Rattle.frames.specs.declared.Custom.{Custom}
 use Rattle.frames.specs.declared.Iam3.{Iam3}
 use Rattle.frames.specs.Blocks.{blocksLength}
 use Rattle.frames.specs.Fields.{selectBytes}
-use Rattle.frames.specs.Lengths.{hasMac, macLength}
+use Rattle.frames.specs.declared.ProtMode.{ProtMode}
+use Rattle.frames.specs.Modes.{encrypts, hasMac}
+use Rattle.frames.specs.Lengths.{macLength}
 use Rattle.frames.specs.Messages.{iam3Head}
 use Rattle.frames.proofs.Shape.{iam3-head}
 use Rattle.payload.specs.Alike.{same}
-use Rattle.payload.specs.Protected.{encrypts, withMac, macFits}
+use Rattle.payload.specs.Protected.{withMac, macFits}
 use Rattle.payload.proofs.Alike.{same-self}
 use Rattle.payload.proofs.Lengths.{blocks-whole, mac-long}
-use Rattle.entry.specs.Opened.{sentBlock, sentData, sentMac, openedData, sentMacFits}
+use Rattle.entry.specs.Opened.{sentBlock, sentData, sentMac, openedIn, sentMacFits}
 use Rattle.reader.specs.declared.Keys.{Keys}
 use Rattle.reader_build.specs.Builds.{sentData as readerData, iam3Response, iam3Whole}
 use Rattle.reader_build.proofs.Sending.{data-sent-long}
 use Rattle.claims.specs.Entry.{Knows}
 
-module _ (keys : Keys) (custom : Custom) (protmode : ℕ) (a p : List ℕ) (sixteen : length a ≡ 16)
+module _ (keys : Keys) (custom : Custom) (protmode : ℕ) (mode : ProtMode) (a p : List ℕ) (sixteen : length a ≡ 16)
     (blocks : length p ≡ blocksLength (custom .blocksize) true (custom .blockcount)) where
   -- its fields, what it carries, and its MAC
   abbrev pub head : Iam3
   head = record { rfu = 0; custom = custom; protmode = protmode; iresponse = a }
 
   abbrev pub body : List ℕ
-  body = readerData (keys .enc) protmode a p
+  body = readerData (keys .enc) mode a p
 
   abbrev pub mac : List ℕ
-  mac = pick (hasMac protmode) (cmac96 (keys .mackey) (a ++ body)) []
+  mac = pick (hasMac mode) (cmac96 (keys .mackey) (a ++ body)) []
 
   whole : length p % 16 ≡ 0
   whole = ap (λ (n : ℕ). n % 16) blocks ∙ blocks-whole (custom .blocksize) true (custom .blockcount)
 
   body-long : length body ≡ blocksLength (custom .blocksize) true (custom .blockcount)
-  body-long = data-sent-long protmode (keys .enc) a p whole ∙ blocks
+  body-long = data-sent-long mode (keys .enc) a p whole ∙ blocks
 
   -- the head as frames has it, and the rest
-  pub as-head : iam3Whole keys custom protmode a p ≡ iam3Head head ++ (body ++ mac)
+  pub as-head : iam3Whole keys custom protmode mode a p ≡ iam3Head head ++ (body ++ mac)
   unfolding iam3Whole iam3Response withMac iam3Head selectBytes
   as-head = ap (λ (l : List ℕ). take 4 (iam3Head head) ++ l) (append-assoc a body mac)
 
-  pub rest-long : length (body ++ mac) ≡ blocksLength (custom .blocksize) true (custom .blockcount) + macLength protmode
-  rest-long = omega (arith, length-append body mac, body-long, mac-long protmode (keys .mackey) (a ++ body))
+  pub rest-long : length (body ++ mac) ≡ blocksLength (custom .blocksize) true (custom .blockcount) + macLength mode
+  rest-long = omega (arith, length-append body mac, body-long, mac-long mode (keys .mackey) (a ++ body))
 
-  module _ (m : List ℕ) (e : m ≡ iam3Whole keys custom protmode a p) where
+  module _ (m : List ℕ) (e : m ≡ iam3Whole keys custom protmode mode a p) where
     pub block-sent : sentBlock m ≡ a
     unfolding iam3Head selectBytes
     block-sent = ap (λ (l : List ℕ). take 16 (drop 4 l)) (e ∙ as-head) ∙ take-at a (body ++ mac) 16 sixteen
@@ -84,7 +86,7 @@ module _ (keys : Keys) (custom : Custom) (protmode : ℕ) (a p : List ℕ) (sixt
       mac-right true k s h = ap₂ both h (same-self (cmac96 k s))
       mac-right false k s h = refl
 
-      pub mac-fits : sentMacFits key head m ≡ true
+      pub mac-fits : sentMacFits key mode head m ≡ true
       unfolding sentMacFits macFits
       mac-fits =
           let long : length (a ++ body) ≡ 16 + blocksLength (custom .blocksize) true (custom .blockcount) =
@@ -92,19 +94,19 @@ module _ (keys : Keys) (custom : Custom) (protmode : ℕ) (a p : List ℕ) (sixt
           let w = blocks-whole (custom .blocksize) true (custom .blockcount) in
           let k : macs (length (a ++ body)) 12 ≡ true =
           room-for-mac (length (a ++ body)) 12 (omega arith) (omega arith) (omega arith) in
-          ap₂ (λ (x y : List ℕ). macFits (key .mackey) protmode x y)
+          ap₂ (λ (x y : List ℕ). macFits (key .mackey) mode x y)
           (ap₂ {C = List ℕ} (λ x y. x ++ y) block-sent data-sent) mac-sent
-          ∙ ap (λ (x : List ℕ). macFits x protmode (a ++ body) mac) (sym (knows .mackey))
-          ∙ mac-right (hasMac protmode) (keys .mackey) (a ++ body) k
+          ∙ ap (λ (x : List ℕ). macFits x mode (a ++ body) mac) (sym (knows .mackey))
+          ∙ mac-right (hasMac mode) (keys .mackey) (a ++ body) k
 
       -- ---- the data in the clear
 
-      pub data-opened : Bytes a → Bytes p → openedData key head m ≡ p
-      unfolding openedData readerData
+      pub data-opened : Bytes a → Bytes p → openedIn key mode head m ≡ p
+      unfolding openedIn readerData
       data-opened ba bp =
-          ap₂ {C = List ℕ} (λ x y. pick (encrypts protmode) (cbcDecAes x (key .enc) y) y) block-sent data-sent
-          ∙ ap (λ (k : List ℕ). pick (encrypts protmode) (cbcDecAes a k body) body) (sym (knows .enc))
-          ∙ undone (encrypts protmode)
+          ap₂ {C = List ℕ} (λ x y. pick (encrypts mode) (cbcDecAes x (key .enc) y) y) block-sent data-sent
+          ∙ ap (λ (k : List ℕ). pick (encrypts mode) (cbcDecAes a k body) body) (sym (knows .enc))
+          ∙ undone (encrypts mode)
         where
           undone : (t : Bool) → pick t (cbcDecAes a (keys .enc) (pick t (cbcEncAesInv a (keys .enc) p) p))
               (pick t (cbcEncAesInv a (keys .enc) p) p) ≡ p

@@ -17,7 +17,9 @@ use Rattle.frames.specs.declared.Kind.{Kind}
 use Rattle.frames.specs.declared.Kind.the-variants.{Tam1, Tam2, Iam1, Iam2, Iam3, Mam1, Mam2, Unsupported}
 use Rattle.frames.specs.Fields.{byte}
 use Rattle.frames.specs.Kinds.{kindOf}
-use Rattle.frames.specs.Lengths.{hasMac, lengthFits}
+use Rattle.frames.specs.Lengths.{lengthFits}
+use Rattle.frames.specs.declared.ProtModeField.{ProtModeField}
+use Rattle.frames.specs.Modes.{hasMac, inMode}
 use Rattle.frames.specs.Messages.{tam1Of, tam2Of, iam1Of, iam3Of, mam1Of}
 use Rattle.frames.proofs.Range.{both-right}
 use Rattle.tag.specs.States.{KeyedTag}
@@ -28,7 +30,7 @@ use Rattle.entry.specs.Sessions.{cleared}
 use Rattle.tag.specs.States.{inTurn}
 use Rattle.offer.specs.Checks.{judged}
 use Rattle.keytable.specs.Named.{keyWith}
-use Rattle.offer.specs.Records.{offered, modeOffered, modeSupported, slotNamed, blockAsked}
+use Rattle.offer.specs.Records.{offered, modeOffered, modeServed, modeSupported, slotNamed, blockAsked}
 use Rattle.offer.specs.Judged.{benchChecks, openingChecks}
 use Rattle.tam.specs.Judged.{tam2Checks}
 use Rattle.entry.specs.Judged.{iam2Checks, iam3Checks, mam2Checks}
@@ -54,7 +56,7 @@ use Rattle.tag.specs.Answers.{
   answerWith,
 }
 use Rattle.offer.proofs.Lines.{first-holds, others-hold}
-use Rattle.offer.proofs.Passed.{mode-below, bench-draws}
+use Rattle.offer.proofs.Passed.{mode-named, bench-draws}
 use Rattle.tam.proofs.Passed.{tam2-mode, tam2-inside}
 use Rattle.offer.proofs.Bytes.{Ten}
 use Rattle.tam.proofs.Tam2Asked.{tam1-challenge, tam2-challenge, tam2-custom-fits, words-bytes}
@@ -62,7 +64,7 @@ use Rattle.entry.proofs.Mam1Reply.{mam1-challenge}
 use Rattle.reader.specs.declared.Keys.{Keys}
 use Rattle.reader_judge.specs.Findings.{Finding, nothingMore, issues}
 use Rattle.reader_judge.specs.Judged.{iam1Finding, emptyFinding, judgementOf, byKind as findingOf}
-use Rattle.reader.specs.Own.{dataRoom, modeFits, fieldsFit, ownFits}
+use Rattle.reader.specs.Own.{dataRoom, modeServed as readerServes, modeFits, fieldsFit, ownFits}
 use Rattle.reader_judge.proofs.Judging.{own-told}
 use Rattle.claims.specs.Recovery.{Taken, keyidUsed, Shares, Fit, due, Recovery}
 use Rattle.claims.proofs.Opens.{tam1-found, mam1-found}
@@ -72,10 +74,12 @@ use Rattle.claims.proofs.Windows.{words-all}
 -- a ProtMode that the tag supports with a record is one that the reader can judge with its keys
 mode-own : (setup : Setup) (keys : Keys) (key : Key) (p : ℕ) → Shares keys key
     → modeSupported (setup .features) key p ≡ true → modeFits keys p ≡ true
-unfolding modeFits modeSupported
+unfolding modeFits readerServes modeServed
 mode-own setup keys key p s h =
-    ap₂ both (le-leb p 3 (omega (arith, mode-below (setup .features) key p h)))
-    (ap (implies (hasMac p)) (s .mac) ∙ both-right (modeOffered (setup .features) p) (implies (hasMac p) (key .mac)) h)
+    let m = mode-named (setup .features) key p h in
+    ap (λ (x : ProtModeField). inMode x (readerServes keys) false) (m .named)
+    ∙ ap (implies (hasMac (m .mode))) (s .mac)
+    ∙ both-right (modeOffered (setup .features) (m .mode)) (implies (hasMac (m .mode)) (key .mac)) (m .holds)
 
 iam1-found : (reply : List ℕ) → length reply ≡ 10 → iam1Finding reply ≡ issues reply
 unfolding iam1Finding
@@ -205,13 +209,15 @@ module _ (c : Call) (tag : KeyedTag) (keys : Keys) (room : ℕ) (fit : Fit c tag
         let f = tam2Of (c .message) in
         let block = blockAsked (tag .setup .profiles) (f .custom) in
         let words = windowOf (c .identity) (c .user) block in
+        let key = keyWith (f .keyid) (tag .setup .keys) in
         fine Tam2 _ _
-        (λ h t. judges Tam2 e s _ _ (tam2-lengths h s) (tam2-fields h s)
-        (tam2-found keys (keyWith (f .keyid) (tag .setup .keys)) s (fit .enc) (c .draws) ten f
+        (λ h t. let m = mode-named (tag .setup .features) key (f .protmode) (tam2-mode (tag .setup) (c .message) h) in
+        judges Tam2 e s _ _ (tam2-lengths h s) (tam2-fields h s)
+        (tam2-found keys key s (fit .enc) (c .draws) ten f (m .mode)
         (tam2-challenge (c .message) (fit .message)) (tam2-custom-fits (c .message) (fit .message)) words
         (words-all (tag .setup) (c .identity) (c .user) (length (c .draws)) (c .room) bench (f .custom) (fit .setup)
         (tam2-slot h s) (tam2-inside (tag .setup) (c .message) h))
-        (words-bytes block (c .identity) (c .user) (fit .identity) (fit .user))))
+        (words-bytes block (c .identity) (c .user) (fit .identity) (fit .user)) (m .named)))
 
     -- ---- every kind, in its order
 

@@ -50,7 +50,7 @@ use Rattle.tag.specs.Answers.{
 use Rattle.tag.specs.Reactions.{lent}
 use Rattle.tag.proofs.Cases.{fine-case}
 use Rattle.offer.proofs.Lines.{first-holds}
-use Rattle.tam.proofs.ReplyLengths.{tam1-long, tam2-long}
+use Rattle.tam.proofs.ReplyLengths.{tam1-long, tam2-length}
 use Rattle.entry.proofs.Mam1Reply.{mam1-long}
 use Rattle.tam.proofs.Tam2Asked.{words-most}
 use Rattle.claims.specs.ShutOut.{layoutLength, LengthFixed}
@@ -86,7 +86,7 @@ module _ (c : Call) where
         (tam1-long (keyWith (tam1Of (c .message) .keyid) (setup .keys)) (tam1Of (c .message)) (c .draws)))
     kind-long Tam2 =
         let f = tam2Of (c .message) in
-        fine-long _ _ _ (reply-long _ _ _ (tam2-long (keyWith (f .keyid) (setup .keys)) f
+        fine-long _ _ _ (reply-long _ _ _ (tam2-length (keyWith (f .keyid) (setup .keys)) f
         (windowOf (c .identity) (c .user) (blockAsked (setup .profiles) (f .custom))) (c .draws)
         (words-most (setup .profiles) (f .custom) (c .identity) (c .user))))
     kind-long Iam1 = fine-long _ _ _ (reply-long _ _ _ ten)

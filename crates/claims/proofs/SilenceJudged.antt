@@ -22,7 +22,9 @@ use Rattle.frames.specs.declared.Custom.{Custom}
 use Rattle.frames.specs.Asked.{blockAsked as wordsAsked}
 use Rattle.frames.specs.Constants.{C-IAM2}
 use Rattle.frames.specs.Messages.{tam2Of, iam2Of, iam3Of, mam2Of}
-use Rattle.frames.specs.Lengths.{lengthFits, replyRoom, hasMac}
+use Rattle.frames.specs.Lengths.{lengthFits, replyRoom}
+use Rattle.frames.specs.Modes.{hasMac, inMode, protModeOf}
+use Rattle.frames.specs.declared.ProtMode.{ProtMode}
 use Rattle.frames.proofs.Range.{both-right}
 use Rattle.offer.specs.declared.Fault.the-variants.{
   OtherError,
@@ -37,7 +39,7 @@ use Rattle.offer.specs.declared.Verdict.the-variants.{Fine}
 use Rattle.ground.specs.Checks.{_else_}
 use Rattle.offer.specs.Checks.{judged}
 use Rattle.keytable.specs.Named.{hasKey, keyWith}
-use Rattle.offer.specs.Records.{sizeOffered, revOffered, modeOffered, modeSupported, slotNamed, blockAsked}
+use Rattle.offer.specs.Records.{sizeOffered, revOffered, modeOffered, modeServed, modeSupported, slotNamed, blockAsked}
 use Rattle.entry.specs.Opened.{iamProof, mamProof, iam3Proof}
 use Rattle.offer.specs.Judged.{drawBytes, benchChecks, openingChecks}
 use Rattle.tam.specs.Judged.{tam2Checks}
@@ -60,8 +62,10 @@ module _ (named : ℕ → Bool) (s t : Setup) (alike : SetupsAlike named s t) wh
 
   mode-alike : (keyid p : ℕ) → modeSupported (s .features) (keyWith keyid (s .keys)) p ≡ modeSupported (t .features)
       (keyWith keyid (t .keys)) p
-  unfolding modeSupported
-  mode-alike keyid p j = both (modeOffered (alike .features j) p) (implies (hasMac p) (finds keyid .mac j))
+  unfolding modeSupported modeServed
+  mode-alike keyid p j = inMode (protModeOf p)
+      (λ (mode : ProtMode). both (modeOffered (alike .features j) mode) (implies (hasMac mode) (finds keyid .mac j)))
+      false
 
   pub bench-alike : (draws room i u j v : ℕ) → i ≡ j → u ≡ v
       → judged (benchChecks (s .sizes) draws room i u) ≡ judged (benchChecks (t .sizes) draws room j v)

@@ -23,17 +23,19 @@ use Rattle.frames.specs.Constants.{twoBytes, byMode, tam2Constant}
 use Rattle.frames.specs.Fields.{bytesFrom, sizeOf, selectCustom}
 use Rattle.frames.specs.Header.{headerStart, headerOf}
 use Rattle.frames.specs.Kinds.{kindOf, tamKind}
-use Rattle.frames.specs.Lengths.{lengthFits, hasMac}
+use Rattle.frames.specs.Lengths.{lengthFits}
+use Rattle.frames.specs.Modes.{encrypts, hasMac, protModeOf}
 use Rattle.frames.specs.Messages.{tam1Of, tam2Of}
 use Rattle.payload.specs.Data.{filled, carriedData}
-use Rattle.payload.specs.Protected.{encrypts, withMac}
+use Rattle.payload.specs.Protected.{withMac}
 use Rattle.offer.specs.declared.Outcome.the-variants.{Replied}
 use Rattle.ground.specs.Checks.{judgedTo}
 use Rattle.entry.specs.Sessions.{cleared}
 use Rattle.tag.specs.States.{holding, inTurn, poweredUp}
 use Rattle.keytable.specs.Named.{hasKey, keyWith}
-use Rattle.offer.specs.Records.{offered, sizeOffered, revOffered, modeOffered, modeSupported, slotNamed, blockAsked}
-use Rattle.tam.specs.Replies.{tamBlock, tam1Reply, tam2Body, tam2Reply}
+use Rattle.offer.specs.Records.{offered, sizeOffered, revOffered, modeOffered, modeServed, modeSupported, slotNamed}
+use Rattle.offer.specs.Records.{blockAsked}
+use Rattle.tam.specs.Replies.{tamBlock, tam1Reply, tam2Body, tam2InMode, tam2Reply}
 use Rattle.offer.specs.Judged.{benchChecks, openingChecks}
 use Rattle.tam.specs.Judged.{tam2Checks}
 use Rattle.tag.specs.Answers.{replied, ifFine, tam1Answer, tam2Answer, byKind, inOrder, ofMessage, effectOf}
@@ -206,8 +208,8 @@ word-answered : (enc : List ℕ) (l : Key) (a b : ℕ) → answers (carrying (ou
     } ∷ []
 unfolding run answerTo poweredUp effectOf benchChecks judgedTo ofMessage inOrder kindOf tamKind offered inTurn byKind
     tam2Answer tam2Of bytesFrom sizeOf selectCustom tam2Checks lengthFits sizeOffered revOffered modeSupported
-    modeOffered hasMac hasKey keyWith slotNamed blockAsked wordsAsked addressOf stepOf overruns profileEnd lastWord
-    permitted windowOf areaOf partOf within carrying ifFine replied tam2Reply tam2Body tamBlock twoBytes byMode
+    modeServed modeOffered protModeOf hasMac hasKey keyWith slotNamed blockAsked wordsAsked addressOf stepOf overruns profileEnd lastWord
+    permitted windowOf areaOf partOf within carrying ifFine replied tam2Reply tam2InMode tam2Body tamBlock twoBytes byMode
     tam2Constant encrypts withMac carriedData filled headerOf headerStart headerLength headerPart dataLength carried
     blocksLength dOf blockBytes blockSizeBit
 word-answered enc l a b = refl

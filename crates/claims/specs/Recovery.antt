@@ -15,6 +15,7 @@ use Rattle.frames.specs.declared.Kind.{Kind}
 use Rattle.frames.specs.declared.Kind.the-variants.{Tam1, Tam2, Iam1, Iam2, Iam3, Mam1, Mam2, Unsupported}
 use Rattle.frames.specs.Fields.{byte}
 use Rattle.frames.specs.Kinds.{kindOf}
+use Rattle.frames.specs.Modes.{inMode, protModeOf}
 use Rattle.frames.specs.Messages.{tam1Of, tam2Of, iam1Of, mam1Of}
 use Rattle.tag.specs.declared.Tag.{Tag}
 use Rattle.tag.specs.States.{KeyedTag, keyed}
@@ -27,6 +28,8 @@ use Rattle.offer.specs.Records.{blockAsked}
 use Rattle.tag.specs.Reactions.{lent}
 use Rattle.tag.specs.Plays.{Brought, Left, Called}
 use Rattle.reader_judge.specs.declared.Judgement.{Judgement}
+use Rattle.reader_judge.specs.declared.Worth.{Worth}
+use Rattle.reader_judge.specs.declared.Worth.the-variants.{NoData}
 use Rattle.reader.specs.declared.Keys.{Keys}
 use Rattle.reader_judge.specs.Findings.{Finding, nothingMore, carries, worthOf, issues, Judges}
 use Rattle.reader_judge.specs.Judged.{judgementOf}
@@ -67,10 +70,14 @@ pub record Fit (c : Call) (tag : KeyedTag) (keys : Keys) : Type 0 where
   pub user : Bytes (c .user)
   pub enc : Bytes (keys .enc)
 
+-- What data are worth by the field ProtMode; nothing where it says no mode, which no answered message does.
+abbrev pub worthAsked : ℕ → Worth
+worthAsked protmode = inMode (protModeOf protmode) worthOf NoData
+
 -- What the reader is to find, of an answer to a message of a kind.
 unfoldable pub due : Call → KeyedTag → Answer → Kind → Finding
 due c tag a Tam1 = nothingMore
-due c tag a Tam2 = carries (worthOf (tam2Of (c .message) .protmode))
+due c tag a Tam2 = carries (worthAsked (tam2Of (c .message) .protmode))
     (windowOf (c .identity) (c .user) (blockAsked (tag .setup .profiles) (tam2Of (c .message) .custom)))
 due c tag a Iam1 = issues (a .tag .session .tchallenge)
 due c tag a Iam2 = nothingMore

@@ -10,6 +10,7 @@ use Rattle.frames.specs.declared.Kind.the-variants.{Tam1, Tam2, Iam1, Iam2, Iam
 use Rattle.frames.specs.Fields.{byte}
 use Rattle.frames.specs.Kinds.{kindOf}
 use Rattle.frames.specs.Lengths.{tam1ReplyLength, tam2ReplyLength, iam1ReplyLength, mam1ReplyLength, emptyReplyLength}
+use Rattle.frames.specs.Modes.{inMode, protModeOf}
 use Rattle.frames.specs.Messages.{tam2Of}
 use Rattle.offer.specs.declared.Outcome.the-variants.{Replied}
 use Rattle.tag.specs.declared.Tag.{Tag}
@@ -85,8 +86,8 @@ ShutOut False = (p : Program) → False p → Standard p → ⊥
 -- The layout fixes the length of every reply, so that any other length is no standard's tag's.
 unfoldable pub layoutLength : Kind → List ℕ → ℕ
 layoutLength Tam1 m = tam1ReplyLength
-layoutLength Tam2 m = tam2ReplyLength (tam2Of m .custom .blocksize) (tam2Of m .rev) (tam2Of m .custom .blockcount)
-    (tam2Of m .protmode)
+layoutLength Tam2 m = inMode (protModeOf (tam2Of m .protmode))
+    (tam2ReplyLength (tam2Of m .custom .blocksize) (tam2Of m .rev) (tam2Of m .custom .blockcount)) emptyReplyLength
 layoutLength Iam1 m = iam1ReplyLength
 layoutLength Iam2 m = emptyReplyLength
 layoutLength Iam3 m = emptyReplyLength

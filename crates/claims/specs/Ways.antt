@@ -2,11 +2,13 @@
 -- block so opened.
 use Prim.Native.Nat.{ℕ}
 use mathlib.Core.Path.{_≡_}
-use mathlib.Core.Bool.{true}
+use mathlib.Core.Bool.{true, false}
 use mathlib.Core.List.{List}
 use Rattle.aes.specs.AesEnc.{aesEnc}
 use Rattle.frames.specs.Constants.{C-IAM2, iam3Constant}
 use Rattle.frames.specs.Messages.{iam2Of, iam3Of, mam2Of}
+use Rattle.frames.specs.declared.ProtMode.{ProtMode}
+use Rattle.frames.specs.Modes.{inMode, protModeOf}
 use Rattle.sheet.specs.Setups.{Setup}
 use Rattle.entry.specs.declared.Session.{Session}
 use Rattle.offer.specs.declared.Verdict.the-variants.{Fine}
@@ -24,5 +26,6 @@ TagEncrypts =
     → iamProof C-IAM2 held (aesEnc (keyWith (held .keyid) (setup .keys) .enc) (iam2Of m .iresponse)) ≡ true)
     × (judged (mam2Checks (setup .keys) held m) ≡ Fine
     → mamProof held (aesEnc (keyWith (held .keyid) (setup .keys) .enc) (mam2Of m .iresponse)) ≡ true)
-    × (judged (iam3Checks setup held m) ≡ Fine → iamProof (iam3Constant (iam3Of m .protmode)) held
-    (aesEnc (keyWith (held .keyid) (setup .keys) .enc) (sentBlock m)) ≡ true)
+    × (judged (iam3Checks setup held m) ≡ Fine
+    → inMode (protModeOf (iam3Of m .protmode)) (λ (mode : ProtMode). iamProof (iam3Constant mode) held
+    (aesEnc (keyWith (held .keyid) (setup .keys) .enc) (sentBlock m))) false ≡ true)

@@ -16,8 +16,9 @@ use Rattle.frames.specs.Constants.{tam2Constant, twoBytes}
 use Rattle.frames.specs.Lengths.{macLength, tam1ReplyLength, tam2MacAt, tam2ReplyLength}
 use Rattle.payload.specs.Data.{carriedData}
 use Rattle.frames.specs.declared.ProtMode.{ProtMode}
+use Rattle.frames.specs.declared.ProtModeField.{ProtModeField}
 use Rattle.frames.specs.declared.ProtModeField.the-variants.{Mode, NoMode}
-use Rattle.frames.specs.Modes.{encrypts, hasMac, protModeOf}
+use Rattle.frames.specs.Modes.{encrypts, hasMac, inMode, protModeOf}
 use Rattle.payload.specs.Protected.{withMac}
 use Rattle.payload.proofs.Data.{carried-length}
 use Rattle.payload.proofs.Lengths.{enc-sixteen, blocks-whole, cbc-enc-long, mac-long}
@@ -76,3 +77,16 @@ pub tam2-nothing : (key : Key) (m : Tam2) (words draws : List ℕ) → protModeO
     → tam2Reply key m words draws ≡ []
 unfolding tam2Reply
 tam2-nothing key m words draws none = rw none
+
+-- and so is its length
+pub tam2-length : (key : Key) (m : Tam2) (words draws : List ℕ)
+    → length words ≤ dataLength (m .custom .blocksize) (m .custom .blockcount)
+    → length (tam2Reply key m words draws) ≡ inMode (protModeOf (m .protmode))
+    (tam2ReplyLength (m .custom .blocksize) (m .rev) (m .custom .blockcount)) 0
+unfolding tam2Reply
+tam2-length key m words draws count = by (protModeOf (m .protmode))
+  where
+    by : (x : ProtModeField) → length (inMode x (tam2InMode key m words draws) [])
+        ≡ inMode x (tam2ReplyLength (m .custom .blocksize) (m .rev) (m .custom .blockcount)) 0
+    by (Mode mode) = tam2-long key m words draws mode count
+    by NoMode = refl
