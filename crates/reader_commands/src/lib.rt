@@ -6,6 +6,8 @@ use console::answer::within;
 use console::fields;
 use console::words::word;
 use frames::Kind;
+use frames::sizes::DATA_ROOM;
+use frames::sizes::MESSAGE_ROOM;
 use lines::print;
 use reader::Keys;
 use reader_build::Made;
@@ -76,7 +78,7 @@ pub fn build(k: Keyring, line: &[u8]) {
         }
     }
     let keys = k.keys;
-    let mut room = [0u8; 176];
+    let mut room = [0u8; MESSAGE_ROOM];
     let made = orders::made(keys, kind, line, &mut room);
     built(made, &room);
 }
@@ -105,7 +107,7 @@ pub fn judged(k: Keyring, line: &[u8]) {
     let m = within(fields::bytes(line, 1, &mut message), &message);
     let mut reply = io::buffer();
     let r = within(fields::bytes(line, 2, &mut reply), &reply);
-    let mut room = [0u8; 144];
+    let mut room = [0u8; DATA_ROOM];
     let j = judge(keys, &message[..m], &reply[..r], &mut room);
     told(j, &room);
 }

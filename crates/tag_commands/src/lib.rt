@@ -7,6 +7,7 @@ use console::answer::within;
 use console::fields;
 use console::words::count;
 use console::words::word;
+use frames::sizes::REPLY_ROOM;
 use lines::numbers::low_word;
 use lines::numbers::times;
 use lines::print;
@@ -215,7 +216,7 @@ fn sent(
 
 fn room_of(line: &[u8]) -> usize {
     if count(line) < 4 {
-        return 172;
+        return REPLY_ROOM;
     }
     fields::number(line, 3) as usize
 }
