@@ -14,7 +14,7 @@ use Rattle.modes.proofs.Rooms.{room-for-mac}
 use Rattle.frames.specs.Built.{Built}
 use Rattle.frames.specs.Lengths.{hasMac, macLength}
 use Rattle.frames.proofs.Joins.{built, refused}
-use Rattle.payload.specs.Alike.{same}
+use Rattle.octets.specs.Alike.{same}
 use Rattle.payload.specs.Protected.{macTakes, withMac, macFits}
 use Rattle.payload.proofs.Lengths.{mac-twelve, mac-long}
 use Rattle.payload.proofs.Overs.{over-all, over-none}

@@ -8,7 +8,7 @@ use Rattle.ground.specs.Choice.{pick, both, either, implies}
 use Rattle.modes.specs.Cmac.{macBytes, cmac96}
 use Rattle.modes.specs.Room.{macs}
 use Rattle.frames.specs.Lengths.{hasMac}
-use Rattle.payload.specs.Alike.{same}
+use Rattle.octets.specs.Alike.{same}
 
 -- Table 3: ProtModes 1 and 3 encrypt; 2 and 3 carry a MAC (`hasMac`).
 unfoldable pub encrypts : ℕ → Bool

@@ -1,9 +1,9 @@
--- `payload::parts::header_part` meets its contract.
+-- `payload::header_part` meets its contract.
 use mathlib.Core.Path.{sym, ap, _∙_}
 use Rattle.frames.specs.Blocks.{headerPart}
 use borrow.Author.Needs.{needs}
-use Rattle.payload.proofs.parts.header_part.Statement.{statement}
-use Rattle.payload.proofs.parts.header_part.Tie as tie
+use Rattle.payload.proofs.header_part.Statement.{statement}
+use Rattle.payload.proofs.header_part.Tie as tie
 
 header-length-requires : tie.Need-header-length-requires
 header-length-requires c κs = search needs
