@@ -10,7 +10,7 @@ use Rattle.frames.specs.declared.Kind.the-variants.{Iam1, Mam1}
 use Rattle.frames.specs.declared.Iam1.{Iam1 as Iam1Fields}
 use Rattle.frames.specs.declared.Mam1.{Mam1 as Mam1Fields}
 use Rattle.frames.specs.Messages.{iam1Of, mam1Of}
-use Rattle.frames.proofs.Places.{bytes-length}
+use Rattle.octets.proofs.Parts.{bytes-length}
 use Rattle.payload.proofs.Bytes.{last-four}
 use Rattle.payload.proofs.Overs.{over-all}
 use Rattle.offer.specs.declared.Fault.{Fault}

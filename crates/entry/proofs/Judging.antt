@@ -11,7 +11,7 @@ use Rattle.sheet.specs.declared.Key.{Key}
 use Rattle.frames.specs.declared.Iam3.{Iam3}
 use Rattle.frames.specs.declared.ProtMode.{ProtMode}
 use Rattle.frames.specs.Constants.{withPurpose, iam3Constant}
-use Rattle.payload.specs.Alike.{same}
+use Rattle.octets.specs.Alike.{same}
 use Rattle.payload.specs.Data.{headerFits, fillerFits}
 use Rattle.entry.specs.declared.Session.{Session}
 use Rattle.entry.specs.Opened.{constantIn, purposeIn, challengeIn, purposeAllowed, iamProof, sentBlock}

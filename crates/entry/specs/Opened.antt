@@ -14,7 +14,7 @@ use Rattle.frames.specs.declared.Iam3.{Iam3}
 use Rattle.frames.specs.Blocks.{blocksLength}
 use Rattle.frames.specs.Constants.{C-MAM2, iam3Constant}
 use Rattle.frames.specs.Lengths.{iam3HeadLength}
-use Rattle.payload.specs.Alike.{same}
+use Rattle.octets.specs.Alike.{same}
 use Rattle.payload.specs.Data.{headerFits, fillerFits, wordsIn as wordsBehind}
 use Rattle.frames.specs.declared.ProtMode.{ProtMode}
 use Rattle.frames.specs.Modes.{encrypts, inMode, protModeOf}

@@ -73,7 +73,7 @@ pub fn iam_proof(constant: u16, held: Session, b: [u8; 16]) -> bool
     let known = constant_in(b[0], b[1]) == constant;
     let allowed = purpose_allowed(purpose(b));
     let challenge = held.tchallenge;
-    let issued = payload::same(&b[6..16], &challenge);
+    let issued = octets::same(&b[6..16], &challenge);
     both(known, both(allowed, issued))
 }
 
@@ -84,7 +84,7 @@ pub fn mam_proof(held: Session, b: [u8; 16]) -> bool
 {
     let proof = iam_proof(0xDA8, held, b);
     let challenge = held.ichallenge;
-    let own = payload::same(&b[2..6], &challenge);
+    let own = octets::same(&b[2..6], &challenge);
     both(proof, own)
 }
 

@@ -72,22 +72,7 @@ pub fn xor(a: [u8; 16], b: [u8; 16]) -> [u8; 16]
 pub fn first_block(s: &[u8]) -> [u8; 16]
     ensures { λ r. ⌜ r ≡ firstBlock (now (s .entry)) ⌝ }
 {
-    let mut r = [0u8; 16];
-    let mut i = 0;
-    while i < 16 {
-        r[i] = byte_at(s, i);
-        i += 1;
-    }
-    r
-}
-
-fn byte_at(s: &[u8], i: usize) -> u8
-    ensures { λ r. ⌜ r ≡ getD (now (s .entry)) i 0 ⌝ }
-{
-    if i < s.len() {
-        return s[i];
-    }
-    0
+    octets::sixteen(s, 0)
 }
 
 // The product of b by x (4.2): a shift, and 0x1B added where x^8 comes up.

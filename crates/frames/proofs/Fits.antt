@@ -89,12 +89,6 @@ use Rattle.frames.proofs.build.mam2_into.Reads as mam2-into
 use Rattle.frames.proofs.build.mam2_into.Kinds as mam2-into-kinds
 use Rattle.frames.proofs.build.header_into.Reads as header-into
 use Rattle.frames.proofs.build.header_into.Kinds as header-into-kinds
-use Rattle.frames.proofs.parts.byte.Reads as byte
-use Rattle.frames.proofs.parts.byte.Kinds as byte-kinds
-use Rattle.frames.proofs.parts.ten.Reads as ten
-use Rattle.frames.proofs.parts.ten.Kinds as ten-kinds
-use Rattle.frames.proofs.parts.sixteen.Reads as sixteen
-use Rattle.frames.proofs.parts.sixteen.Kinds as sixteen-kinds
 use Rattle.frames.proofs.parts.join.Reads as join
 use Rattle.frames.proofs.parts.join.Kinds as join-kinds
 
@@ -226,15 +220,6 @@ pub header-into-one : OneAnswer 1 header-into-kinds.ps header-into-kinds.r heade
     (λ κs r s. (r, now (s .1 .0)))
 header-into-one κs a x y s t p q = one-built _ _ _ _ _ _ _ _ p q
 
--- the crate's own: bytes, and parts into a room
-pub byte-one : OneAnswer 1 byte-kinds.ps byte-kinds.r byte.Post ℕ (λ κs r s. r)
-byte-one κs a x y s t p q = one p q
-
-pub ten-one : OneAnswer 1 ten-kinds.ps ten-kinds.r ten.Post (List ℕ) (λ κs r s. r)
-ten-one κs a x y s t p q = one p q
-
-pub sixteen-one : OneAnswer 1 sixteen-kinds.ps sixteen-kinds.r sixteen.Post (List ℕ) (λ κs r s. r)
-sixteen-one κs a x y s t p q = one p q
-
+-- the crate's own: parts into a room
 pub join-one : OneAnswer 4 join-kinds.ps join-kinds.r join.Post (Bool × List ℕ) (λ κs r s. (r, now (s .0)))
 join-one κs a x y s t p q = one-built _ _ _ _ _ _ _ _ p q

@@ -7,13 +7,14 @@ use Prim.Native.Nat.{ℕ, _+_, _*_, _-_, _/_, _%_}
 use native.Mathlib.Omega.{arith}
 use lib.ListN.{length, take, drop, replicate, length-replicate, getD-replicate, length-drop, take-append-drop}
 use lib.Seq.{ext-getD, getD-drop}
-use Rattle.ground.specs.Bytes.{Bytes}
+use Rattle.ground.specs.Bytes.{Bytes, byteAt}
+use Rattle.octets.specs.Parts.{bytesFrom}
+use Rattle.octets.proofs.Parts.{bytes-taken}
 use Rattle.frames.specs.Blocks.{headerLength}
-use Rattle.frames.specs.Fields.{byte, bytesFrom, sizeBit, sizeOf, customFits}
+use Rattle.frames.specs.Fields.{sizeBit, sizeOf, customFits}
 use Rattle.frames.specs.Header.{headerStart, headerOf, headerCustom}
 use Rattle.frames.specs.declared.Custom.{Custom}
 use Rattle.frames.proofs.Laid.{header-least}
-use Rattle.frames.proofs.Places.{bytes-taken}
 use Rattle.frames.proofs.Range.{custom-range, size-bit-lt, size-of-bit, bit-of-size}
 
 pub header-taken : (c : Custom) → customFits c ≡ true → headerCustom (headerOf c) ≡ c
@@ -37,14 +38,14 @@ pub header-one : (c d : Custom) → customFits c ≡ true → customFits d ≡ t
 header-one c d fc fd e = sym (header-taken c fc) ∙ ap headerCustom e ∙ header-taken d fd
 
 -- bytes that end with zeros, as many as a header has
-module _ (h : List ℕ) (bytes : Bytes h) (long : length h ≡ headerLength (sizeOf (byte h 0 / 128)))
-    (three : byte h 2 % 8 ≡ 0) (rest : (i : ℕ) → byte h (3 + i) ≡ 0) where
-  start-built : headerStart (headerCustom h) ≡ byte h 0 ∷ byte h 1 ∷ byte h 2 ∷ []
+module _ (h : List ℕ) (bytes : Bytes h) (long : length h ≡ headerLength (sizeOf (byteAt h 0 / 128)))
+    (three : byteAt h 2 % 8 ≡ 0) (rest : (i : ℕ) → byteAt h (3 + i) ≡ 0) where
+  start-built : headerStart (headerCustom h) ≡ byteAt h 0 ∷ byteAt h 1 ∷ byteAt h 2 ∷ []
   unfolding headerStart headerCustom
   start-built =
-      let x = byte h 0 in
-      let y = byte h 1 in
-      let z = byte h 2 in
+      let x = byteAt h 0 in
+      let y = byteAt h 1 in
+      let z = byteAt h 2 in
       let o = x % 8 * 512 + y * 2 + z / 128 in
       let s : sizeBit (sizeOf (x / 128)) ≡ x / 128 = bit-of-size (x / 128) (omega (arith, bytes 0)) in
       let a : sizeBit (sizeOf (x / 128)) * 128 + x / 8 % 16 * 8 + o / 512 ≡ x =
@@ -53,9 +54,9 @@ module _ (h : List ℕ) (bytes : Bytes h) (long : length h ≡ headerLength (siz
       let c : o % 2 * 128 + z / 8 % 16 * 8 ≡ z = omega (arith, bytes 0, bytes 1, bytes 2) in
       λ i. a i ∷ b i ∷ c i ∷ []
 
-  zeros-built : replicate (headerLength (sizeOf (byte h 0 / 128)) - 3) 0 ≡ drop 3 h
+  zeros-built : replicate (headerLength (sizeOf (byteAt h 0 / 128)) - 3) 0 ≡ drop 3 h
   zeros-built =
-      let n = headerLength (sizeOf (byte h 0 / 128)) - 3 in
+      let n = headerLength (sizeOf (byteAt h 0 / 128)) - 3 in
       let e : length {A = ℕ} (replicate n 0) ≡ n = length-replicate {A = ℕ} n 0 in
       ext-getD 0 (replicate n 0) (drop 3 h) (e ∙ ap (λ (k : ℕ). k - 3) (sym long) ∙ sym (length-drop 3 h))
       (λ i lt. getD-replicate n i 0 0 (omega (arith, e)) ∙ sym (getD-drop 3 h i 0 ∙ rest i))
@@ -63,6 +64,6 @@ module _ (h : List ℕ) (bytes : Bytes h) (long : length h ≡ headerLength (siz
   pub header-built : headerOf (headerCustom h) ≡ h
   unfolding headerOf bytesFrom headerCustom
   header-built =
-      let t : byte h 0 ∷ byte h 1 ∷ byte h 2 ∷ [] ≡ take 3 h =
-      bytes-taken h 3 (omega (arith, header-least (sizeOf (byte h 0 / 128)))) in
+      let t : byteAt h 0 ∷ byteAt h 1 ∷ byteAt h 2 ∷ [] ≡ take 3 h =
+      bytes-taken h 3 (omega (arith, header-least (sizeOf (byteAt h 0 / 128)))) in
       (λ i. (start-built ∙ t) i ++ zeros-built i) ∙ take-append-drop 3 h

@@ -7,7 +7,8 @@ use native.Mathlib.Omega.{arith}
 use borrow.Author.Tests.{eq-eqb, le-leb}
 use lib.ListN.{length, replicate, length-append, length-replicate}
 use Rattle.frames.specs.Blocks.{headerLength, blocksLength}
-use Rattle.frames.specs.Fields.{byte, sizeBit, bit, customFits, selectBytes}
+use Rattle.ground.specs.Bytes.{byteAt}
+use Rattle.frames.specs.Fields.{sizeBit, bit, customFits, selectBytes}
 use Rattle.frames.specs.Header.{headerStart, headerOf}
 use Rattle.frames.specs.Kinds.{kindOf}
 use Rattle.frames.specs.Modes.{protModeOf}
@@ -50,32 +51,32 @@ use Rattle.frames.proofs.Range.{size-bit-lt, bit-lt}
 use Rattle.frames.proofs.Taken.{iam3-taken}
 
 pub tam1-shape : (f : Tam1Fields) → length (f .ichallenge) ≡ 10 → f .rfu < 32
-    → (length (tam1Message f) ≡ tam1Length) × (kindOf (byte (tam1Message f) 0) ≡ Tam1)
+    → (length (tam1Message f) ≡ tam1Length) × (kindOf (byteAt (tam1Message f) 0) ≡ Tam1)
 unfolding tam1Message
 tam1-shape f e h = (ap (λ (n : ℕ). suc (suc n)) e, tam1-kind (f .rfu) h)
 
 pub mam1-shape : (f : Mam1Fields) → length (f .ichallenge) ≡ 10 → f .rfu < 16
-    → (length (mam1Message f) ≡ mam1Length) × (kindOf (byte (mam1Message f) 0) ≡ Mam1)
+    → (length (mam1Message f) ≡ mam1Length) × (kindOf (byteAt (mam1Message f) 0) ≡ Mam1)
 unfolding mam1Message
 mam1-shape f e h = (ap (λ (n : ℕ). suc (suc n)) e, mam1-kind (0x80 + f .rfu) (omega arith) (omega arith))
 
 pub iam1-shape : (f : Iam1Fields) → f .rfu < 16 → (length (iam1Message f) ≡ iam1Length)
-    × (kindOf (byte (iam1Message f) 0) ≡ Iam1)
+    × (kindOf (byteAt (iam1Message f) 0) ≡ Iam1)
 unfolding iam1Message
 iam1-shape f h = (refl, iam1-kind (0x40 + f .rfu) (omega arith) (omega arith))
 
 pub iam2-shape : (f : Iam2Fields) → length (f .iresponse) ≡ 16 → f .rfu < 8
-    → (length (iam2Message f) ≡ iam2Length) × (kindOf (byte (iam2Message f) 0) ≡ Iam2)
+    → (length (iam2Message f) ≡ iam2Length) × (kindOf (byteAt (iam2Message f) 0) ≡ Iam2)
 unfolding iam2Message
 iam2-shape f e h = (ap suc e, iam2-kind (0x50 + f .rfu) (omega arith) (omega arith))
 
 pub mam2-shape : (f : Mam2Fields) → length (f .iresponse) ≡ 16 → f .rfu < 16
-    → (length (mam2Message f) ≡ mam2Length) × (kindOf (byte (mam2Message f) 0) ≡ Mam2)
+    → (length (mam2Message f) ≡ mam2Length) × (kindOf (byteAt (mam2Message f) 0) ≡ Mam2)
 unfolding mam2Message
 mam2-shape f e h = (ap suc e, mam2-kind (0x90 + f .rfu) (omega arith) (omega arith))
 
 pub tam2-shape : (f : Tam2Fields) → length (f .ichallenge) ≡ 10 → f .rfu < 8
-    → (length (tam2Message f) ≡ tam2Length) × (kindOf (byte (tam2Message f) 0) ≡ Tam2)
+    → (length (tam2Message f) ≡ tam2Length) × (kindOf (byteAt (tam2Message f) 0) ≡ Tam2)
 unfolding tam2Message selectBytes
 tam2-shape f e h =
     let s = selectBytes (f .custom) (f .protmode) in
@@ -91,7 +92,7 @@ module _ (f : Iam3Fields) (long : length (f .iresponse) ≡ 16) where
   unfolding iam3Head selectBytes
   iam3-head = ap (λ (n : ℕ). suc (suc (suc (suc n)))) long
 
-  pub iam3-begins : (rest : List ℕ) → f .rfu < 4 → kindOf (byte (iam3Head f ++ rest) 0) ≡ Iam3
+  pub iam3-begins : (rest : List ℕ) → f .rfu < 4 → kindOf (byteAt (iam3Head f ++ rest) 0) ≡ Iam3
   unfolding iam3Head
   iam3-begins rest h =
       let b = size-bit-lt (f .custom .blocksize) in

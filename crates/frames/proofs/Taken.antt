@@ -6,7 +6,9 @@ use mathlib.Core.List.{List, _++_}
 use Prim.Native.Nat.{ℕ, _+_, _*_, _/_, _%_, _<_}
 use native.Mathlib.Omega.{arith}
 use lib.ListN.{length, getD}
-use Rattle.frames.specs.Fields.{bytesFrom, sizeBit, sizeOf, bit, flag, customFits, selectBytes, selectCustom}
+use Rattle.octets.specs.Parts.{bytesFrom}
+use Rattle.octets.proofs.Parts.{front, whole}
+use Rattle.frames.specs.Fields.{sizeBit, sizeOf, bit, flag, customFits, selectBytes, selectCustom}
 use Rattle.frames.specs.Messages.{
   tam1Message,
   tam1Of,
@@ -31,7 +33,7 @@ use Rattle.frames.specs.declared.Iam2.{Iam2}
 use Rattle.frames.specs.declared.Iam3.{Iam3}
 use Rattle.frames.specs.declared.Mam1.{Mam1}
 use Rattle.frames.specs.declared.Mam2.{Mam2}
-use Rattle.frames.proofs.Places.{front, whole, behind}
+use Rattle.frames.proofs.Places.{behind}
 use Rattle.frames.proofs.Range.{custom-range, size-bit-lt, size-of-bit, bit-lt, flag-of-bit}
 
 -- the three bytes that TAM2 and IAM3 share

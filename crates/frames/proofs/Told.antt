@@ -3,7 +3,7 @@ use mathlib.Core.Path.{_≡_, ap}
 use mathlib.Core.List.{List, [], _∷_}
 use Prim.Native.Nat.{ℕ, _+_, _*_, _/_, _%_, _<_}
 use native.Mathlib.Omega.{arith}
-use Rattle.frames.specs.Fields.{byte}
+use Rattle.ground.specs.Bytes.{byteAt}
 use Rattle.frames.specs.Constants.{twoBytes, withPurpose}
 
 -- the bytes of a 12-bit constant with the Purpose that came are the bytes that came exactly where the constant came
@@ -17,16 +17,16 @@ constant-told c x y hy e =
 pub constant-only : (c x y : ℕ) → y < 256 → withPurpose c (y % 16) ≡ x ∷ y ∷ [] → x * 16 + y / 16 ≡ c
 unfolding withPurpose
 constant-only c x y hy e =
-    let a : c / 16 ≡ x = ap (λ (l : List ℕ). byte l 0) e in
-    let b : c % 16 * 16 + y % 16 % 16 ≡ y = ap (λ (l : List ℕ). byte l 1) e in
+    let a : c / 16 ≡ x = ap (λ (l : List ℕ). byteAt l 0) e in
+    let b : c % 16 * 16 + y % 16 % 16 ≡ y = ap (λ (l : List ℕ). byteAt l 1) e in
     omega arith
 
 -- Purpose comes back
-pub purpose-told : (c p : ℕ) → p < 16 → byte (withPurpose c p) 1 % 16 ≡ p
+pub purpose-told : (c p : ℕ) → p < 16 → byteAt (withPurpose c p) 1 % 16 ≡ p
 unfolding withPurpose
 purpose-told c p h = omega arith
 
 -- a 16-bit constant comes back
-pub two-told : (c : ℕ) → byte (twoBytes c) 0 * 256 + byte (twoBytes c) 1 ≡ c
+pub two-told : (c : ℕ) → byteAt (twoBytes c) 0 * 256 + byteAt (twoBytes c) 1 ≡ c
 unfolding twoBytes
 two-told c = omega arith

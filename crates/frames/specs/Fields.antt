@@ -1,23 +1,13 @@
 -- Fields shared by several messages.
-use Prim.Native.Nat.{ℕ, zero, suc, _+_, _*_, _/_, _%_}
+use Prim.Native.Nat.{ℕ, _+_, _*_, _/_, _%_}
 use mathlib.Core.Bool.{Bool, true, false}
 use mathlib.Core.List.{List, [], _∷_}
 use lib.Dec.{eqb, ltb}
-use lib.ListN.{getD}
 use Rattle.memory.specs.Address.{blockSizeBit}
 use Rattle.memory.specs.declared.BlockSize.{BlockSize}
 use Rattle.memory.specs.declared.BlockSize.the-variants.{Bits64, Bits16}
 use Rattle.ground.specs.Choice.{pick, both}
 use Rattle.frames.specs.declared.Custom.{Custom}
-
--- byte i of a message; past its end 0
-abbrev pub byte : List ℕ → ℕ → ℕ
-byte m i = getD m i 0
-
--- n bytes of a message from place i on
-unfoldable pub bytesFrom : List ℕ → ℕ → ℕ → List ℕ
-bytesFrom m i zero = []
-bytesFrom m i (suc n) = byte m i ∷ bytesFrom m (suc i) n
 
 -- a flag as a bit, and a bit as a flag
 abbrev pub bit : Bool → ℕ

@@ -2,7 +2,8 @@
 use Prim.Native.Nat.{ℕ, _+_, _*_, _-_, _/_, _%_}
 use mathlib.Core.List.{List, [], _∷_, _++_}
 use lib.ListN.{replicate}
-use Rattle.frames.specs.Fields.{byte, sizeBit, sizeOf}
+use Rattle.ground.specs.Bytes.{byteAt}
+use Rattle.frames.specs.Fields.{sizeBit, sizeOf}
 use Rattle.frames.specs.Blocks.{headerLength}
 use Rattle.frames.specs.declared.Custom.{Custom}
 
@@ -21,8 +22,8 @@ headerOf c = headerStart c ++ replicate (headerLength (c .blocksize) - 3) 0
 -- the fields of a header's bytes
 unfoldable pub headerCustom : List ℕ → Custom
 headerCustom h = record {
-  blocksize = sizeOf (byte h 0 / 128);
-  profile = byte h 0 / 8 % 16;
-  offset = record { 0 = byte h 0 % 8 * 512 + byte h 1 * 2 + byte h 2 / 128 };
-  blockcount = byte h 2 / 8 % 16;
+  blocksize = sizeOf (byteAt h 0 / 128);
+  profile = byteAt h 0 / 8 % 16;
+  offset = record { 0 = byteAt h 0 % 8 * 512 + byteAt h 1 * 2 + byteAt h 2 / 128 };
+  blockcount = byteAt h 2 / 8 % 16;
 }

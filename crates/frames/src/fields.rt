@@ -7,11 +7,11 @@ use super::Mam1;
 use super::Mam2;
 use super::Tam1;
 use super::Tam2;
-use super::parts::byte;
-use super::parts::sixteen;
-use super::parts::ten;
 use memory::BlockSize;
 use memory::Offset;
+use octets::byte;
+use octets::sixteen;
+use octets::ten;
 ghost use mathlib.Core.Path.{_≡_};
 ghost use Rattle.frames.specs.Fields.{sizeOf, selectCustom};
 ghost use Rattle.frames.specs.Messages.{tam1Of, tam2Of, iam1Of, iam2Of, iam3Of, mam1Of, mam2Of};
@@ -30,9 +30,7 @@ fn size_of_bit(bit: u8) -> BlockSize
 fn custom_of(blocksize: BlockSize, x: u8, y: u8, z: u8) -> Custom
     ensures { λ r. ⌜ r ≡ selectCustom blocksize x y z ⌝ }
 {
-    let high = (x % 16) as u16;
-    let low = y as u16;
-    let offset = Offset(high * 256 + low);
+    let offset = Offset(octets::word(x % 16, y));
     Custom {
         blocksize,
         profile: x / 16,

@@ -1,4 +1,3 @@
-pub mod Copies
 pub mod Search
 pub mod Answers
 pub mod Named

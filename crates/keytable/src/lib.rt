@@ -1,11 +1,11 @@
 // The key table of a tag, lent as it stands in its sheet: key records one after the other, found by KeyID in place.
+use octets::sixteen;
+use octets::word_at;
 use sheet::KEY_BODY;
 use sheet::KEY_RECORD;
 use sheet::Key;
 ghost use mathlib.Core.Path.{_≡_};
-ghost use Prim.Native.Nat.{_+_, _≤_, _<_};
-ghost use lib.ListN.{length, take, drop};
-ghost use Rattle.ground.specs.Bytes.{wordAt};
+ghost use lib.ListN.{length};
 ghost use Rattle.sheet.specs.Kinds.{bodyLength};
 ghost use Rattle.sheet.specs.Records.{keyOf};
 ghost use Rattle.sheet.specs.KeyTable.{keysIn};
@@ -23,29 +23,6 @@ pub struct Found {
 enum Place {
     At(usize),
     Nowhere,
-}
-
-fn wide(x: u8) -> u16
-    ensures { λ r. ⌜ (r ≡ x) × (r < 256) ⌝ }
-{
-    x as u16
-}
-
-fn word_at(b: &[u8], i: usize) -> u16
-    requires { ⌜ i + 1 < length (now b) ⌝ }
-    ensures { λ r. ⌜ r ≡ wordAt (now (b .entry)) i ⌝ }
-{
-    wide(b[i]) * 256 + wide(b[i + 1])
-}
-
-fn sixteen(b: &[u8], at: usize) -> [u8; 16]
-    requires { ⌜ at + 16 ≤ length (now b) ⌝ }
-    ensures { λ r. ⌜ r ≡ take 16 (drop at (now (b .entry))) ⌝ }
-{
-    let mut t = [0u8; 16];
-    let e = at + 16;
-    bytes::copy(&b[at..e], &mut t);
-    t
 }
 
 // What the body of a record says.
@@ -76,12 +53,32 @@ fn no_key() -> Key
     }
 }
 
-// Where the first record of the KeyID starts: one byte of each record is looked at.
+// Where the first record of the KeyID starts: one byte of each record is looked at, four records a turn and then what
+// is left one by one. (A turn for each record takes twice the time.)
 fn locate(keys: &[u8], keyid: u8) -> Place
     ensures { λ r. ⌜ r ≡ placeOf keyid (now (keys .entry)) ⌝ }
 {
     let mut at = 0;
     let mut left = keys.len() / KEY_RECORD;
+    while 4 <= left {
+        let second = at + KEY_RECORD;
+        let third = second + KEY_RECORD;
+        let fourth = third + KEY_RECORD;
+        if keys[at + 1] == keyid {
+            return Place::At(at);
+        }
+        if keys[second + 1] == keyid {
+            return Place::At(second);
+        }
+        if keys[third + 1] == keyid {
+            return Place::At(third);
+        }
+        if keys[fourth + 1] == keyid {
+            return Place::At(fourth);
+        }
+        at = fourth + KEY_RECORD;
+        left -= 4;
+    }
     while 0 < left {
         if keys[at + 1] == keyid {
             return Place::At(at);

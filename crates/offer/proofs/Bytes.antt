@@ -15,8 +15,9 @@ use Rattle.aes.specs.AesEnc.{aesEnc}
 use Rattle.aes.proofs.Forward.{enc-block}
 use Rattle.memory.specs.declared.BlockSize.{BlockSize}
 use Rattle.frames.specs.Constants.{twoBytes}
-use Rattle.frames.specs.Fields.{bytesFrom, customFits, selectCustom}
-use Rattle.frames.proofs.Places.{bytes-length}
+use Rattle.octets.specs.Parts.{bytesFrom}
+use Rattle.octets.proofs.Parts.{bytes-length}
+use Rattle.frames.specs.Fields.{customFits, selectCustom}
 use Rattle.payload.proofs.Bytes.{joined-bytes}
 
 -- ---- lists of bytes

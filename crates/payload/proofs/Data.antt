@@ -19,7 +19,7 @@ use Rattle.frames.proofs.Joins.{built-front}
 use Rattle.frames.proofs.Least.{d-least, header-bound}
 use Rattle.frames.proofs.Range.{custom-range}
 use Rattle.frames.proofs.Shape.{header-long}
-use Rattle.payload.specs.Alike.{same}
+use Rattle.octets.specs.Alike.{same}
 use Rattle.payload.specs.Data.{filled, carriedData, headerFits}
 use Rattle.payload.proofs.Rooms.{over-built}
 use Rattle.payload.proofs.Zeros.{filled-long, filled-twice}

@@ -5,8 +5,6 @@ use mathlib.Core.List.{List}
 use Prim.Native.Nat.{ℕ}
 use denote.Ref.{now}
 use Rattle.ground.specs.OneAnswer.{OneAnswer, one}
-use Rattle.payload.proofs.same.Reads as same
-use Rattle.payload.proofs.same.Kinds as same-kinds
 use Rattle.payload.proofs.put.Reads as put
 use Rattle.payload.proofs.put.Kinds as put-kinds
 use Rattle.payload.proofs.block_of.Reads as block-of
@@ -23,9 +21,6 @@ use Rattle.payload.proofs.mac_behind.Reads as mac-behind
 use Rattle.payload.proofs.mac_behind.Kinds as mac-behind-kinds
 use Rattle.payload.proofs.mac_fits.Reads as mac-fits
 use Rattle.payload.proofs.mac_fits.Kinds as mac-fits-kinds
-
-pub same-one : OneAnswer 2 same-kinds.ps same-kinds.r same.Post Bool (λ κs r s. r)
-same-one κs a x y s t p q = one p q
 
 pub put-one : OneAnswer 2 put-kinds.ps put-kinds.r put.Post (Bool × List ℕ) (λ κs r s. (r, now (s .0)))
 put-one κs a x y s t p q i = (one (p .says) (q .says) i, one (p .holds) (q .holds) i)

@@ -1,6 +1,5 @@
 -- Laws that the proofs of this crate cite, and that crates above it may cite.
 pub mod Bytes
-pub mod Alike
 pub mod Overs
 pub mod Rooms
 pub mod Zeros

@@ -16,7 +16,7 @@ use Rattle.frames.specs.Modes.{hasMac}
 use Rattle.frames.specs.declared.ProtMode.{ProtMode}
 use Rattle.frames.specs.Lengths.{macLength}
 use Rattle.frames.proofs.Joins.{built, refused}
-use Rattle.payload.specs.Alike.{same}
+use Rattle.octets.specs.Alike.{same}
 use Rattle.payload.specs.Protected.{macTakes, withMac, macFits}
 use Rattle.payload.proofs.Lengths.{mac-twelve, mac-long}
 use Rattle.payload.proofs.Overs.{over-all, over-none}

@@ -8,17 +8,18 @@ use native.Mathlib.Omega.{arith}
 use lib.ListN.{length, take, drop, length-append, length-drop, take-append-drop}
 use lib.Seq.{take-at, drop-at, drop-drop, length-take-le}
 use Rattle.ground.specs.Choice.{pick, both}
+use Rattle.octets.specs.Alike.{same, allZero}
+use Rattle.octets.proofs.Alike.{same-self, same-equal}
+use Rattle.octets.proofs.AllZero.{zeros-all, zeros-only}
 use Rattle.frames.specs.declared.Custom.{Custom}
 use Rattle.frames.specs.Blocks.{headerLength, headerPart, dataLength, carried, blocksLength}
 use Rattle.frames.specs.Fields.{customFits}
 use Rattle.frames.specs.Header.{headerOf}
 use Rattle.frames.proofs.Range.{both-right}
 use Rattle.frames.proofs.Shape.{header-long}
-use Rattle.payload.specs.Alike.{same}
 use Rattle.payload.specs.Data.{filled, carriedData, headerFits, wordsIn, fillerFits}
-use Rattle.payload.proofs.Alike.{same-self, same-equal}
 use Rattle.payload.proofs.Data.{part-long, blocks-hold}
-use Rattle.payload.proofs.Zeros.{zerosOf, zeros-long}
+use Rattle.payload.proofs.Zeros.{zerosOf}
 
 module _ (c : Custom) (words : List ℕ) where
   -- what stands behind header and data
@@ -56,8 +57,7 @@ module _ (c : Custom) (words : List ℕ) where
         let e : drop (carried (c .blocksize) rev (c .blockcount)) (s ++ zerosOf k) ≡ zerosOf k =
         drop-at s (zerosOf k) (carried (c .blocksize) rev (c .blockcount))
         (length-append (pick rev (headerOf c) []) words ∙ ap₂ (λ (x y : ℕ). x + y) (part-long rev c) all) in
-        ap (λ (l : List ℕ). same l (zerosOf (length l))) e ∙ ap (λ (i : ℕ). same (zerosOf k) (zerosOf i)) (zeros-long k)
-        ∙ same-self (zerosOf k)
+        ap allZero e ∙ zeros-all k
 
 -- D blocks whose header and filler fit are what their words are carried as
 module _ (c : Custom) (p : List ℕ) where
@@ -82,7 +82,7 @@ module _ (c : Custom) (p : List ℕ) where
     filler-is e =
         let k = headerPart (c .blocksize) rev + dataLength (c .blocksize) (c .blockcount) in
         let s = pick rev (headerOf c) [] in
-        same-equal (drop k p) (zerosOf (length (drop k p))) e
+        zeros-only (drop k p) e
         ∙ ap zerosOf (length-drop k p ∙ ap₂ (λ (i j : ℕ). i - j) long
         (sym (length-append s (wordsIn rev c p) ∙ ap₂ (λ (i j : ℕ). i + j) (part-long rev c) words-long)))
 

@@ -4,7 +4,7 @@ use mathlib.Core.Bool.{Bool, true}
 use mathlib.Core.List.{List, [], _∷_, _++_, append-assoc}
 use Prim.Native.Nat.{ℕ, zero, suc, _+_, _-_, _≤_}
 use native.Mathlib.Omega.{arith}
-use lib.ListN.{length, take, drop, getD, replicate, length-append, length-replicate}
+use lib.ListN.{length, take, drop, replicate, length-append, length-replicate}
 use lib.Seq.{length-take-le}
 use Rattle.modes.specs.Room.{over}
 use Rattle.modes.proofs.Rooms.{copied}
@@ -18,11 +18,6 @@ zerosOf n = replicate n 0
 
 pub zeros-long : (n : ℕ) → length (zerosOf n) ≡ n
 zeros-long n = length-replicate {A = ℕ} n 0
-
-pub getD-zeros : (n i : ℕ) → getD (zerosOf n) i 0 ≡ 0
-getD-zeros zero i = refl
-getD-zeros (suc n) zero = refl
-getD-zeros (suc n) (suc i) = getD-zeros n i
 
 pub take-zeros : (n k : ℕ) → k ≤ n → take k (zerosOf n) ≡ zerosOf k
 take-zeros n zero h = refl

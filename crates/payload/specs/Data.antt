@@ -5,11 +5,11 @@ use mathlib.Core.Bool.{Bool}
 use mathlib.Core.List.{List, [], _++_}
 use lib.ListN.{length, take, drop, replicate}
 use Rattle.ground.specs.Choice.{pick, both, implies}
+use Rattle.octets.specs.Alike.{same, allZero}
 use Rattle.frames.specs.declared.Custom.{Custom}
 use Rattle.frames.specs.Blocks.{headerLength, headerPart, dataLength, carried, blocksLength}
 use Rattle.frames.specs.Fields.{customFits}
 use Rattle.frames.specs.Header.{headerOf}
-use Rattle.payload.specs.Alike.{same}
 
 -- 9.2: s, and zeros up to n bytes.
 unfoldable pub filled : ℕ → List ℕ → List ℕ
@@ -29,6 +29,4 @@ wordsIn rev c p = take (dataLength (c .blocksize) (c .blockcount)) (drop (header
 
 -- 9.2: everything behind header and data is zeros.
 unfoldable pub fillerFits : Bool → Custom → List ℕ → Bool
-fillerFits rev c p =
-    let rest = drop (carried (c .blocksize) rev (c .blockcount)) p in
-    same rest (replicate (length rest) 0)
+fillerFits rev c p = allZero (drop (carried (c .blocksize) rev (c .blockcount)) p)

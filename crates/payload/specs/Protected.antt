@@ -8,7 +8,7 @@ use Rattle.modes.specs.Cmac.{macBytes, cmac96}
 use Rattle.modes.specs.Room.{macs}
 use Rattle.frames.specs.Modes.{hasMac}
 use Rattle.frames.specs.declared.ProtMode.{ProtMode}
-use Rattle.payload.specs.Alike.{same}
+use Rattle.octets.specs.Alike.{same}
 
 -- 3.1.13: n bytes go out under the ProtMode. A MAC is of whole blocks, at least one; without a MAC nothing is asked.
 unfoldable pub macTakes : ProtMode → ℕ → Bool

@@ -7,6 +7,10 @@ use frames::sizes::DATA_ROOM;
 use frames::sizes::blocks_length;
 use frames::sizes::data_length;
 use frames::sizes::header_length;
+use memory::BlockSize;
+use octets::front;
+use octets::same;
+use octets::tail;
 ghost use mathlib.Core.Path.{_≡_};
 ghost use mathlib.Core.Bool.{true};
 ghost use mathlib.Core.List.{_++_};
@@ -14,34 +18,12 @@ ghost use Prim.Native.Nat.{_+_, _≤_};
 ghost use lib.Dec.{eqb};
 ghost use lib.ListN.{length, take};
 ghost use Rattle.ground.specs.Choice.{both};
-ghost use Rattle.frames.specs.Blocks.{dataLength, blocksLength};
+ghost use Rattle.frames.specs.Blocks.{headerPart, dataLength, blocksLength};
 ghost use Rattle.frames.specs.Built.{Built};
 ghost use Rattle.frames.specs.Fields.{customFits};
 ghost use Rattle.frames.specs.Lengths.{macLength};
-ghost use Rattle.payload.specs.Alike.{same};
 ghost use Rattle.payload.specs.Data.{filled, carriedData, headerFits, wordsIn, fillerFits};
 ghost use Rattle.payload.specs.Protected.{macTakes, withMac, macFits};
-
-mod parts; // parts.rt: parts of a slice
-
-/// Are the two the same?
-///
-/// Ruled out: a prefix taken for the whole; a last byte that does not count.
-pub fn same(a: &[u8], b: &[u8]) -> bool
-    ensures { λ r. ⌜ r ≡ same (now (a .entry)) (now (b .entry)) ⌝ }
-{
-    if a.len() != b.len() {
-        return false;
-    }
-    let mut i = 0;
-    while i < a.len() {
-        if a[i] != b[i] {
-            return false;
-        }
-        i += 1;
-    }
-    true
-}
 
 /// Puts src behind the first bytes of a room, from place at on. Where it does not fit, the answer is false and no byte
 /// changes.
@@ -59,6 +41,16 @@ pub fn put(room: &mut [u8], at: usize, src: &[u8]) -> bool
     }
     bytes::copy(src, &mut room[at..]);
     true
+}
+
+// The bytes before the data: a header's in Rev 1, none in Rev 0 (9.2).
+fn header_part(rev: bool, size: BlockSize) -> usize
+    ensures { λ r. ⌜ r ≡ headerPart size rev ⌝ }
+{
+    if rev {
+        return header_length(size);
+    }
+    0
 }
 
 /// A block of a constant, four bytes and a challenge (9.4.3, 9.5.5, 9.6.3, 9.6.5).
@@ -111,7 +103,7 @@ pub fn carried_into(rev: bool, custom: Custom, words: &[u8], room: &mut [u8]) ->
     if room.len() < n {
         return false;
     }
-    let h = parts::header_part(rev, size);
+    let h = header_part(rev, size);
     lay(&mut room[..n], &header[..h], words);
     true
 }
@@ -131,7 +123,7 @@ pub fn header_fits(rev: bool, custom: Custom, p: &[u8]) -> bool
     }
     let size = custom.blocksize;
     let n = header_length(size);
-    same(parts::front(p, n), &header[..n])
+    same(front(p, n), &header[..n])
 }
 
 /// The data between header and filler (9.2).
@@ -141,9 +133,9 @@ pub fn words_in(rev: bool, custom: Custom, p: &[u8]) -> &[u8]
     ensures { λ r. ⌜ now r ≡ wordsIn rev custom (now (p .entry)) ⌝ }
 {
     let size = custom.blocksize;
-    let h = parts::header_part(rev, size);
+    let h = header_part(rev, size);
     let n = data_length(size, custom.blockcount);
-    parts::front(parts::behind(p, h), n)
+    front(tail(p, h), n)
 }
 
 /// Is everything behind header and data zeros (9.2)?
@@ -153,9 +145,9 @@ pub fn filler_fits(rev: bool, custom: Custom, p: &[u8]) -> bool
     ensures { λ r. ⌜ r ≡ fillerFits rev custom (now (p .entry)) ⌝ }
 {
     let size = custom.blocksize;
-    let h = parts::header_part(rev, size);
+    let h = header_part(rev, size);
     let n = data_length(size, custom.blockcount);
-    parts::zeros(parts::behind(parts::behind(p, h), n))
+    octets::zeros(tail(tail(p, h), n))
 }
 
 /// Where the ProtMode has a MAC, the MAC of the room's first n bytes behind them. Where these are no whole blocks, or

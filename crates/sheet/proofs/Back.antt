@@ -2,10 +2,10 @@
 use mathlib.Core.Path.{_≡_, refl, sym}
 use mathlib.Core.Bool.{Bool, true, false}
 use mathlib.Core.List.{[], _∷_}
-use Prim.Native.Nat.{ℕ, zero, suc, _^_, _≤_, _<_}
+use Prim.Native.Nat.{ℕ, _^_, _≤_, _<_}
 use native.Mathlib.Omega.{arith}
 use native.Mathlib.Nat.{le-of-eq}
-use lib.ListN.{length, take, drop, replicate, length-append}
+use lib.ListN.{length, take, drop, length-append}
 use lib.Seq.{take-at, drop-at, take-all}
 use lib.Dec.{eqb, leb}
 use borrow.Author.Tests.{le-leb, lt-ltb, eqb-true}
@@ -15,9 +15,11 @@ use Rattle.memory.specs.declared.Area.the-variants.{Identity, User}
 use Rattle.memory.specs.declared.Lock.{Lock}
 use Rattle.memory.specs.declared.Profile.{Profile}
 use Rattle.ground.specs.Choice.{implies}
-use Rattle.sheet.specs.Limits.{profileLimit, wordLimit}
 use Rattle.ground.specs.Bytes.{bitOf}
-use Rattle.sheet.specs.Records.{allZero, areaOf, inside, featuresRule, featuresOf, sizesRule, sizesOf}
+use Rattle.octets.specs.Alike.{allZero}
+use Rattle.octets.proofs.AllZero.{zeros-all}
+use Rattle.sheet.specs.Limits.{profileLimit, wordLimit}
+use Rattle.sheet.specs.Records.{areaOf, inside, featuresRule, featuresOf, sizesRule, sizesOf}
 use Rattle.sheet.specs.Records.{keyRule, keyOf, profileRule, slotOf, lockRule, lockOf}
 use Rattle.sheet.specs.Writer.{byteOf, areaByte, featuresBody, sizesBody, keyBody, profileBody, lockBody}
 use Rattle.sheet.specs.Within.{KeyFine, LockFine}
@@ -77,11 +79,6 @@ unfolding areaOf areaNumber
 area-back Identity = refl
 area-back User = refl
 
-pub zeros : (n : ℕ) → allZero (replicate n 0) ≡ true
-unfolding allZero
-zeros zero = refl
-zeros (suc n) = zeros n
-
 -- 03
 module _ (k : Key) (h : KeyFine k) where
   enc16 : length (k .enc) ≡ 16
@@ -114,7 +111,7 @@ module _ (k : Key) (h : KeyFine k) where
 
   mac-zero : (m : Bool) → k .mac ≡ m → implies (eqb (bitOf m) 0) (allZero (k .mackey)) ≡ true
   mac-zero true e = refl
-  mac-zero false e = rw (h .absent e) (zeros 16)
+  mac-zero false e = rw (h .absent e) (zeros-all 16)
 
   pub key-fine : (id : ℕ) → id ≤ k .id → keyRule id (keyBody k) ≡ true
   unfolding keyRule keyBody

@@ -12,6 +12,7 @@ use borrow.Author.Tests.{leb-true, ne-eqb}
 use Rattle.memory.specs.declared.Lock.{Lock}
 use Rattle.ground.specs.Bytes.{Bytes, byteAt, wordAt}
 use Rattle.ground.proofs.Bytes.{bytes-tail, bytes-take, bytes-drop}
+use Rattle.ground.proofs.Choice.{both-true}
 use Rattle.sheet.specs.Limits.{profileLimit, lockLimit}
 use Rattle.sheet.specs.Kinds.{kindOf, bodyLength, inOrder}
 use Rattle.sheet.specs.Setups.{noLock, emptyTerms, noMarks, nothingKept}
@@ -29,7 +30,7 @@ use Rattle.sheet.specs.declared.Key.{Key}
 use Rattle.sheet.specs.declared.Slot.{Slot}
 use Rattle.sheet.specs.declared.Marks.{Marks}
 use Rattle.sheet.specs.declared.Kept.{Kept}
-use Rattle.sheet.proofs.Rules.{both-true, profile-place}
+use Rattle.sheet.proofs.Rules.{profile-place}
 use Rattle.sheet.proofs.Judgements.{key-room, lock-room}
 use Rattle.sheet.proofs.Walks.{Took, took-features, took-sizes, took-key, took-profile, took-lock, Step}
 use Rattle.sheet.proofs.Runs.{codeOf, kind-code}

@@ -9,11 +9,12 @@ use native.Mathlib.Nat.{le-refl}
 use lib.ListN.{length, set, replicate}
 use Rattle.memory.specs.declared.Area.the-variants.{Identity, User}
 use Rattle.ground.specs.Bytes.{Bytes}
+use Rattle.octets.specs.Alike.{allZero}
 use Rattle.sheet.specs.Limits.{keyLimit, profileLimit, lockLimit, wordLimit}
 use Rattle.sheet.specs.Kinds.{kindOf, inOrder}
 use Rattle.sheet.specs.KeyTable.{recordsIn, keysIn, keyTable}
 use Rattle.sheet.specs.Setups.{setupOf, noFeatures, noSlot, noLock, emptyTerms, emptySetup, noMarks, nothingKept}
-use Rattle.sheet.specs.Records.{areaOf, wordsIn, inside, allZero, featuresRule, featuresOf, sizesRule, sizesOf}
+use Rattle.sheet.specs.Records.{areaOf, wordsIn, inside, featuresRule, featuresOf, sizesRule, sizesOf}
 use Rattle.sheet.specs.Records.{keyRule, keyOf, profileRule, slotOf, lockRule, lockOf}
 use Rattle.sheet.specs.Judgement.{tooMany, openedOf, recordOf, judgedOf}
 use Rattle.sheet.specs.Judgement.{withFeatures, withSizes, withKey, withProfile, withLock}

@@ -8,19 +8,21 @@ use native.Mathlib.Nat.{le-of-eq, le-of-suc-le-suc, not-suc-le-zero}
 use lib.ListN.{length, take, drop, replicate, length-take, length-drop, take-append-drop, drop-of-length-le}
 use lib.Seq.{take-all, drop-drop}
 use lib.Dec.{eqb, leb, ltb}
-use borrow.Author.Tests.{leb-true, ltb-true, eqb-true, eqb-false, eq-eqb}
+use borrow.Author.Tests.{leb-true, ltb-true, eqb-false, eq-eqb}
 use Rattle.memory.specs.Address.{areaNumber}
 use Rattle.ground.specs.Choice.{both, implies}
 use Rattle.ground.specs.Bytes.{Bytes, byteAt, wordAt, flag}
 use Rattle.ground.proofs.Bytes.{bytes-take, bytes-drop}
+use Rattle.ground.proofs.Choice.{both-true}
+use Rattle.octets.specs.Alike.{allZero}
+use Rattle.octets.proofs.AllZero.{zeros-only}
 use Rattle.sheet.specs.Limits.{profileLimit, wordLimit}
-use Rattle.sheet.specs.Records.{feature, allZero, areaOf, inside, featuresRule, featuresOf, sizesRule, sizesOf}
+use Rattle.sheet.specs.Records.{feature, areaOf, inside, featuresRule, featuresOf, sizesRule, sizesOf}
 use Rattle.sheet.specs.Records.{keyRule, keyOf, profileRule, slotOf, lockRule, lockOf}
 use Rattle.sheet.specs.Writer.{areaByte, featuresBody, sizesBody, keyBody, profileBody, lockBody}
 use Rattle.sheet.specs.Within.{KeyFine, LockFine}
 use Rattle.sheet.specs.declared.Sizes.{Sizes}
 use Rattle.sheet.proofs.Bits.{tab, bit-forth, bits-forth, high, low}
-use Rattle.sheet.proofs.Rules.{both-true}
 
 -- a list by its first n elements
 spelt : (n : ℕ) (b : List ℕ) → n ≤ length b → b ≡ tab (byteAt b) n ++ drop n b
@@ -88,13 +90,6 @@ inside-area : (z : Sizes) (a first count : ℕ) → inside z a first count ≡ t
 unfolding inside
 inside-area z a first count e = leb-true a 1 (both-true _ _ e .0)
 
-zeros-forth : (b : List ℕ) → allZero b ≡ true → b ≡ replicate (length b) 0
-unfolding allZero
-zeros-forth [] e = refl
-zeros-forth (x ∷ b) e =
-    let h = both-true (eqb x 0) (allZero b) e in
-    ap₂ (λ (y : ℕ) (l : List ℕ). y ∷ l) (eqb-true x 0 (h .0)) (zeros-forth b (h .1))
-
 -- 03
 module _ (id : ℕ) (b : List ℕ) (bytes : Bytes b) (long : length b ≡ 36) (fine : keyRule id b ≡ true) where
   abbrev mac-fits : Bool
@@ -122,7 +117,7 @@ module _ (id : ℕ) (b : List ℕ) (bytes : Bytes b) (long : length b ≡ 36) (f
       let n = eqb-false (byteAt b 1) 1 e in
       let z : byteAt b 1 ≡ 0 = omega (arith, mac-low) in
       let h : none-or-zero ≡ true = both-true mac-fits none-or-zero (rule-03 .1) .1 in
-      zeros-forth (take 16 (drop 20 b)) (rw (eq-eqb (byteAt b 1) 0 z) at h)
+      zeros-only (take 16 (drop 20 b)) (rw (eq-eqb (byteAt b 1) 0 z) at h)
       ∙ ap (λ (m : ℕ). replicate m 0) (part 20 (omega arith))
 
   pub key-within : KeyFine (keyOf b)

@@ -17,6 +17,7 @@ use Rattle.memory.specs.declared.Profile.{Profile}
 use Rattle.ground.specs.Choice.{pick, both}
 use Rattle.ground.specs.Bytes.{Bytes, twoBytes, bitOf}
 use Rattle.ground.proofs.Bytes.{bytes-none, bytes-cons, bytes-join, two-bytes}
+use Rattle.ground.proofs.Choice.{both-true}
 use Rattle.sheet.specs.Limits.{keyLimit, profileLimit, lockLimit, wordLimit, longestSheet}
 use Rattle.sheet.specs.Setups.{Setup, noSlot, noLock}
 use Rattle.sheet.specs.Records.{inside, wordsIn}
@@ -28,7 +29,6 @@ use Rattle.sheet.specs.declared.Features.{Features}
 use Rattle.sheet.specs.declared.Sizes.{Sizes}
 use Rattle.sheet.specs.declared.Key.{Key}
 use Rattle.sheet.specs.declared.Slot.{Slot}
-use Rattle.sheet.proofs.Rules.{both-true}
 use Rattle.sheet.proofs.Bits.{bit-small, byte-low}
 use Rattle.sheet.proofs.Back.{features-length, sizes-length, profile-length, lock-length}
 use Rattle.sheet.proofs.KeyTables.{keys-length}

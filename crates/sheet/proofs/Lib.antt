@@ -1,5 +1,4 @@
 pub mod Numbers
-pub mod Zeros
 pub mod Openings
 pub mod Rules
 pub mod Judgements

@@ -1,20 +1,16 @@
 -- Each kind's rule: what follows of it from the calls on the way.
-use mathlib.Core.Path.{_≡_, refl}
+use mathlib.Core.Path.{_≡_}
 use mathlib.Core.Bool.{Bool, true, false, not}
 use mathlib.Core.List.{List}
 use Prim.Native.Nat.{ℕ, _<_, _≤_}
-use native.Mathlib.Omega.{arith}
 use lib.Dec.{leb, ltb}
 use borrow.Author.Tests.{lt-leb, le-leb, ltb-true, eq-eqb, ne-eqb, not-true, not-false}
 use Rattle.ground.specs.Choice.{both}
+use Rattle.ground.proofs.Choice.{both-true}
 use Rattle.sheet.specs.Limits.{profileLimit}
 use Rattle.ground.specs.Bytes.{byteAt, wordAt}
 use Rattle.sheet.specs.Records.{inside, profileRule, lockRule}
 use Rattle.sheet.specs.declared.Sizes.{Sizes}
-
-pub both-true : (s t : Bool) → both s t ≡ true → (s ≡ true) × (t ≡ true)
-both-true true t e = (refl, e)
-both-true false t e = let z : _≡_ {A = ℕ} 0 1 = cc in absurd (omega arith)
 
 -- 04: the number that is taken is a place of the table
 pub profile-place : (number : ℕ) (z : Sizes) (b : List ℕ) → profileRule number z b ≡ true

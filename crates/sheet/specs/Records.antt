@@ -2,7 +2,7 @@
 -- significant first.
 use Prim.Native.Nat.{ℕ, _+_, _^_}
 use mathlib.Core.Bool.{Bool, true}
-use mathlib.Core.List.{List, [], _∷_}
+use mathlib.Core.List.{List}
 use lib.ListN.{take, drop}
 use lib.Dec.{eqb, leb, ltb}
 use Rattle.memory.specs.declared.Area.{Area}
@@ -10,6 +10,7 @@ use Rattle.memory.specs.declared.Area.the-variants.{Identity, User}
 use Rattle.memory.specs.declared.Lock.{Lock}
 use Rattle.ground.specs.Choice.{pick, both, implies}
 use Rattle.ground.specs.Bytes.{byteAt, wordAt, bit, flag}
+use Rattle.octets.specs.Alike.{allZero}
 use Rattle.sheet.specs.Limits.{profileLimit, wordLimit}
 use Rattle.sheet.specs.declared.Features.{Features}
 use Rattle.sheet.specs.declared.Sizes.{Sizes}
@@ -58,10 +59,6 @@ wordsIn z a = pick (eqb a 1) (z .user) (z .identity)
 -- at least one word, inside its area
 unfoldable pub inside : Sizes → ℕ → ℕ → ℕ → Bool
 inside z a first count = both (leb a 1) (both (leb 1 count) (leb (first + count) (wordsIn z a)))
-
-unfoldable pub allZero : List ℕ → Bool
-allZero [] = true
-allZero (x ∷ xs) = both (eqb x 0) (allZero xs)
 
 -- 03: KeyID, MAC present 0 or 1, MPI 2, ENC_key 16, MAC_key 16 (zeros if absent). KeyIDs rise: `id` is the least that
 -- may come.

@@ -9,44 +9,19 @@ use memory::Area;
 use memory::Lock;
 use memory::Profile;
 use memory::Word;
+use octets::byte;
+use octets::word_at;
 ghost use mathlib.Core.Path.{_≡_};
-ghost use Prim.Native.Nat.{_+_, _<_};
+ghost use Prim.Native.Nat.{_<_};
 ghost use lib.ListN.{length};
-ghost use Rattle.ground.specs.Bytes.{wordAt};
-ghost use Rattle.sheet.specs.Records.{allZero, areaOf, wordsIn, inside};
+ghost use Rattle.sheet.specs.Records.{areaOf, wordsIn, inside};
 ghost use Rattle.sheet.specs.Records.{featuresRule, featuresOf, sizesRule, sizesOf, keyRule};
 ghost use Rattle.sheet.specs.Records.{profileRule, slotOf, lockRule, lockOf};
-
-pub(crate) fn wide(x: u8) -> u16
-    ensures { λ r. ⌜ (r ≡ x) × (r < 256) ⌝ }
-{
-    x as u16
-}
 
 pub(crate) fn long(x: u16) -> usize
     ensures { λ r. ⌜ (r ≡ x) × (r < 65536) ⌝ }
 {
     x as usize
-}
-
-pub(crate) fn word_at(b: &[u8], i: usize) -> u16
-    requires { ⌜ i + 1 < length (now b) ⌝ }
-    ensures { λ r. ⌜ r ≡ wordAt (now (b .entry)) i ⌝ }
-{
-    wide(b[i]) * 256 + wide(b[i + 1])
-}
-
-fn all_zero(b: &[u8]) -> bool
-    ensures { λ r. ⌜ r ≡ allZero (now (b .entry)) ⌝ }
-{
-    let mut i = 0;
-    while i < b.len() {
-        if b[i] != 0 {
-            return false;
-        }
-        i += 1;
-    }
-    true
 }
 
 pub(crate) fn features_fit(b: &[u8]) -> bool
@@ -67,12 +42,14 @@ pub(crate) fn features_fit(b: &[u8]) -> bool
     true
 }
 
-pub(crate) fn features_of(b: &[u8]) -> Features
-    requires { ⌜ length (now b) ≡ 2 ⌝ }
+/// What a body of record 01 says. A byte past its end counts as 0.
+///
+/// Ruled out: IAM3 read from the bit of MAM; the ProtModes read from the byte of features.
+pub fn features_of(b: &[u8]) -> Features
     ensures { λ r. ⌜ r ≡ featuresOf (now (b .entry)) ⌝ }
 {
-    let f = b[0];
-    let m = b[1];
+    let f = byte(b, 0);
+    let m = byte(b, 1);
     Features {
         blocksize1: f / 1 % 2 == 1,
         rev0: f / 2 % 2 == 1,
@@ -97,8 +74,10 @@ pub(crate) fn sizes_fit(b: &[u8]) -> bool
     word_at(b, 2) <= WORDS
 }
 
-pub(crate) fn sizes_of(b: &[u8]) -> Sizes
-    requires { ⌜ length (now b) ≡ 4 ⌝ }
+/// What a body of record 02 says. A byte past its end counts as 0.
+///
+/// Ruled out: the two areas exchanged; the least significant byte first.
+pub fn sizes_of(b: &[u8]) -> Sizes
     ensures { λ r. ⌜ r ≡ sizesOf (now (b .entry)) ⌝ }
 {
     Sizes {
@@ -146,7 +125,7 @@ pub(crate) fn key_fits(b: &[u8], id: u16) -> bool
     requires { ⌜ length (now b) ≡ 36 ⌝ }
     ensures { λ r. ⌜ r ≡ keyRule id (now (b .entry)) ⌝ }
 {
-    if wide(b[0]) < id {
+    if (b[0] as u16) < id {
         return false;
     }
     let mac = b[1];
@@ -154,7 +133,7 @@ pub(crate) fn key_fits(b: &[u8], id: u16) -> bool
         return false;
     }
     if mac == 0 {
-        return all_zero(&b[20..KEY_BODY]);
+        return octets::zeros(&b[20..KEY_BODY]);
     }
     true
 }
@@ -173,11 +152,13 @@ pub(crate) fn profile_fits(b: &[u8], number: u8, z: Sizes) -> bool
     is_inside(z, b[1], word_at(b, 2), word_at(b, 4))
 }
 
-pub(crate) fn slot_of(b: &[u8]) -> Slot
-    requires { ⌜ length (now b) ≡ 6 ⌝ }
+/// What a body of record 04 says, whatever its number. A byte past its end counts as 0.
+///
+/// Ruled out: the number taken for the area; base and words exchanged.
+pub fn slot_of(b: &[u8]) -> Slot
     ensures { λ r. ⌜ r ≡ slotOf (now (b .entry)) ⌝ }
 {
-    let area = area_of(b[1]);
+    let area = area_of(byte(b, 1));
     let base = word_at(b, 2);
     let words = word_at(b, 4);
     let profile = Profile {
@@ -210,11 +191,13 @@ pub(crate) fn lock_fits(b: &[u8], area: u8, word: usize, z: Sizes) -> bool
     true
 }
 
-pub(crate) fn lock_of(b: &[u8]) -> Lock
-    requires { ⌜ length (now b) ≡ 5 ⌝ }
+/// What a body of record 05 says. A byte past its end counts as 0.
+///
+/// Ruled out: the user area taken for the identity area; a lock from word 0 on, whatever its first word.
+pub fn lock_of(b: &[u8]) -> Lock
     ensures { λ r. ⌜ r ≡ lockOf (now (b .entry)) ⌝ }
 {
-    let area = area_of(b[0]);
+    let area = area_of(byte(b, 0));
     let first = word_at(b, 1);
     let words = word_at(b, 3);
     Lock {

@@ -1,6 +1,6 @@
 // The tag sheet of the scope paper: what a soft tag is set up from. What each function means stands in specs/.
 mod blank;
-mod bodies;
+pub mod bodies; // bodies.rt: what a record's body says
 mod kinds;
 pub mod places; // places.rt: a sheet from a place on
 mod records;

@@ -69,7 +69,7 @@ fn key_record(b: &[u8], kept: Kept) -> Judged
         let mut m = kept.marks;
         m.last = 3;
         m.keys = m.keys + 1;
-        m.id = bodies::wide(b[0]) + 1;
+        m.id = b[0] as u16 + 1;
         let terms = kept.terms;
         return Judged {
             finding: Finding::Taken(KEY_RECORD),
@@ -121,7 +121,7 @@ fn lock_record(b: &[u8], kept: Kept) -> Judged
         let mut m = kept.marks;
         m.last = 5;
         m.area = b[0];
-        m.word = bodies::long(bodies::word_at(b, 1)) + bodies::long(bodies::word_at(b, 3));
+        m.word = bodies::long(octets::word_at(b, 1)) + bodies::long(octets::word_at(b, 3));
         let mut ls = kept.terms.locks;
         let n = ls.count;
         ls.table[n] = l;

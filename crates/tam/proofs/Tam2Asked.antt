@@ -6,7 +6,7 @@ use Prim.Native.Nat.{ℕ, zero, suc, _/_, _%_, _≤_}
 use native.Mathlib.Omega.{arith}
 use lib.Dec.{lit<}
 use lib.ListN.{length, take, drop}
-use Rattle.ground.specs.Bytes.{Bytes}
+use Rattle.ground.specs.Bytes.{Bytes, byteAt}
 use Rattle.memory.specs.declared.Area.{Area}
 use Rattle.memory.specs.declared.Area.the-variants.{Identity, User}
 use Rattle.memory.specs.declared.Block.{Block}
@@ -15,7 +15,7 @@ use Rattle.modes.proofs.Whole.{bytes-take}
 use Rattle.sheet.specs.declared.Slot.{Slot}
 use Rattle.frames.specs.declared.Custom.{Custom}
 use Rattle.frames.specs.Blocks.{dataLength}
-use Rattle.frames.specs.Fields.{byte, sizeOf, customFits}
+use Rattle.frames.specs.Fields.{sizeOf, customFits}
 use Rattle.frames.specs.Messages.{tam1Of, tam2Of}
 use Rattle.frames.proofs.Asked.{asked-bytes as words-bytes-asked}
 use Rattle.offer.specs.Records.{slotNamed, blockAsked}
@@ -24,8 +24,8 @@ use Rattle.offer.proofs.Bytes.{Ten, drop-bytes, challenge-ten, select-custom-fi
 module _ (m : List ℕ) (h : Bytes m) where
   pub tam2-custom-fits : customFits (tam2Of m .custom) ≡ true
   unfolding tam2Of
-  tam2-custom-fits = select-custom-fits (sizeOf (byte m 0 / 16 % 2)) (byte m 12) (byte m 13) (byte m 14) (h 12) (h 13)
-      (h 14)
+  tam2-custom-fits =
+      select-custom-fits (sizeOf (byteAt m 0 / 16 % 2)) (byteAt m 12) (byteAt m 13) (byteAt m 14) (h 12) (h 13) (h 14)
 
   pub tam1-challenge : Ten (tam1Of m .ichallenge)
   unfolding tam1Of

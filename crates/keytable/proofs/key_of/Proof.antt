@@ -1,4 +1,7 @@
 -- `keytable::key_of` meets its contract.
+use mathlib.Core.Path.{_∙_}
+use native.Mathlib.Omega.{arith}
+use Rattle.octets.proofs.Parts.{bytes-within}
 use Rattle.sheet.specs.Records.{keyOf}
 use borrow.Author.Needs.{needs}
 use Rattle.keytable.proofs.key_of.Statement.{statement}
@@ -21,7 +24,13 @@ word-at-requires c κs = search needs
 
 returns : tie.Need-returns
 unfolding keyOf
-returns c = cc
+returns c =
+    let a = c .before .before .before .before .before .before in
+    let b = a .args .b .now in
+    let k = c .before .before .before in
+    let enc = k .before .sixteen .ensures ∙ bytes-within b 16 4 (omega arith) in
+    let mackey = k .sixteen2 .ensures ∙ bytes-within b 16 20 (omega arith) in
+    rw (c .word-at .ensures, enc, mackey)
 
 pub key-of-spec : {M : Type 1} → statement M
 key-of-spec =

@@ -2,12 +2,11 @@
 use mathlib.Core.Path.{ap, ap₂, _∙_}
 use mathlib.Core.List.{List}
 use Prim.Native.Nat.{ℕ, _+_}
-use lib.ListN.{length, drop}
+use lib.ListN.{drop}
 use lib.Seq.{drop-drop}
+use Rattle.octets.specs.Alike.{allZero}
 use Rattle.frames.specs.Blocks.{carried}
-use Rattle.payload.specs.Alike.{same}
 use Rattle.payload.specs.Data.{fillerFits}
-use Rattle.payload.proofs.Zeros.{zerosOf}
 use borrow.Author.Needs.{needs}
 use Rattle.payload.proofs.filler_fits.Statement.{statement}
 use Rattle.payload.proofs.filler_fits.Tie as tie
@@ -18,11 +17,11 @@ header-part-requires c κs = search needs
 data-length-requires : tie.Need-data-length-requires
 data-length-requires c κs = search needs
 
-behind-requires : tie.Need-behind-requires
-behind-requires c κs = search needs
+tail-requires : tie.Need-tail-requires
+tail-requires c κs = search needs
 
-behind-requires-2 : tie.Need-behind-requires-2
-behind-requires-2 c κs = search needs
+tail-requires-2 : tie.Need-tail-requires-2
+tail-requires-2 c κs = search needs
 
 zeros-requires : tie.Need-zeros-requires
 zeros-requires c κs = search needs
@@ -33,8 +32,7 @@ returns c = let p = c .before .before .before .before .before .before .args .p .
     let h = c .before .before .before .before .header-part in
     let n = c .before .before .before .data-length in
     c .zeros .ensures
-    ∙ ap (λ (l : List ℕ). same l (zerosOf (length l)))
-    (c .before .behind2 .ensures ∙ ap (drop (n .result)) (c .before .before .behind .ensures)
+    ∙ ap allZero (c .before .tail2 .ensures ∙ ap (drop (n .result)) (c .before .before .tail .ensures)
     ∙ drop-drop (n .result) (h .result) p ∙ ap₂ {C = List ℕ} (λ (i j : ℕ). drop (i + j) p) (h .ensures)
     (n .ensures))
 
@@ -44,7 +42,7 @@ filler-fits-spec =
     (tie.spec
     header-part-requires
     data-length-requires
-    behind-requires
-    behind-requires-2
+    tail-requires
+    tail-requires-2
     zeros-requires
     returns)

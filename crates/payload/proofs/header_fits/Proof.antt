@@ -6,7 +6,7 @@ use borrow.Author.Tests.{not-true, not-false}
 use lib.ListN.{take, replicate}
 use lib.Seq.{length-take-le}
 use Rattle.frames.proofs.Least.{header-bound}
-use Rattle.payload.specs.Alike.{same}
+use Rattle.octets.specs.Alike.{same}
 use Rattle.payload.proofs.Data.{header-judged, header-refused, no-header}
 use borrow.Author.Needs.{needs}
 use Rattle.payload.proofs.header_fits.Statement.{statement}

@@ -4,7 +4,7 @@ use mathlib.Core.List.{List}
 use Prim.Native.Nat.{ℕ}
 use borrow.Author.Tests.{not-true, not-false}
 use lib.ListN.{length, replicate}
-use Rattle.payload.specs.Alike.{same}
+use Rattle.octets.specs.Alike.{same}
 use Rattle.payload.proofs.Macs.{into-refused, into-done, mac-made, none-judged, mac-unfit, mac-judged}
 use borrow.Author.Needs.{needs}
 use Rattle.payload.proofs.mac_fits.Statement.{statement}

@@ -14,8 +14,8 @@ header-part-requires c κs = search needs
 data-length-requires : tie.Need-data-length-requires
 data-length-requires c κs = search needs
 
-behind-requires : tie.Need-behind-requires
-behind-requires c κs = search needs
+tail-requires : tie.Need-tail-requires
+tail-requires c κs = search needs
 
 front-requires : tie.Need-front-requires
 front-requires c κs = search needs
@@ -24,9 +24,9 @@ returns : tie.Need-returns
 unfolding wordsIn
 returns c = let p = c .before .before .before .before .before .args .p .now in
     c .front .ensures ∙ ap₂ {C = List ℕ} (λ (i : ℕ) (l : List ℕ). take i l) (c .before .before .data-length .ensures)
-    (c .before .behind .ensures ∙ ap (λ (i : ℕ). drop i p) (c .before .before .before .header-part .ensures))
+    (c .before .tail .ensures ∙ ap (λ (i : ℕ). drop i p) (c .before .before .before .header-part .ensures))
 
 pub words-in-spec : {M : Type 1} → statement M
 words-in-spec =
     tie.close
-    (tie.spec header-part-requires data-length-requires behind-requires front-requires returns)
+    (tie.spec header-part-requires data-length-requires tail-requires front-requires returns)

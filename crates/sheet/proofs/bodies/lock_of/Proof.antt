@@ -3,8 +3,8 @@ use borrow.Author.Needs.{needs}
 use Rattle.sheet.proofs.bodies.lock_of.Statement.{statement}
 use Rattle.sheet.proofs.bodies.lock_of.Tie as tie
 
-shared-slice-read-area-of : tie.Need-shared-slice-read-area-of
-shared-slice-read-area-of c = search needs
+byte-requires : tie.Need-byte-requires
+byte-requires c κs = search needs
 
 area-of-requires : tie.Need-area-of-requires
 area-of-requires c κs = search needs
@@ -23,7 +23,7 @@ pub lock-of-spec : {M : Type 1} → statement M
 lock-of-spec =
     tie.close
     (tie.spec
-    shared-slice-read-area-of
+    byte-requires
     area-of-requires
     word-at-requires
     word-at-requires-2

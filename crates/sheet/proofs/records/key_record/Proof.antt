@@ -12,20 +12,20 @@ add-m : tie.Need-add-m
 unfolding keyLimit
 add-m c = omega arith
 
-shared-slice-read-wide : tie.Need-shared-slice-read-wide
-shared-slice-read-wide c = search needs
+shared-slice-read-m : tie.Need-shared-slice-read-m
+shared-slice-read-m c = search needs
 
-wide-requires : tie.Need-wide-requires
-wide-requires c κs = search needs
+cast-m : tie.Need-cast-m
+cast-m c = omega (arith, c .shared-slice-known2 .given 0)
 
 add-m-2 : tie.Need-add-m-2
-add-m-2 c = search needs
+add-m-2 c = omega (arith, c .shared-slice-known2 .given 0)
 
 returns : tie.Need-returns
 unfolding recordOf withKey
 returns c =
-    let i = c .before .before .before .before .before in
-    rw (← i .before .key-fits .ensures, i .if1 .taken, c .before .wide .ensures .0)
+    let i = c .before .before .before .before in
+    rw (← i .before .key-fits .ensures, i .if1 .taken)
 
 returns-2 : tie.Need-returns-2
 unfolding recordOf withKey
@@ -37,8 +37,8 @@ key-record-spec =
     (tie.spec
     key-fits-requires
     add-m
-    shared-slice-read-wide
-    wide-requires
+    shared-slice-read-m
+    cast-m
     add-m-2
     returns
     returns-2)
