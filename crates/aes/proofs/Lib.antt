@@ -1,3 +1,3 @@
 pub mod Schedule
 pub mod Forward
-pub mod Fits
+pub mod Unique

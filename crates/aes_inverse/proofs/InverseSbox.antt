@@ -3,8 +3,9 @@ use mathlib.Core.Path.{_≡_, refl, sym, ap, _∙_}
 use Prim.Native.Nat.{ℕ, _/_, _<_}
 use native.Mathlib.Omega.{arith}
 use lib.ListN.{getD}
+use Rattle.ground.specs.Bytes.{bit}
 use Rattle.field.specs.Field.{inverse}
-use Rattle.field.specs.Sbox.{sbox, sboxTable, affine, affineBit, bit, fromBits}
+use Rattle.field.specs.Sbox.{sbox, sboxTable, affine, affineBit, fromBits}
 use Rattle.field.specs.Block.{tabulated}
 use Rattle.field.proofs.Table.{same-at, same-table, entry-at}
 use Rattle.field.proofs.Inverses.{inverses, inverse-is}
@@ -12,15 +13,15 @@ use Rattle.field.proofs.Inverse.{inverse-byte, inverse-twice, sbox-byte, sbox-e
 use Rattle.aes_inverse.specs.InvSbox.{invAffine, invAffineBit, invSbox, invSboxTable}
 
 invAffine-affine : (b : ℕ) → b < 256 → invAffine (affine b) ≡ b
-unfolding invAffine invAffineBit affine affineBit bit fromBits
+unfolding invAffine invAffineBit affine affineBit fromBits
 invAffine-affine = same-at (λ b. invAffine (affine b)) (λ b. b) 256 refl
 
 affine-invAffine : (b : ℕ) → b < 256 → affine (invAffine b) ≡ b
-unfolding invAffine invAffineBit affine affineBit bit fromBits
+unfolding invAffine invAffineBit affine affineBit fromBits
 affine-invAffine = same-at (λ b. affine (invAffine b)) (λ b. b) 256 refl
 
 invAffine-small : (b : ℕ) → b < 256 → invAffine b / 256 ≡ 0
-unfolding invAffine invAffineBit bit fromBits
+unfolding invAffine invAffineBit fromBits
 invAffine-small = same-at (λ b. invAffine b / 256) (λ b. 0) 256 refl
 
 invAffine-byte : (b : ℕ) → b < 256 → invAffine b < 256

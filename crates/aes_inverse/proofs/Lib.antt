@@ -2,4 +2,4 @@ pub mod InverseSbox
 pub mod Columns
 pub mod Maps
 pub mod Inverse
-pub mod Fits
+pub mod Unique

@@ -1,8 +1,9 @@
 -- The inverse S-box, FIPS 197 section 5.3.2: the inverse of the affine map, and then the inverse in the field.
 use Prim.Native.Nat.{ℕ, _+_, _%_}
 use mathlib.Core.List.{List}
+use Rattle.ground.specs.Bytes.{bit}
 use Rattle.field.specs.Field.{inverse}
-use Rattle.field.specs.Sbox.{bit, fromBits}
+use Rattle.field.specs.Sbox.{fromBits}
 use Rattle.field.specs.Block.{tabulated}
 
 -- Bit i of the inverse affine map: the sum of three bits of b and of bit i of 0x05. `proofs/InverseSbox.antt` shows

@@ -41,9 +41,9 @@ use denote.Triple.Spec.{Meets, tripleOf}
 use denote.Triple.Walked.{says, Stays, stay-none, walkOf, goes-none, ends-at, walked, walk-meets}
 use denote.Exit.{yes}
 use denote.Triple.Clauses.{Ended, Clauses, closing, ensured, lasts}
-use Rattle.sheet.specs.declared.Kept.{Kept}
-use Rattle.sheet.proofs.Kept as K
-use Rattle.sheet.proofs.Kept.Laws as K′
+use Rattle.sheet.specs.declared.Gathered.{Gathered}
+use Rattle.sheet.proofs.Gathered as K
+use Rattle.sheet.proofs.Gathered.Laws as K′
 use Rattle.bench.specs.declared.cursor.Cursor.{Cursor}
 use Rattle.bench.proofs.cursor.Cursor as T
 use Rattle.bench.proofs.cursor.Cursor.Laws as T′
@@ -68,7 +68,7 @@ handing callee τ = record {
 
 -- The callee's name; the type of its result, as the definitions and as the machine have it; and what it finds in a
 -- sheet, at a place, against what was kept.
-module _ (#work : Name) (N : RattleType) (τ : Ty) (Found : RefT (List ℕ) → ℕ → Kept → N .Denot → Type 0) where
+module _ (#work : Name) (N : RattleType) (τ : Ty) (Found : RefT (List ℕ) → ℕ → Gathered → N .Denot → Type 0) where
   abbrev Typed : Type 0
   Typed = (r : N .Denot) (u : Val) → Is N r (u ∷ []) → Holds (hasTy τ u) × WT u
 
@@ -117,7 +117,7 @@ module _ (#work : Name) (N : RattleType) (τ : Ty) (Found : RefT (List ℕ) → 
     Work H A = tripleOf 𝓤 H A (over-slice .signature) (closing 𝓤 H A over-slice of-slice)
 
   module _ {M : Type 1} (𝓤 : URA M) (H : Heap 𝓤) (A : Atoms 𝓤) (W : Given 𝓤 H A) (typed : Typed)
-      (κ : Lft) (q : Share) (d : Cursor) (k : Kept) (g : Is K.the-row k (machK k ∷ [])) where
+      (κ : Lft) (q : Share) (d : Cursor) (k : Gathered) (g : Is K.the-row k (machK k ∷ [])) where
     abbrev mach : Val
     mach = T′.lowered d
 

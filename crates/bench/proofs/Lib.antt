@@ -5,5 +5,5 @@ mod Frees
 mod Stores
 mod Takes
 mod Handed
-pub mod Fits
-pub mod FitsCursor
+pub mod Unique
+pub mod UniqueCursor

@@ -1,7 +1,7 @@
 // A cursor that keeps the sheet and its place. What stands at a place is said once, of slice and number, in
 // sheet::places.
 use sheet::Judged;
-use sheet::Kept;
+use sheet::Gathered;
 use sheet::Reading;
 use sheet::places;
 ghost use mathlib.Core.Path.{_≡_};
@@ -25,13 +25,13 @@ pub fn open<'a>(sheet: &'a [u8]) -> Cursor<'a>
     Cursor { sheet, at: 0 }
 }
 
-/// The record at the cursor's place, judged against what was kept of those before it.
+/// The record at the cursor's place, judged against what was gathered of those before it.
 ///
-/// Ruled out: a judge that always looks at the sheet's first record; one that judges against nothing kept.
-pub fn judge<'a>(cursor: Cursor<'a>, kept: Kept) -> Judged
-    ensures { λ r. ⌜ JudgedAs r (judgedOf keyLimit (drop (cursor .entry .at) (now (cursor .entry .sheet))) kept) ⌝ }
+/// Ruled out: a judge that always looks at the sheet's first record; one that judges against nothing gathered.
+pub fn judge<'a>(cursor: Cursor<'a>, gathered: Gathered) -> Judged
+    ensures { λ r. ⌜ JudgedAs r (judgedOf keyLimit (drop (cursor .entry .at) (now (cursor .entry .sheet))) gathered) ⌝ }
 {
-    places::judge_at(cursor.sheet, cursor.at, kept)
+    places::judge_at(cursor.sheet, cursor.at, gathered)
 }
 
 /// The cursor so many bytes further on, and no further than the sheet's end.
@@ -51,10 +51,10 @@ pub fn moved<'a>(cursor: Cursor<'a>, n: usize) -> Cursor<'a>
 /// What the sheet says from the cursor's place on, or the first refusal with its place.
 ///
 /// Ruled out: a reader that starts again at the sheet's first byte; places that are counted from the cursor.
-pub fn rest<'a>(cursor: Cursor<'a>, kept: Kept) -> Reading
-    ensures { λ r. ⌜ ReadAs r (readFrom keyLimit (now (cursor .entry .sheet)) (cursor .entry .at) kept) ⌝ }
+pub fn rest<'a>(cursor: Cursor<'a>, gathered: Gathered) -> Reading
+    ensures { λ r. ⌜ ReadAs r (readFrom keyLimit (now (cursor .entry .sheet)) (cursor .entry .at) gathered) ⌝ }
 {
-    places::read_from(cursor.sheet, cursor.at, kept)
+    places::read_from(cursor.sheet, cursor.at, gathered)
 }
 
 /// A whole sheet through a cursor: what it says, or the first refusal with its place.

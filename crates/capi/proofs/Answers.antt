@@ -8,11 +8,11 @@ use native.Mathlib.Omega.{arith}
 use borrow.Author.Tests.{eq-eqb}
 use lib.ListN.{length, replicate}
 use lib.Seq.{take-all}
+use Rattle.ground.specs.Bytes.{bitOf}
 use Rattle.ground.specs.Choice.{pick, both}
 use Rattle.field.specs.Block.{firstBlock}
 use Rattle.field.proofs.Block.{first-block-is}
-use Rattle.frames.specs.Fields.{bit}
-use Rattle.reader.specs.declared.Fault.the-variants.{OwnMessage}
+use Rattle.reader.specs.declared.ReaderFault.the-variants.{OwnMessage}
 use Rattle.reader_judge.specs.declared.Judgement.{Judgement}
 use Rattle.reader.specs.declared.Keys.{Keys}
 use Rattle.reader_build.specs.declared.Made.{Made}
@@ -64,7 +64,7 @@ module _ (enc mac message reply room : List ℕ) where
   pub judged : (keys : Keys) (j : Judgement) (r worth issued : ℕ) (after : List ℕ) → macGiven mac ≡ true
       → keys ≡ keysOf enc mac
       → Judges (judgementOf keys message reply (length room)) room j after → r ≡ verdictNumber (j .verdict)
-      → worth ≡ worthNumber (j .worth) → issued ≡ bit (j .issued)
+      → worth ≡ worthNumber (j .worth) → issued ≡ bitOf (j .issued)
       → Finds (findingOf enc mac message reply (length room)) room r (j .«data») worth issued (j .challenge) after
   judged keys j r worth issued after g k h n w i =
       simp (g, sym k)
@@ -72,7 +72,7 @@ module _ (enc mac message reply room : List ℕ) where
         number = n ∙ h .number;
         long = ap (λ (x : Judgement). x .«data») (h .says);
         value = w ∙ ap (λ (x : Judgement). worthNumber (x .worth)) (h .says);
-        flag = i ∙ ap (λ (x : Judgement). bit (x .issued)) (h .says);
+        flag = i ∙ ap (λ (x : Judgement). bitOf (x .issued)) (h .says);
         came = ap (λ (x : Judgement). x .challenge) (h .says);
         holds = h .holds;
       })

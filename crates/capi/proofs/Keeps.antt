@@ -3,10 +3,10 @@ use mathlib.Core.Path.{_≡_, sym, ap, _∙_, subst}
 use mathlib.Core.Bool.{true, false}
 use mathlib.Core.List.{List}
 use Prim.Native.Nat.{ℕ, _*_}
-use Rattle.sheet.specs.declared.Fault.{Fault as SheetFault}
+use Rattle.sheet.specs.declared.SheetFault.{SheetFault as SheetFault}
 use Rattle.sheet.specs.declared.Sizes.{Sizes}
-use Rattle.sheet.specs.declared.Verdict.{Verdict}
-use Rattle.sheet.specs.declared.Verdict.the-variants.{Whole, Refused}
+use Rattle.sheet.specs.declared.SheetVerdict.{SheetVerdict}
+use Rattle.sheet.specs.declared.SheetVerdict.the-variants.{Whole, Refused}
 use Rattle.sheet.specs.Kinds.{numberOf}
 use Rattle.sheet.specs.Limits.{keyLimit}
 use Rattle.sheet.specs.Sheet.{readOf, readNumber, readPlace}
@@ -24,7 +24,7 @@ use Rattle.capi.specs.Kept.{SetUp, PoweredUp, AreasOf, purposeGiven, ans
 
 -- ---- a sheet
 
-module _ (sheet image after : List ℕ) (q : Verdict) (h : Laid sheet image q after) where
+module _ (sheet image after : List ℕ) (q : SheetVerdict) (h : Laid sheet image q after) where
   pub set-up-refused : (f : SheetFault) (at r : ℕ) → q ≡ Refused f at → r ≡ numberOf f → SetUp sheet image r at after
   unfolding readNumber readPlace
   set-up-refused f at r e n =

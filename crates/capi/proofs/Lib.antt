@@ -3,5 +3,5 @@ pub mod Answers
 pub mod Runs
 pub mod Stays
 pub mod Examples
-pub mod Fits
-pub mod FitsReader
+pub mod Unique
+pub mod UniqueReader

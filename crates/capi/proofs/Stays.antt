@@ -5,11 +5,11 @@ use mathlib.Core.List.{List}
 use Prim.Native.Nat.{ℕ, _≤_}
 use lib.ListN.{length}
 use Rattle.ground.specs.Choice.{pick}
-use Rattle.offer.specs.declared.Fault.the-variants.{BenchFault}
+use Rattle.offer.specs.declared.TagFault.the-variants.{BenchFault}
 use Rattle.offer.specs.declared.Outcome.the-variants.{Refused}
 use Rattle.tag.specs.States.{KeyedTag}
 use Rattle.tag.specs.Answers.{Answer, Call}
-use Rattle.tag.proofs.Kept.{refusal-kept}
+use Rattle.tag.proofs.Unchanged.{refusal-unchanged}
 use Rattle.image.specs.Image.{kept, keyedIn, isTag}
 use Rattle.image.proofs.Stays.{kept-same}
 use Rattle.capi.specs.Kept.{answerIn}
@@ -26,6 +26,6 @@ module _ (image : List ℕ) (long : 16 ≤ length image) where
           let g = answer-of image e (keyedIn image) refl c in
           let o = sym (ap (λ (a : Answer). a .outcome) g) ∙ h in
           ap (λ (t : KeyedTag). kept (t .session) image)
-          (ap (λ (a : Answer). a .tag) g ∙ refusal-kept c (keyedIn image) BenchFault o .tag)
+          (ap (λ (a : Answer). a .tag) g ∙ refusal-unchanged c (keyedIn image) BenchFault o .tag)
           ∙ kept-same image long e
       by-tag false e = refl

@@ -10,7 +10,7 @@ use Rattle.sheet.specs.Limits.{keyLimit}
 use Rattle.sheet.specs.Sheet.{readOf, readNumber, readPlace}
 use Rattle.offer.specs.declared.Outcome.{Outcome}
 use Rattle.offer.specs.declared.Outcome.the-variants.{Replied, Entered, Refused}
-use Rattle.offer.specs.declared.Fault.the-variants.{BenchFault}
+use Rattle.offer.specs.declared.TagFault.the-variants.{BenchFault}
 use Rattle.offer.specs.Outcomes.{numberGiven, replyLength}
 use Rattle.entry.specs.Sessions.{cleared}
 use Rattle.tag.specs.Answers.{Answer, Call, refused, answerWith, answerOf}

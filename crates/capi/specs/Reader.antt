@@ -5,11 +5,12 @@ use mathlib.Core.List.{List}
 use Prim.Native.Nat.{ℕ}
 use lib.Dec.{eqb, ltb}
 use lib.ListN.{length, replicate}
+use Rattle.ground.specs.Bytes.{bitOf}
 use Rattle.ground.specs.Choice.{pick, both, either}
 use Rattle.modes.specs.Room.{over}
 use Rattle.frames.specs.declared.Custom.{Custom}
-use Rattle.frames.specs.Fields.{bit, sizeOf}
-use Rattle.reader.specs.declared.Fault.the-variants.{OwnMessage}
+use Rattle.frames.specs.Fields.{sizeOf}
+use Rattle.reader.specs.declared.ReaderFault.the-variants.{OwnMessage}
 use Rattle.reader.specs.declared.Keys.{Keys}
 use Rattle.reader_build.specs.declared.Made.{Made}
 use Rattle.reader_build.specs.declared.Made.the-variants.{Message, Refused}
@@ -72,6 +73,6 @@ pub record Finds (f : Finding) (room : List ℕ) (r told worth issued : ℕ) (ch
   pub number : r ≡ verdictNumber (f .verdict)
   pub long : told ≡ length (f .bytes)
   pub value : worth ≡ worthNumber (f .worth)
-  pub flag : issued ≡ bit (f .issued)
+  pub flag : issued ≡ bitOf (f .issued)
   pub came : challenge ≡ f .challenge
   pub holds : after ≡ over (f .bytes) room

@@ -4,8 +4,9 @@
 use super::given;
 ghost use mathlib.Core.Bool.{true};
 ghost use lib.ListN.{length};
+ghost use Rattle.ground.specs.Bytes.{flag};
 ghost use Rattle.ground.specs.Choice.{both};
-ghost use Rattle.frames.specs.Fields.{flag, customFits};
+ghost use Rattle.frames.specs.Fields.{customFits};
 ghost use Rattle.reader.specs.Own.{modeFits};
 ghost use Rattle.reader_build.specs.Builds.{
   purposeFits,

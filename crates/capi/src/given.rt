@@ -7,7 +7,8 @@ use reader_build::Made;
 use reader_judge::Verdict;
 use reader_judge::Worth;
 ghost use mathlib.Core.Path.{_≡_};
-ghost use Rattle.frames.specs.Fields.{bit, sizeOf};
+ghost use Rattle.ground.specs.Bytes.{bitOf};
+ghost use Rattle.frames.specs.Fields.{sizeOf};
 ghost use Rattle.reader_judge.specs.Findings.{verdictNumber};
 ghost use Rattle.capi.specs.Reader.{macGiven, keysOf, sizeGiven, bitsGiven, customOf, madeLength, worthNumber};
 
@@ -116,7 +117,7 @@ pub fn worth_number(worth: Worth) -> u8
 
 /// A flag as a number. Ruled out: the two exchanged; 255 for yes.
 pub fn bit_of(flag: bool) -> u8
-    ensures { λ r. ⌜ r ≡ bit flag ⌝ }
+    ensures { λ r. ⌜ r ≡ bitOf flag ⌝ }
 {
     if flag {
         return 1;

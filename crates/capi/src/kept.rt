@@ -2,7 +2,7 @@
 use entry::cleared;
 use image::IMAGE;
 use offer::Outcome;
-use sheet::Verdict;
+use sheet::SheetVerdict;
 use tag::Tag;
 ghost use mathlib.Core.Path.{_≡_};
 ghost use Prim.Native.Nat.{_*_};
@@ -20,7 +20,7 @@ pub extern "C" fn roualint_sheet(sheet: &[u8], tag: &mut [u8; IMAGE], place: &mu
     ensures { λ r. ⌜ SetUp (now (sheet .entry)) (now (tag .entry)) r (now (place .exit)) (now (tag .exit)) ⌝ }
 {
     let verdict = image::lay(sheet, tag);
-    if let Verdict::Refused(fault, at) = verdict {
+    if let SheetVerdict::Refused(fault, at) = verdict {
         *place = at;
         return sheet::number(fault);
     }

@@ -9,11 +9,11 @@ use lib.ListN.{length, drop}
 use Rattle.ground.specs.Choice.{pick}
 use Rattle.modes.specs.Room as room
 use Rattle.modes.specs.Room.{over}
-use Rattle.sheet.specs.declared.Fault.{Fault as SheetFault}
-use Rattle.sheet.specs.declared.Fault.the-variants.{Cut, Unknown, Order, Value, Many, Tail}
+use Rattle.sheet.specs.declared.SheetFault.{SheetFault}
+use Rattle.sheet.specs.declared.SheetFault.the-variants.{Cut, Unknown, Order, Value, Many, Tail}
 use Rattle.sheet.specs.declared.Finding.{Finding}
 use Rattle.sheet.specs.declared.Finding.the-variants.{Taken, Ended, Faulty}
-use Rattle.sheet.specs.declared.Kept.{Kept}
+use Rattle.sheet.specs.declared.Gathered.{Gathered}
 use Rattle.sheet.specs.declared.Kind.{Kind}
 use Rattle.sheet.specs.declared.Kind.the-variants.{
   FeatureRecord,
@@ -25,10 +25,10 @@ use Rattle.sheet.specs.declared.Kind.the-variants.{
   NoRecord,
 }
 use Rattle.sheet.specs.declared.Judged.{Judged}
-use Rattle.sheet.specs.declared.Opened.{Opened}
-use Rattle.sheet.specs.declared.Opened.the-variants.{Open, Shut}
+use Rattle.sheet.specs.declared.Head.{Head}
+use Rattle.sheet.specs.declared.Head.the-variants.{Open, Shut}
 use Rattle.sheet.specs.declared.Reading.{Reading}
-use Rattle.sheet.specs.declared.Verdict.the-variants.{Refused as NoSheet}
+use Rattle.sheet.specs.declared.SheetVerdict.the-variants.{Refused as NoSheet}
 use Rattle.sheet.specs.Kinds as sheet
 use Rattle.sheet.specs.Kinds.{kindOf, bodyLength}
 use Rattle.sheet.specs.Setups.{emptyTerms}
@@ -48,8 +48,8 @@ use Rattle.sheet.specs.Judgement.{
 }
 use Rattle.sheet.specs.Limits.{keyLimit}
 use Rattle.sheet.specs.Sheet.{readOf, walk, after}
-use Rattle.offer.specs.declared.Fault.{Fault as TagFault}
-use Rattle.offer.specs.declared.Fault.the-variants.{
+use Rattle.offer.specs.declared.TagFault.{TagFault}
+use Rattle.offer.specs.declared.TagFault.the-variants.{
   OtherError,
   NotSupported,
   MemoryOverrun,
@@ -62,7 +62,7 @@ use Rattle.tag.specs.declared.Tag.{Tag}
 use Rattle.tag.specs.States.{keyed, keyless}
 use Rattle.offer.specs.Outcomes as outcomes
 use Rattle.tag.specs.Reactions.{lent}
-use Rattle.tag.proofs.Kept.{refusal-kept}
+use Rattle.tag.proofs.Unchanged.{refusal-unchanged}
 use Rattle.claims.specs.Answered.{FromTo, TagAnswers, SheetAnswers, RecordAnswers, ChainAnswers, LayerAnswers}
 
 -- ---- the tag
@@ -79,7 +79,7 @@ tag-number BenchFault = (omega arith, omega arith)
 pub tag-answers : TagAnswers
 tag-answers table tag identity user b x f h e =
     let c = lent (b .message) (b .draws) (b .room) identity user in
-    let k = refusal-kept c (keyed tag table) f (sym (h .outcome) ∙ e) in
+    let k = refusal-unchanged c (keyed tag table) f (sym (h .outcome) ∙ e) in
     let next = h .next ∙ ap keyless (k .tag) in
     record {
       number = tag-number f;
@@ -101,14 +101,14 @@ sheet-number Many = (omega arith, omega arith)
 sheet-number Tail = (omega arith, omega arith)
 
 -- a record that is refused leaves what was kept
-abbrev Leaves : Kept → Judged → Type 0
-Leaves k j = (f : SheetFault) → j .finding ≡ Faulty f → j .kept ≡ k
+abbrev Leaves : Gathered → Judged → Type 0
+Leaves k j = (f : SheetFault) → j .finding ≡ Faulty f → j .gathered ≡ k
 
-record-leaves : (t : Bool) (q : Kind) (k next : Kept) → Leaves k (pick t (taken q next) (refused Value k))
+record-leaves : (t : Bool) (q : Kind) (k next : Gathered) → Leaves k (pick t (taken q next) (refused Value k))
 record-leaves true q k next f e = let z : _≡_ {A = ℕ} 0 1 = cc in absurd (omega arith)
 record-leaves false q k next f e = refl
 
-kind-leaves : (q : Kind) (b : List ℕ) (k : Kept) → Leaves k (recordOf q b k)
+kind-leaves : (q : Kind) (b : List ℕ) (k : Gathered) → Leaves k (recordOf q b k)
 unfolding recordOf
 kind-leaves FeatureRecord b k = record-leaves (featuresRule b) FeatureRecord k (withFeatures k b)
 kind-leaves SizeRecord b k = record-leaves (sizesRule b) SizeRecord k (withSizes k b)
@@ -120,11 +120,11 @@ kind-leaves LockRecord b k = record-leaves (lockRule (k .marks .area) (k .marks 
 kind-leaves EndRecord b k = λ f e. refl
 kind-leaves NoRecord b k = λ f e. refl
 
-opened-leaves : (o : Opened) (k : Kept) (j : Judged) → Leaves k j → Leaves k (onlyIf o k j)
+opened-leaves : (o : Head) (k : Gathered) (j : Judged) → Leaves k j → Leaves k (onlyIf o k j)
 opened-leaves Open k j h = h
 opened-leaves (Shut g) k j h = λ f e. refl
 
-judged-leaves : (s : List ℕ) (k : Kept) → Leaves k (judgedOf keyLimit s k)
+judged-leaves : (s : List ℕ) (k : Gathered) → Leaves k (judgedOf keyLimit s k)
 unfolding judgedOf
 judged-leaves [] k = λ f e. refl
 judged-leaves (b ∷ t) k = opened-leaves (openedOf keyLimit b (length t) k) k _ (kind-leaves (kindOf b) _ k)
@@ -136,19 +136,19 @@ record-answers s k f e = (sheet-number f, judged-leaves s k f e)
 abbrev Empty : Reading → Type 0
 Empty r = (f : SheetFault) (at : ℕ) → r .verdict ≡ NoSheet f at → (r .terms ≡ emptyTerms) × (r .keys ≡ 0)
 
-after-empty : (g : Finding) (s : Kept) (at : ℕ) (t : List ℕ) (r : Reading) → Empty r → Empty (after g s at t r)
+after-empty : (g : Finding) (s : Gathered) (at : ℕ) (t : List ℕ) (r : Reading) → Empty r → Empty (after g s at t r)
 unfolding after
 after-empty (Taken n) s at t r h = h
 after-empty Ended s at [] r h = λ f i e. let z : _≡_ {A = ℕ} 0 1 = cc in absurd (omega arith)
 after-empty Ended s at (x ∷ t) r h = λ f i e. (refl, refl)
 after-empty (Faulty g) s at t r h = λ f i e. (refl, refl)
 
-pub walk-empty : (s : List ℕ) (body at : ℕ) (k : Kept) → Empty (walk keyLimit s body at k)
+pub walk-empty : (s : List ℕ) (body at : ℕ) (k : Gathered) → Empty (walk keyLimit s body at k)
 unfolding walk
 walk-empty [] body at k = λ f i e. (refl, refl)
 walk-empty (b ∷ t) (suc body) at k = walk-empty t body (at + 1) k
 walk-empty (b ∷ t) zero at k = after-empty _ _ at t _ (walk-empty t (bodyLength (kindOf b)) (at + 1)
-    (judgedOf keyLimit (b ∷ t) k .kept))
+    (judgedOf keyLimit (b ∷ t) k .gathered))
 
 pub sheet-answers : SheetAnswers
 unfolding readOf

@@ -18,8 +18,8 @@ use Rattle.frames.specs.declared.ProtModeField.the-variants.{Mode, NoMode}
 use Rattle.frames.specs.Kinds.{kindOf}
 use Rattle.frames.specs.Messages.{tam2Of}
 use Rattle.frames.specs.Modes.{inMode, protModeOf}
-use Rattle.reader.specs.declared.Fault.{Fault}
-use Rattle.reader.specs.declared.Fault.the-variants.{ReplyLength, ChallengeWrong, MacWrong, HeaderWrong, OwnMessage}
+use Rattle.reader.specs.declared.ReaderFault.{ReaderFault}
+use Rattle.reader.specs.declared.ReaderFault.the-variants.{ReplyLength, ChallengeWrong, MacWrong, HeaderWrong, OwnMessage}
 use Rattle.reader_judge.specs.declared.Judgement.{Judgement}
 use Rattle.reader.specs.declared.Keys.{Keys}
 use Rattle.reader_build.specs.declared.Made.the-variants.{Message, Refused as NotMade}
@@ -43,7 +43,7 @@ use Rattle.reader_judge.specs.Judged.{
 use Rattle.reader_build.specs.Makes.{taken, madeNumber}
 use Rattle.claims.specs.Answered.{FromTo, JudgeAnswers, BuilderAnswers}
 
-reader-number : (f : Fault) → FromTo 20 24 (numberOf f)
+reader-number : (f : ReaderFault) → FromTo 20 24 (numberOf f)
 reader-number ReplyLength = (omega arith, omega arith)
 reader-number ChallengeWrong = (omega arith, omega arith)
 reader-number MacWrong = (omega arith, omega arith)
@@ -54,9 +54,9 @@ reader-number OwnMessage = (omega arith, omega arith)
 
 -- a refused finding carries nothing
 abbrev Quiet : Finding → Type 0
-Quiet x = (f : Fault) → x .verdict ≡ Refused f → x ≡ refused f
+Quiet x = (f : ReaderFault) → x .verdict ≡ Refused f → x ≡ refused f
 
-refused-quiet : (g : Fault) → Quiet (refused g)
+refused-quiet : (g : ReaderFault) → Quiet (refused g)
 refused-quiet g f e = ap silent e
 
 nothing-quiet : Quiet nothingMore
@@ -72,7 +72,7 @@ picked-quiet : (t : Bool) (x y : Finding) → Quiet x → Quiet y → Quiet (pic
 picked-quiet true x y hx hy = hx
 picked-quiet false x y hx hy = hy
 
-judged-quiet : (cs : List (Check Fault)) (x : Finding) → Quiet x → Quiet (judgedTo refused cs x)
+judged-quiet : (cs : List (Check ReaderFault)) (x : Finding) → Quiet x → Quiet (judgedTo refused cs x)
 judged-quiet cs x h = keeps refused x Quiet refused-quiet h cs
 
 moded-quiet : (x : ProtModeField) (of : ProtMode → Finding) (none : Finding) → ((mode : ProtMode) → Quiet (of mode))
@@ -119,7 +119,7 @@ judge-answers keys m reply room r after f h e =
 
 -- ---- the builders
 
-builder-refused : (t : Bool) (n : ℕ) (message room after : List ℕ) (f : Fault)
+builder-refused : (t : Bool) (n : ℕ) (message room after : List ℕ) (f : ReaderFault)
     → NotMade f ≡ pick t (Message n) (NotMade OwnMessage) → after ≡ pick t (over message room) room → (numberOf f ≡ 24)
     × (after ≡ room)
 builder-refused true n message room after f e h = let z : _≡_ {A = ℕ} 0 1 = cc in absurd (omega arith)

@@ -13,7 +13,7 @@ use Rattle.sheet.specs.Setups.{Setup, setupOf}
 use Rattle.sheet.specs.KeyTable.{recordsIn, keysIn, keyTable}
 use Rattle.sheet.specs.Limits.{keyLimit, profileLimit, lockLimit, wordLimit}
 use Rattle.sheet.specs.Kinds.{kindOf, inOrder}
-use Rattle.sheet.specs.Setups.{noSlot, noLock, emptyTerms, noMarks, nothingKept}
+use Rattle.sheet.specs.Setups.{noSlot, noLock, emptyTerms, noMarks, nothingGathered}
 use Rattle.sheet.specs.Records.{areaOf, wordsIn, inside, allZero, featuresRule, featuresOf, sizesRule, sizesOf}
 use Rattle.sheet.specs.Records.{keyRule, keyOf, profileRule, slotOf}
 use Rattle.sheet.specs.Judgement.{tooMany, openedOf, withFeatures, withSizes, withKey, withProfile, recordOf}
@@ -75,7 +75,7 @@ sheet =
 pub sheet-read : readOf keyLimit sheet ≡ whole terms 1
 unfolding terms readOf walk after judgedOf openedOf tooMany kindOf inOrder recordOf withFeatures withSizes withKey
     withProfile featuresRule featuresOf sizesRule sizesOf keyRule profileRule slotOf inside wordsIn areaOf allZero
-    wordLimit keyLimit profileLimit lockLimit nothingKept noMarks emptyTerms
+    wordLimit keyLimit profileLimit lockLimit nothingGathered noMarks emptyTerms
 sheet-read = refl
 
 pub said : saidOf keyLimit sheet ≡ setup

@@ -7,7 +7,7 @@ use native.Mathlib.Omega.{arith}
 use borrow.Author.Tests.{eq-eqb}
 use lib.ListN.{length, getD, take, drop, length-append}
 use lib.Seq.{take-at, drop-at, length-take-le}
-use Rattle.ground.specs.Bytes.{Bytes}
+use Rattle.ground.specs.Bytes.{Bytes, twoBytes}
 use Rattle.ground.specs.Choice.{pick, both, implies}
 use Rattle.ground.proofs.Checked.{passes, ends}
 use Rattle.aes.specs.AesEnc.{aesEnc}
@@ -21,7 +21,7 @@ use Rattle.modes_inverse.proofs.Inverse.{dec-inv-undoes-enc}
 use Rattle.sheet.specs.declared.Key.{Key}
 use Rattle.frames.specs.declared.Tam2.{Tam2}
 use Rattle.frames.specs.Blocks.{dataLength, blocksLength}
-use Rattle.frames.specs.Constants.{C-TAM2-0, C-TAM2-1, C-TAM2-2, C-TAM2-3, tam2Constant, twoBytes}
+use Rattle.frames.specs.Constants.{C-TAM2-0, C-TAM2-1, C-TAM2-2, C-TAM2-3, tam2Constant}
 use Rattle.frames.specs.Fields.{customFits}
 use Rattle.frames.specs.declared.ProtMode.{ProtMode}
 use Rattle.frames.specs.declared.ProtModeField.{ProtModeField}
@@ -130,7 +130,7 @@ module _ (keys : Keys) (key : Key) (e : Shares keys key) (b : Bytes (keys .enc))
         let four : length (take 4 draws) ≡ 4 = length-take-le 4 draws (omega (arith, d .ten)) in
         let k = tam2Constant (f .rev) mode in
         ap (blockFits (twoBytes k) (f .ichallenge)) (opens k (take 4 draws) (f .ichallenge) four keys (key .enc) reply
-        (e .enc) b
+        (e .has .enc) b
         (constant-le (f .rev) mode) (bytes-take 4 draws (d .bytes)) t
         (front ∙ made-block (key .enc) (twoBytes k) draws (f .ichallenge)))
         ∙ block-right k (take 4 draws) (f .ichallenge) four
@@ -143,15 +143,15 @@ module _ (keys : Keys) (key : Key) (e : Shares keys key) (b : Bytes (keys .enc))
         let whole : length (block ++ sent) % 16 ≡ 0 =
         omega (arith, both-long, blocks-whole (f .custom .blocksize) (f .rev) (f .custom .blockcount)) in
         let t = room-for-mac (length (block ++ sent)) 12 (omega (arith, both-long)) whole (omega arith) in
-        (λ i. macFits (e .mackey i) mode (take-at (block ++ sent) mac (16 + count) both-long i)
+        (λ i. macFits (e .has .mackey i) mode (take-at (block ++ sent) mac (16 + count) both-long i)
         (drop-at (block ++ sent) mac (16 + count) both-long i))
         ∙ mac-there (hasMac mode) (key .mackey) (block ++ sent) t
 
     opened : openedData keys mode f reply ≡ clear
     unfolding openedData
     opened =
-        let be : Bytes (key .enc) = λ i. subst (λ (l : List ℕ). getD l i 0 < 256) (e .enc) (b i) in
-        (λ i. pick (encrypts mode) (cbcDecAesInv (front i) (e .enc i) (middle i)) (middle i))
+        let be : Bytes (key .enc) = λ i. subst (λ (l : List ℕ). getD l i 0 < 256) (e .has .enc) (b i) in
+        (λ i. pick (encrypts mode) (cbcDecAesInv (front i) (e .has .enc i) (middle i)) (middle i))
         ∙ undone (encrypts mode) block (key .enc) clear
         (tam-block-block draws d (key .enc) (f .ichallenge) (tam2Constant (f .rev) mode) be
         (constant-le (f .rev) mode) t .bytes) be

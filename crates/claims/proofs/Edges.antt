@@ -3,8 +3,9 @@ use mathlib.Core.Path.{_≡_, refl, ap}
 use mathlib.Core.List.{List, [], _∷_}
 use Prim.Native.Nat.{ℕ}
 use lib.ListN.{replicate}
+use Rattle.ground.specs.Bytes.{bit}
 use Rattle.field.specs.Field.{times, inverse, productOfSquares, polynomialProduct, remainder}
-use Rattle.field.specs.Sbox.{sbox, affine, affineBit, bit, fromBits}
+use Rattle.field.specs.Sbox.{sbox, affine, affineBit, fromBits}
 use Rattle.field.specs.Block.{xor}
 use Rattle.aes_inverse.specs.InvSbox.{invSbox, invAffine, invAffineBit}
 use Rattle.modes.specs.Cmac.{lastByte, shiftedLeft, doubled}
@@ -19,15 +20,15 @@ use Rattle.claims.specs.Edges.{fieldsOf, wordsOf, asked, sheetOf, Edges}
 
 -- (1) to (4)
 sbox-00 : sbox 0x00 ≡ 0x63
-unfolding sbox affine affineBit bit fromBits inverse productOfSquares times polynomialProduct remainder
+unfolding sbox affine affineBit fromBits inverse productOfSquares times polynomialProduct remainder
 sbox-00 = refl
 
 sbox-53 : sbox 0x53 ≡ 0xED
-unfolding sbox affine affineBit bit fromBits inverse productOfSquares times polynomialProduct remainder
+unfolding sbox affine affineBit fromBits inverse productOfSquares times polynomialProduct remainder
 sbox-53 = refl
 
 inv-sbox-63 : invSbox 0x63 ≡ 0x00
-unfolding invSbox invAffine invAffineBit bit fromBits inverse productOfSquares times polynomialProduct remainder
+unfolding invSbox invAffine invAffineBit fromBits inverse productOfSquares times polynomialProduct remainder
 inv-sbox-63 = refl
 
 product : times 0x57 0x83 ≡ 0xC1

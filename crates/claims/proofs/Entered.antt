@@ -22,12 +22,12 @@ use Rattle.frames.specs.Modes.{hasMac, protModeOf}
 use Rattle.frames.specs.Messages.{iam2Message}
 use Rattle.entry.specs.declared.State.{State}
 use Rattle.entry.specs.declared.State.the-variants.{IamInit, MamInit}
-use Rattle.offer.specs.declared.Fault.the-variants.{OutOfTurn}
+use Rattle.offer.specs.declared.TagFault.the-variants.{OutOfTurn}
 use Rattle.entry.specs.Sessions.{cleared}
 use Rattle.tag.specs.States.{KeyedTag, holding, poweredUp}
 use Rattle.tag.specs.States.{afterIam1, afterMam1, inTurn}
 use Rattle.ground.specs.Checks.{judgedTo}
-use Rattle.offer.specs.Judged.{benchChecks}
+use Rattle.offer.specs.Judged.{lendingChecks}
 use Rattle.keytable.specs.Named.{keyWith}
 use Rattle.offer.specs.Records.{offered, sizeOffered, modeOffered, modeServed, modeSupported, slotNamed, blockAsked}
 use Rattle.tag.specs.Answers.{Call, effectOf, answerWith, answerOf, ofMessage, inOrder, refused, letIn}
@@ -61,7 +61,7 @@ keys = record { enc = replicate 16 0; mac = false; mackey = replicate 16 0 }
 
 knows : (state : State) → Knows keys (keyWith (waiting state .session .keyid) (waiting state .setup .keys))
 unfolding setup terms keyWith keyLimit
-knows state = record { enc = refl; mackey = refl; array = record { long = refl; bytes = zeros 16 } }
+knows state = record { has = record { enc = refl; mackey = refl }; array = record { long = refl; bytes = zeros 16 } }
 
 ten : Array 10 (drawn 0)
 ten = record { long = refl; bytes = zeros 10 }
@@ -79,7 +79,7 @@ abbrev iam2 : Call
 iam2 = call (iam2Made keys 0 (replicate 4 0) (drawn 0))
 
 iam2-waits : Waits iam2 (waiting IamInit) Iam2
-unfolding judgedTo benchChecks offered inTurn afterIam1 setup terms
+unfolding judgedTo lendingChecks offered inTurn afterIam1 setup terms
 iam2-waits = record { bench = refl; there = refl; turn = refl }
 
 pub iam2-entered : answerOf iam2 (waiting IamInit) ≡ answerWith setup (letIn iam2 0 [] user)
@@ -90,7 +90,7 @@ iam2-entered = iam2-enters iam2 (waiting IamInit) keys 0 (replicate 4 0) iam2-wa
 pub iam2-after-power :
     answerOf iam2 (answerTo (waiting IamInit) [] user PowerUp .tag)
     ≡ answerWith setup (refused iam2 OutOfTurn cleared)
-unfolding answerTo poweredUp effectOf ofMessage inOrder judgedTo benchChecks offered inTurn afterIam1 cleared setup
+unfolding answerTo poweredUp effectOf ofMessage inOrder judgedTo lendingChecks offered inTurn afterIam1 cleared setup
     terms iam2Made iam2Message kindOf iamKind
 iam2-after-power = refl
 
@@ -98,7 +98,7 @@ abbrev mam2 : Call
 mam2 = call (mam2Made keys 0 (replicate 10 0) (drawn 0))
 
 mam2-waits : Waits mam2 (waiting MamInit) Mam2
-unfolding judgedTo benchChecks offered inTurn afterMam1 setup terms
+unfolding judgedTo lendingChecks offered inTurn afterMam1 setup terms
 mam2-waits = record { bench = refl; there = refl; turn = refl }
 
 pub mam2-entered : answerOf mam2 (waiting MamInit) ≡ answerWith setup (letIn mam2 0 [] user)
@@ -121,7 +121,7 @@ unfoldable pub iam3 : List ℕ
 iam3 = iam3Made keys custom 0 0 (replicate 4 0) (drawn 0) words
 
 iam3-waits : Waits (call iam3) (waiting IamInit) Iam3
-unfolding judgedTo benchChecks offered inTurn afterIam1 setup terms
+unfolding judgedTo lendingChecks offered inTurn afterIam1 setup terms
 iam3-waits = record { bench = refl; there = refl; turn = refl }
 
 fits : iam3Fits keys custom 0 0 8 ≡ true

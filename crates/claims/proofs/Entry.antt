@@ -19,8 +19,8 @@ use Rattle.frames.specs.Lengths.{lengthFits}
 use Rattle.frames.specs.Messages.{iam2Of, mam2Of}
 use Rattle.frames.proofs.Shape.{iam2-shape, mam2-shape}
 use Rattle.frames.proofs.Taken.{iam2-taken, mam2-taken}
-use Rattle.offer.specs.declared.Verdict.{Verdict}
-use Rattle.offer.specs.declared.Verdict.the-variants.{Fine}
+use Rattle.offer.specs.declared.Checked.{Checked}
+use Rattle.offer.specs.declared.Checked.the-variants.{Fine}
 use Rattle.entry.specs.Judged.{iam2Checks, mam2Checks}
 use Rattle.entry.specs.Opened.{purposeIn, iamProof, mamProof}
 use Rattle.keytable.specs.Named.{keyWith}
@@ -35,7 +35,7 @@ use Rattle.claims.specs.Entry.{Knows, Array, Iam2Enters, Mam2Enters}
 use Rattle.claims.proofs.Proofs.{sent, sixteen, opened, clear, purpose-in, iam-holds, middle-holds}
 
 -- checks that are fine, and the Purpose that was opened
-entered : (c : Call) (v : Verdict) (p purpose : ℕ) → v ≡ Fine → p ≡ purpose
+entered : (c : Call) (v : Checked) (p purpose : ℕ) → v ≡ Fine → p ≡ purpose
     → ifFine c v (letIn c p (c .identity) (c .user)) ≡ letIn c purpose (c .identity) (c .user)
 unfolding ifFine
 entered c v p purpose e q = ap₂ {C = Effect} (λ x y. ifFine c x (letIn c y (c .identity) (c .user))) e q

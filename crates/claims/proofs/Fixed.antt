@@ -8,7 +8,7 @@ use borrow.Author.Tests.{eqb-true}
 use lib.Dec.{eqb}
 use lib.ListN.{length, take, drop, length-drop, take-append-drop}
 use lib.Seq.{take-add, take-at, drop-at, drop-drop, take-all, length-take-le}
-use Rattle.ground.specs.Bytes.{Bytes}
+use Rattle.ground.specs.Bytes.{Bytes, twoBytes}
 use Rattle.ground.specs.Choice.{pick, both, implies}
 use Rattle.ground.specs.Checks.{judgedTo}
 use Rattle.aes.specs.AesEnc.{aesEnc}
@@ -27,7 +27,7 @@ use Rattle.frames.specs.declared.Tam1.{Tam1 as Tam1Fields}
 use Rattle.frames.specs.declared.Tam2.{Tam2 as Tam2Fields}
 use Rattle.frames.specs.declared.Mam1.{Mam1 as Mam1Fields}
 use Rattle.frames.specs.Blocks.{blocksLength}
-use Rattle.frames.specs.Constants.{C-TAM1, C-MAM1, tam2Constant, twoBytes}
+use Rattle.frames.specs.Constants.{C-TAM1, C-MAM1, tam2Constant}
 use Rattle.frames.specs.Fields.{byte}
 use Rattle.frames.specs.Kinds.{kindOf}
 use Rattle.frames.specs.declared.ProtMode.{ProtMode}
@@ -46,8 +46,8 @@ use Rattle.payload.proofs.Recovered.{carried-only}
 use Rattle.tam.specs.Replies.{tamBlock, tam1Reply, tam2Body, tam2InMode, tam2Reply}
 use Rattle.entry.specs.Replies.{mam1Reply}
 use Rattle.offer.proofs.Bytes.{drop-bytes}
-use Rattle.reader.specs.declared.Fault.{Fault}
-use Rattle.reader.specs.declared.Fault.the-variants.{ReplyLength, OwnMessage}
+use Rattle.reader.specs.declared.ReaderFault.{ReaderFault}
+use Rattle.reader.specs.declared.ReaderFault.the-variants.{ReplyLength, OwnMessage}
 use Rattle.reader.specs.declared.Keys.{Keys}
 use Rattle.reader_judge.specs.declared.Verdict.the-variants.{Accepted}
 use Rattle.reader_judge.specs.Findings.{Finding, refused, issues}
@@ -71,7 +71,7 @@ use Rattle.claims.proofs.Rechained.{enc-undoes-dec-inv}
 
 -- ---- a line of checks that ends well
 
-accepted-first : (b : Bool) (x : Finding) (f : Fault) → pick b x (refused f) .verdict ≡ Accepted → (b ≡ true)
+accepted-first : (b : Bool) (x : Finding) (f : ReaderFault) → pick b x (refused f) .verdict ≡ Accepted → (b ≡ true)
     × (x .verdict ≡ Accepted) × (pick b x (refused f) ≡ x)
 accepted-first true x f e = (refl, e, refl)
 accepted-first false x f e = let z : _≡_ {A = ℕ} 0 1 = cc in absurd (omega arith)
@@ -102,7 +102,7 @@ module _ (keys : Keys) (key : Key) (share : Shares keys key) (he : Bytes (keys .
   closed-again n =
       sym (enc-dec (keys .enc) (take 16 reply) he (record
       { sixteen = length-take-le 16 reply n; bytes = bytes-take 16 reply hr }))
-      ∙ (λ j. aesEnc (share .enc j) (aesDec (keys .enc) (take 16 reply)))
+      ∙ (λ j. aesEnc (share .has .enc j) (aesDec (keys .enc) (take 16 reply)))
 
   -- the same, by its parts
   made-again : (constant challenge : List ℕ) → length constant ≡ 2 → 16 ≤ length reply
@@ -123,7 +123,6 @@ module _ (keys : Keys) (key : Key) (share : Shares keys key) (he : Bytes (keys .
       take-all 4 (trndIn keys reply) (omega arith)
 
   two-long : (k : ℕ) → length (twoBytes k) ≡ 2
-  unfolding twoBytes
   two-long k = refl
 
   -- TAM1
@@ -170,7 +169,7 @@ module _ (keys : Keys) (key : Key) (share : Shares keys key) (he : Bytes (keys .
         (pick b (cbcDecAesInv a (keys .enc) x) x)
     rechained true a x ha hx w =
         sym (enc-undoes-dec-inv a (keys .enc) x ha he hx w)
-        ∙ (λ j. cbcEncAes a (share .enc j) (cbcDecAesInv a (keys .enc) x))
+        ∙ (λ j. cbcEncAes a (share .has .enc j) (cbcDecAesInv a (keys .enc) x))
     rechained false a x ha hx w = refl
 
     opened-count : (b : Bool) (a x : List ℕ) → Bytes a → Bytes x → length x % 16 ≡ 0
@@ -185,7 +184,7 @@ module _ (keys : Keys) (key : Key) (share : Shares keys key) (he : Bytes (keys .
     mac-again true covered mac l h =
         sym (same-equal (cmac96 (keys .mackey) covered) mac
         (both-right (macs (length covered) 12) (same (cmac96 (keys .mackey) covered) mac) h))
-        ∙ (λ j. cmac96 (share .mackey j) covered)
+        ∙ (λ j. cmac96 (share .has .mackey j) covered)
     mac-again false covered mac l h = none mac l
 
     module _ (mode : ProtMode) where

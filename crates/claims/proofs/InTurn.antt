@@ -9,10 +9,10 @@ use Rattle.ground.specs.Choice.{pick}
 use Rattle.frames.specs.declared.Kind.{Kind}
 use Rattle.frames.specs.Fields.{byte}
 use Rattle.frames.specs.Kinds.{kindOf}
-use Rattle.offer.specs.declared.Fault.the-variants.{NotSupported, OutOfTurn}
+use Rattle.offer.specs.declared.TagFault.the-variants.{NotSupported, OutOfTurn}
 use Rattle.tag.specs.States.{KeyedTag}
 use Rattle.entry.specs.Sessions.{cleared}
-use Rattle.tag.specs.Answers.{Effect, Call, refused, byKind, inOrder, ofMessage, ofBench, effectOf}
+use Rattle.tag.specs.Answers.{Effect, Call, refused, byKind, inOrder, ofMessage, ofLending, effectOf}
 use Rattle.claims.specs.Entry.{Waits}
 
 module _ (c : Call) (tag : KeyedTag) (kind : Kind) (w : Waits c tag kind) where
@@ -31,4 +31,4 @@ module _ (c : Call) (tag : KeyedTag) (kind : Kind) (w : Waits c tag kind) where
   pub in-turn : 1 ≤ length (c .message) → kindOf (byte (c .message) 0) ≡ kind
       → effectOf c tag ≡ byKind c (tag .setup) (tag .session) kind
   unfolding effectOf
-  in-turn h e = ap (ofBench c (tag .setup) (tag .session)) (w .bench) ∙ of-kind (c .message) h e
+  in-turn h e = ap (ofLending c (tag .setup) (tag .session)) (w .bench) ∙ of-kind (c .message) h e

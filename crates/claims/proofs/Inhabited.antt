@@ -9,24 +9,24 @@ use native.Mathlib.Omega.{arith}
 use lib.ListN.{length}
 use Rattle.modes.specs.declared.Chaining.the-variants.{Refused as NotChained}
 use Rattle.modes.specs.Room as room
-use Rattle.sheet.specs.declared.Fault.the-variants.{Cut}
+use Rattle.sheet.specs.declared.SheetFault.the-variants.{Cut}
 use Rattle.sheet.specs.declared.Reading.{Reading}
 use Rattle.sheet.specs.Kinds as sheet
-use Rattle.sheet.specs.Setups.{nothingKept, emptyTerms}
+use Rattle.sheet.specs.Setups.{nothingGathered, emptyTerms}
 use Rattle.sheet.specs.Judgement.{judgedOf}
 use Rattle.sheet.specs.Limits.{keyLimit}
 use Rattle.sheet.specs.Sheet.{readOf}
 use Rattle.sheet.proofs.Examples.{example-12}
-use Rattle.offer.specs.declared.Fault.the-variants.{OtherError}
+use Rattle.offer.specs.declared.TagFault.the-variants.{OtherError}
 use Rattle.offer.specs.declared.Outcome.the-variants.{Replied, Refused}
 use Rattle.tag.specs.declared.Tag.{Tag}
 use Rattle.entry.specs.Sessions.{cleared}
 use Rattle.ground.specs.Checks.{judgedTo}
-use Rattle.offer.specs.Judged.{benchChecks}
+use Rattle.offer.specs.Judged.{lendingChecks}
 use Rattle.tag.specs.Answers.{effectOf, ofMessage, refused}
 use Rattle.tag.specs.States.{awake}
 use Rattle.tag.specs.Plays.{Brought, Doing, Step, Wake, Left, Called, woken}
-use Rattle.reader.specs.declared.Fault.the-variants.{OwnMessage}
+use Rattle.reader.specs.declared.ReaderFault.the-variants.{OwnMessage}
 use Rattle.reader.specs.declared.Keys.{Keys}
 use Rattle.reader_build.specs.declared.Made.the-variants.{Refused as NotMade}
 use Rattle.reader.specs.Numbers as reader
@@ -51,7 +51,7 @@ use Rattle.claims.proofs.ShutOut.{unanswered}
 -- ---- demand 1
 
 called : Called table bench [] user (brings [] 0) unanswered
-unfolding effectOf judgedTo benchChecks ofMessage refused bench terms cleared
+unfolding effectOf judgedTo lendingChecks ofMessage refused bench terms cleared
 called = record { outcome = refl; number = refl; next = refl; reply = refl; identity = refl; user = refl }
 
 pub tag-refused : TagRefused bench [] user (brings [] 0) unanswered OtherError
@@ -70,9 +70,9 @@ pub sheet-refused : FromTo 30 35 (sheet.numberOf Cut) × (readOf keyLimit [] .te
     × (readOf keyLimit [] .keys ≡ 0)
 sheet-refused = sheet-answers [] Cut 0 (ap (λ (r : Reading). r .verdict) (example-12 keyLimit))
 
-pub record-refused : FromTo 30 35 (sheet.numberOf Cut) × (judgedOf keyLimit [] nothingKept .kept ≡ nothingKept)
+pub record-refused : FromTo 30 35 (sheet.numberOf Cut) × (judgedOf keyLimit [] nothingGathered .gathered ≡ nothingGathered)
 unfolding judgedOf
-record-refused = record-answers [] nothingKept Cut refl
+record-refused = record-answers [] nothingGathered Cut refl
 
 pub chain-refused : (room.numberOf NotChained ≡ 0) ⊎ ((room.numberOf NotChained ≡ 8) × (_≡_ {A = List ℕ} [] []))
 chain-refused = chain-answers false [] [] NotChained [] (record { says = refl; number = refl; leaves = refl })

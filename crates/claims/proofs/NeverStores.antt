@@ -19,7 +19,7 @@ use Rattle.tag.specs.States.{atRest, inTurn}
 use Rattle.ground.specs.Checks.{judgedTo}
 use Rattle.keytable.specs.Named.{hasKey}
 use Rattle.offer.specs.Records.{offered, slotNamed, blockAsked}
-use Rattle.offer.specs.Judged.{benchChecks, openingChecks}
+use Rattle.offer.specs.Judged.{lendingChecks, openingChecks}
 use Rattle.tag.specs.Answers.{Answer, effectOf, answerOf, ofMessage, inOrder, byKind, iam1Answer, ifFine, replied}
 use Rattle.tag.specs.Answers.{refused, letIn}
 use Rattle.tag.specs.Runs.{answerTo, run}
@@ -44,7 +44,7 @@ module _ (p : Program) (h : Standard p) where
   left : p table bench [] user ds
       ≡ answered 0 ∷ leftOf steppedOf (Step (brings iam3 0)) (answerOf (call iam3) (waiting IamInit)) ∷ []
   unfolding leftAll run answerTo eventsOf setup terms keysIn recordsIn keyOf bench cleared atRest inTurn judgedTo
-      offered hasKey benchChecks openingChecks effectOf ofMessage inOrder byKind iam1Answer ifFine replied refused
+      offered hasKey lendingChecks openingChecks effectOf ofMessage inOrder byKind iam1Answer ifFine replied refused
       kindOf iamKind lengthFits iam1Of keyLimit profileLimit
   left = is-defined p h table bench [] user ds
 

@@ -96,7 +96,7 @@ module _ (keys : Keys) (custom : Custom) (protmode : ℕ) (mode : ProtMode) (a p
           room-for-mac (length (a ++ body)) 12 (omega arith) (omega arith) (omega arith) in
           ap₂ (λ (x y : List ℕ). macFits (key .mackey) mode x y)
           (ap₂ {C = List ℕ} (λ x y. x ++ y) block-sent data-sent) mac-sent
-          ∙ ap (λ (x : List ℕ). macFits x mode (a ++ body) mac) (sym (knows .mackey))
+          ∙ ap (λ (x : List ℕ). macFits x mode (a ++ body) mac) (sym (knows .has .mackey))
           ∙ mac-right (hasMac mode) (keys .mackey) (a ++ body) k
 
       -- ---- the data in the clear
@@ -105,10 +105,10 @@ module _ (keys : Keys) (custom : Custom) (protmode : ℕ) (mode : ProtMode) (a p
       unfolding openedIn readerData
       data-opened ba bp =
           ap₂ {C = List ℕ} (λ x y. pick (encrypts mode) (cbcDecAes x (key .enc) y) y) block-sent data-sent
-          ∙ ap (λ (k : List ℕ). pick (encrypts mode) (cbcDecAes a k body) body) (sym (knows .enc))
+          ∙ ap (λ (k : List ℕ). pick (encrypts mode) (cbcDecAes a k body) body) (sym (knows .has .enc))
           ∙ undone (encrypts mode)
         where
           undone : (t : Bool) → pick t (cbcDecAes a (keys .enc) (pick t (cbcEncAesInv a (keys .enc) p) p))
               (pick t (cbcEncAesInv a (keys .enc) p) p) ≡ p
-          undone true = dec-undoes-enc-inv a (keys .enc) p ba (rw (knows .enc) (knows .array .bytes)) bp whole
+          undone true = dec-undoes-enc-inv a (keys .enc) p ba (rw (knows .has .enc) (knows .array .bytes)) bp whole
           undone false = refl

@@ -8,7 +8,7 @@ use borrow.Author.Tests.{eq-eqb}
 use lib.Dec.{lit<}
 use lib.ListN.{length, take, drop, length-append, length-drop, take-append-drop}
 use lib.Seq.{take-at, drop-at, take-all, length-take-le}
-use Rattle.ground.specs.Bytes.{Bytes}
+use Rattle.ground.specs.Bytes.{Bytes, twoBytes}
 use Rattle.ground.specs.Choice.{both}
 use Rattle.ground.proofs.Checked.{passes, ends}
 use Rattle.field.proofs.Block.{Block}
@@ -19,7 +19,7 @@ use Rattle.modes.proofs.Whole.{bytes-take}
 use Rattle.sheet.specs.declared.Key.{Key}
 use Rattle.frames.specs.declared.Tam1.{Tam1}
 use Rattle.frames.specs.declared.Mam1.{Mam1}
-use Rattle.frames.specs.Constants.{C-TAM1, C-MAM1, twoBytes}
+use Rattle.frames.specs.Constants.{C-TAM1, C-MAM1}
 use Rattle.payload.specs.Alike.{same}
 use Rattle.payload.proofs.Alike.{same-self}
 use Rattle.payload.proofs.Lengths.{enc-sixteen}
@@ -37,14 +37,12 @@ use Rattle.reader_judge.specs.Opened.{openedBlock, blockFits, challengeIn}
 -- ---- a block
 
 two-bytes : (c : ℕ) → c ≤ 0xFFFF → Bytes (twoBytes c)
-unfolding twoBytes
 two-bytes c h zero = omega arith
 two-bytes c h (suc zero) = omega arith
 two-bytes c h (suc (suc i)) = lit< tt
 
 module _ (k : ℕ) (middle challenge : List ℕ) (four : length middle ≡ 4) where
   plain-block : k ≤ 0xFFFF → Bytes middle → Ten challenge → Block (twoBytes k ++ (middle ++ challenge))
-  unfolding twoBytes
   plain-block l h t =
       let s = middle ++ challenge in
       let n : length s ≡ 14 = omega (arith, length-append middle challenge, t .ten) in
@@ -66,7 +64,7 @@ module _ (k : ℕ) (middle challenge : List ℕ) (four : length middle ≡ 4) wh
 
   -- and its own challenge behind the constant
   pub block-right : blockFits (twoBytes k) challenge (twoBytes k ++ (middle ++ challenge)) ≡ true
-  unfolding blockFits twoBytes
+  unfolding blockFits
   block-right = ap₂ both (same-self (twoBytes k)) (ap (λ (l : List ℕ). same l challenge)
       (drop-at middle challenge 4 four) ∙ same-self challenge)
 
@@ -103,7 +101,7 @@ module _ (keys : Keys) (key : Key) (e : keys .enc ≡ key .enc) (b : Bytes (keys
     -- the clear part, and the part that was in the block
     mam1-whole : (f : Mam1) → length (drop 6 draws) ≡ 4
         → challengeIn (twoBytes C-MAM1 ++ (drop 6 draws ++ f .ichallenge)) (mam1Reply key f draws) ≡ draws
-    unfolding mam1Reply challengeIn twoBytes
+    unfolding mam1Reply challengeIn
     mam1-whole f four =
         let plain = twoBytes C-MAM1 ++ (drop 6 draws ++ f .ichallenge) in
         ap₂ {C = List ℕ} (λ (x y : List ℕ). x ++ y) (drop-at (aesEnc (key .enc) plain) (take 6 draws) 16

@@ -60,18 +60,18 @@ module _ (keys : Keys) (key : Key) (k purpose : ℕ) (middle tchallenge : List �
 
   pub sixteen : length sent ≡ 16
   sixteen =
-      ap (λ (e : List ℕ). length (response e (withPurpose k purpose) middle tchallenge)) (knows .enc)
+      ap (λ (e : List ℕ). length (response e (withPurpose k purpose) middle tchallenge)) (knows .has .enc)
       ∙ response-block (key .enc) (withPurpose k purpose) middle tchallenge (knows .array .bytes)
       (constant-bytes k purpose h) (m .bytes) (t .bytes) (constant-two k purpose) (m .long) (t .long) .sixteen
 
   pub opened : aesEnc (key .enc) sent ≡ clear k purpose middle tchallenge (m .long) (t .long)
   opened =
-      ap (λ (e : List ℕ). aesEnc (key .enc) (response e (withPurpose k purpose) middle tchallenge)) (knows .enc)
+      ap (λ (e : List ℕ). aesEnc (key .enc) (response e (withPurpose k purpose) middle tchallenge)) (knows .has .enc)
       ∙ response-opened (key .enc) (withPurpose k purpose) middle tchallenge (knows .array .bytes)
       (constant-bytes k purpose h) (m .bytes) (t .bytes) (constant-two k purpose) (m .long) (t .long)
 
   pub sent-bytes : Bytes sent
   sent-bytes =
-      rw (knows .enc)
+      rw (knows .has .enc)
       (response-block (key .enc) (withPurpose k purpose) middle tchallenge (knows .array .bytes)
       (constant-bytes k purpose h) (m .bytes) (t .bytes) (constant-two k purpose) (m .long) (t .long) .bytes)

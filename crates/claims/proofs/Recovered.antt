@@ -29,7 +29,7 @@ use Rattle.entry.specs.Sessions.{cleared}
 use Rattle.ground.specs.Checks.{judgedTo}
 use Rattle.keytable.specs.Named.{hasKey, keyWith}
 use Rattle.offer.specs.Records.{offered}
-use Rattle.offer.specs.Judged.{benchChecks, openingChecks}
+use Rattle.offer.specs.Judged.{lendingChecks, openingChecks}
 use Rattle.tag.specs.Answers.{Call, refused, replied, ifFine, iam1Answer, byKind, inOrder, ofMessage, effectOf}
 use Rattle.tag.specs.Answers.{answerOf}
 use Rattle.tag.specs.Reactions.{lent}
@@ -100,10 +100,10 @@ fit = record {
 
 shares : Shares keys (keyUsed tag iam1)
 unfolding bench keysIn recordsIn keyOf keyidUsed kindOf iamKind iam1Of keyWith keyLimit
-shares = record { enc = refl; mac = refl; mackey = refl }
+shares = record { has = record { enc = refl; mackey = refl }; mac = refl }
 
 called : Called table bench [] user (brings iam1 0) (answered 0)
-unfolding terms keysIn recordsIn keyOf bench cleared atRest inTurn judgedTo offered hasKey benchChecks openingChecks
+unfolding terms keysIn recordsIn keyOf bench cleared atRest inTurn judgedTo offered hasKey lendingChecks openingChecks
     effectOf ofMessage inOrder byKind iam1Answer ifFine replied refused kindOf iamKind lengthFits iam1Of keyLimit
     profileLimit
 called = record { outcome = refl; number = refl; next = refl; reply = refl; identity = refl; user = refl }

@@ -23,15 +23,15 @@ use Rattle.frames.specs.Modes.{hasMac, inMode}
 use Rattle.frames.specs.Messages.{tam1Of, tam2Of, iam1Of, iam3Of, mam1Of}
 use Rattle.frames.proofs.Range.{both-right}
 use Rattle.tag.specs.States.{KeyedTag}
-use Rattle.offer.specs.declared.Fault.the-variants.{NotSupported, OutOfTurn}
-use Rattle.offer.specs.declared.Verdict.{Verdict}
-use Rattle.offer.specs.declared.Verdict.the-variants.{Fine, Wrong}
+use Rattle.offer.specs.declared.TagFault.the-variants.{NotSupported, OutOfTurn}
+use Rattle.offer.specs.declared.Checked.{Checked}
+use Rattle.offer.specs.declared.Checked.the-variants.{Fine, Wrong}
 use Rattle.entry.specs.Sessions.{cleared}
 use Rattle.tag.specs.States.{inTurn}
 use Rattle.offer.specs.Checks.{judged}
 use Rattle.keytable.specs.Named.{keyWith}
 use Rattle.offer.specs.Records.{offered, modeOffered, modeServed, modeSupported, slotNamed, blockAsked}
-use Rattle.offer.specs.Judged.{benchChecks, openingChecks}
+use Rattle.offer.specs.Judged.{lendingChecks, openingChecks}
 use Rattle.tam.specs.Judged.{tam2Checks}
 use Rattle.entry.specs.Judged.{iam2Checks, iam3Checks, mam2Checks}
 use Rattle.tag.specs.Answers.{
@@ -51,12 +51,12 @@ use Rattle.tag.specs.Answers.{
   byKind,
   inOrder,
   ofMessage,
-  ofBench,
+  ofLending,
   effectOf,
   answerWith,
 }
 use Rattle.offer.proofs.Lines.{first-holds, others-hold}
-use Rattle.offer.proofs.Passed.{mode-named, bench-draws}
+use Rattle.offer.proofs.Passed.{mode-named, lending-draws}
 use Rattle.tam.proofs.Passed.{tam2-mode, tam2-inside}
 use Rattle.offer.proofs.Bytes.{Ten}
 use Rattle.tam.proofs.Tam2Asked.{tam1-challenge, tam2-challenge, tam2-custom-fits, words-bytes}
@@ -98,7 +98,7 @@ module _ (c : Call) (tag : KeyedTag) (keys : Keys) (room : ℕ) (fit : Fit c tag
   refusal : (k : Kind) (a : Effect) → (Taken (a .outcome) → ⊥) → Claim k a
   refusal k a h t = absurd (h t)
 
-  fine : (k : Kind) (v : Verdict) (a : Effect) → (v ≡ Fine → Claim k a) → Claim k (ifFine c v a)
+  fine : (k : Kind) (v : Checked) (a : Effect) → (v ≡ Fine → Claim k a) → Claim k (ifFine c v a)
   unfolding ifFine refused
   fine k Fine a h = h refl
   fine k (Wrong f) a h = refusal k (refused c f cleared) (λ t. t)
@@ -107,11 +107,11 @@ module _ (c : Call) (tag : KeyedTag) (keys : Keys) (room : ℕ) (fit : Fit c tag
   picked k true x y h g = h
   picked k false x y h g = g
 
-  module _ (bench : judged (benchChecks (tag .setup .sizes) (length (c .draws)) (c .room) (length (c .identity))
+  module _ (bench : judged (lendingChecks (tag .setup .sizes) (length (c .draws)) (c .room) (length (c .identity))
       (length (c .user))) ≡ Fine) (some : length (c .message) ≡ 0 → ⊥) where
     ten : Ten (c .draws)
     ten = record {
-      ten = bench-draws (tag .setup .sizes) (length (c .draws)) (c .room) (length (c .identity))
+      ten = lending-draws (tag .setup .sizes) (length (c .draws)) (c .room) (length (c .identity))
           (length (c .user)) bench;
       bytes = fit .draws;
     }
@@ -144,7 +144,7 @@ module _ (c : Call) (tag : KeyedTag) (keys : Keys) (room : ℕ) (fit : Fit c tag
         let f = tam1Of (c .message) in
         fine Tam1 _ _
         (λ h t. opens-with Tam1 e s (f .rfu) (f .keyid) _ nothingMore refl
-        (tam1-found keys (keyWith (f .keyid) (tag .setup .keys)) (s .enc) (fit .enc) (c .draws) ten f
+        (tam1-found keys (keyWith (f .keyid) (tag .setup .keys)) (s .has .enc) (fit .enc) (c .draws) ten f
         (tam1-challenge (c .message) (fit .message))) h)
 
     iam1-claim : Iam1 ≡ kindOf (byte (c .message) 0) → Keyed Iam1 → Claim Iam1 (iam1Answer c (tag .setup .keys))
@@ -160,7 +160,7 @@ module _ (c : Call) (tag : KeyedTag) (keys : Keys) (room : ℕ) (fit : Fit c tag
         let f = mam1Of (c .message) in
         fine Mam1 _ _
         (λ h t. opens-with Mam1 e s (f .rfu) (f .keyid) _ (issues (c .draws)) refl
-        (mam1-found keys (keyWith (f .keyid) (tag .setup .keys)) (s .enc) (fit .enc) (c .draws) ten f
+        (mam1-found keys (keyWith (f .keyid) (tag .setup .keys)) (s .has .enc) (fit .enc) (c .draws) ten f
         (mam1-challenge (c .message) (fit .message))) h)
 
     iam2-claim : Iam2 ≡ kindOf (byte (c .message) 0) → Keyed Iam2
@@ -244,7 +244,7 @@ module _ (c : Call) (tag : KeyedTag) (keys : Keys) (room : ℕ) (fit : Fit c tag
   kind = kindOf (byte (c .message) 0)
 
   module _ (s : Shares keys (keyWith (keyidUsed tag (c .message) kind) (tag .setup .keys))) where
-    of-message : judged (benchChecks (tag .setup .sizes) (length (c .draws)) (c .room) (length (c .identity))
+    of-message : judged (lendingChecks (tag .setup .sizes) (length (c .draws)) (c .room) (length (c .identity))
         (length (c .user))) ≡ Fine → (m : List ℕ) → c .message ≡ m
         → Claim kind (ofMessage c (tag .setup) (tag .session) m)
     unfolding ofMessage refused
@@ -255,9 +255,9 @@ module _ (c : Call) (tag : KeyedTag) (keys : Keys) (room : ℕ) (fit : Fit c tag
         subst (λ (k : Kind). Claim kind (inOrder c (tag .setup) (tag .session) k)) first
         (in-order bench some kind refl s)
 
-    of-bench : (v : Verdict) → judged (benchChecks (tag .setup .sizes) (length (c .draws)) (c .room)
+    of-bench : (v : Checked) → judged (lendingChecks (tag .setup .sizes) (length (c .draws)) (c .room)
         (length (c .identity)) (length (c .user))) ≡ v
-        → Claim kind (ofBench c (tag .setup) (tag .session) v)
+        → Claim kind (ofLending c (tag .setup) (tag .session) v)
     unfolding refused
     of-bench Fine e = of-message e (c .message) refl
     of-bench (Wrong f) e = λ t. absurd t

@@ -14,19 +14,19 @@ use Rattle.frames.specs.declared.Kind.the-variants.{Tam1, Tam2, Iam1, Iam2, Iam
 use Rattle.frames.specs.Fields.{byte}
 use Rattle.frames.specs.Kinds.{kindOf}
 use Rattle.frames.specs.Messages.{tam1Of, tam2Of, mam1Of}
-use Rattle.offer.specs.declared.Fault.{Fault}
-use Rattle.offer.specs.declared.Fault.the-variants.{OtherError, NotSupported, OutOfTurn}
+use Rattle.offer.specs.declared.TagFault.{TagFault}
+use Rattle.offer.specs.declared.TagFault.the-variants.{OtherError, NotSupported, OutOfTurn}
 use Rattle.offer.specs.declared.Outcome.the-variants.{Replied}
 use Rattle.entry.specs.declared.Session.{Session}
 use Rattle.tag.specs.States.{KeyedTag, keyed}
-use Rattle.offer.specs.declared.Verdict.{Verdict}
-use Rattle.offer.specs.declared.Verdict.the-variants.{Fine, Wrong}
+use Rattle.offer.specs.declared.Checked.{Checked}
+use Rattle.offer.specs.declared.Checked.the-variants.{Fine, Wrong}
 use Rattle.entry.specs.Sessions.{cleared}
 use Rattle.tag.specs.States.{inTurn}
 use Rattle.offer.specs.Checks.{judged}
 use Rattle.keytable.specs.Named.{keyWith}
 use Rattle.offer.specs.Records.{offered, blockAsked}
-use Rattle.offer.specs.Judged.{benchChecks}
+use Rattle.offer.specs.Judged.{lendingChecks}
 use Rattle.tag.specs.Answers.{
   Effect,
   Call,
@@ -43,7 +43,7 @@ use Rattle.tag.specs.Answers.{
   byKind,
   inOrder,
   ofMessage,
-  ofBench,
+  ofLending,
   ifFine,
   effectOf,
 }
@@ -60,7 +60,7 @@ abbrev Long : ℕ → Effect → Type 0
 Long k e = (n : ℕ) → e .outcome ≡ Replied n → n ≡ k
 
 module _ (c : Call) where
-  refusal-long : (k : ℕ) (s : Session) (f : Fault) → Long k (refused c f s)
+  refusal-long : (k : ℕ) (s : Session) (f : TagFault) → Long k (refused c f s)
   unfolding refused
   refusal-long k s f n e = let z : _≡_ {A = ℕ} 0 1 = cc in absurd (omega arith)
 
@@ -72,7 +72,7 @@ module _ (c : Call) where
   unfolding letIn
   entry-long k purpose identity user n e = let z : _≡_ {A = ℕ} 0 1 = cc in absurd (omega arith)
 
-  fine-long : (k : ℕ) (v : Verdict) (e : Effect) → Long k e → Long k (ifFine c v e)
+  fine-long : (k : ℕ) (v : Checked) (e : Effect) → Long k e → Long k (ifFine c v e)
   fine-long k = fine-case c (Long k) (refusal-long k cleared)
 
   picked-long : (k : ℕ) (t : Bool) (x y : Effect) → Long k x → Long k y → Long k (pick t x y)
@@ -109,13 +109,13 @@ module _ (c : Call) where
         (refusal-long k cleared NotSupported)
 
   module _ (tag : KeyedTag) where
-    abbrev verdict : Verdict
-    verdict = judged (benchChecks (tag .setup .sizes) (length (c .draws)) (c .room) (length (c .identity))
+    abbrev verdict : Checked
+    verdict = judged (lendingChecks (tag .setup .sizes) (length (c .draws)) (c .room) (length (c .identity))
         (length (c .user)))
 
-    bench-long : (v : Verdict) → verdict ≡ v → Long (layoutLength (kindOf (byte (c .message) 0)) (c .message))
-        (ofBench c (tag .setup) (tag .session) v)
-    unfolding benchChecks
+    bench-long : (v : Checked) → verdict ≡ v → Long (layoutLength (kindOf (byte (c .message) 0)) (c .message))
+        (ofLending c (tag .setup) (tag .session) v)
+    unfolding lendingChecks
     bench-long Fine e = message-long (tag .setup) (tag .session) (eqb-true (length (c .draws)) 10 (first-holds _ _ e))
         (c .message) refl
     bench-long (Wrong f) e = refusal-long _ (tag .session) f

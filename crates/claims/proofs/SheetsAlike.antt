@@ -13,7 +13,7 @@ use Rattle.sheet.specs.declared.Key.{Key}
 use Rattle.sheet.specs.declared.Kind.{Kind}
 use Rattle.sheet.specs.declared.Kind.the-variants.{FeatureRecord, SizeRecord, KeyRecord, ProfileRecord, LockRecord}
 use Rattle.sheet.specs.declared.Kind.the-variants.{EndRecord, NoRecord}
-use Rattle.sheet.specs.declared.Kept.{Kept}
+use Rattle.sheet.specs.declared.Gathered.{Gathered}
 use Rattle.sheet.specs.Kinds.{kindOf, bodyLength}
 use Rattle.sheet.specs.Records.{allZero, keyRule, keyOf}
 use Rattle.sheet.specs.Judgement.{openedOf, takenIf, withKey, recordOf, onlyIf, judgedOf}
@@ -51,7 +51,7 @@ module _ (named : ℕ → Bool) where
         (λ j. both (leb id (h .id j)) (both (leb (h .mac j) 1) (z j)))
         ∙ (λ j. both (leb id (byteAt c 0)) (both (leb (byteAt c 1) 1) (implies (eqb (h .mac j) 0) zeros)))
 
-    with-key : (k : Kept) → withKey k b ≡ withKey k c
+    with-key : (k : Gathered) → withKey k b ≡ withKey k c
     unfolding withKey
     with-key k = λ j. record {
       marks = record {
@@ -72,7 +72,7 @@ module _ (named : ℕ → Bool) where
 
   -- ---- any record
 
-  record-alike : (q : Kind) (b c : List ℕ) (k : Kept) → BodiesAlike named q b c → recordOf q b k ≡ recordOf q c k
+  record-alike : (q : Kind) (b c : List ℕ) (k : Gathered) → BodiesAlike named q b c → recordOf q b k ≡ recordOf q c k
   unfolding recordOf
   record-alike FeatureRecord b c k h = ap (λ (z : List ℕ). recordOf FeatureRecord z k) h
   record-alike SizeRecord b c k h = ap (λ (z : List ℕ). recordOf SizeRecord z k) h
@@ -93,7 +93,7 @@ module _ (named : ℕ → Bool) where
   said-alike NoRecord b c h = tt
 
   -- the record with which two sheets go on, both with the same kind byte and as long
-  pub judged-alike : (limit b : ℕ) (u v : List ℕ) (k : Kept) → length u ≡ length v
+  pub judged-alike : (limit b : ℕ) (u v : List ℕ) (k : Gathered) → length u ≡ length v
       → BodiesAlike named (kindOf b) (take (bodyLength (kindOf b)) u) (take (bodyLength (kindOf b)) v)
       → judgedOf limit (b ∷ u) k ≡ judgedOf limit (b ∷ v) k
   unfolding judgedOf

@@ -5,10 +5,10 @@ use mathlib.Core.List.{List, [], _∷_, _++_}
 use native.Mathlib.Omega.{arith}
 use Prim.Native.Nat.{ℕ}
 use lib.ListN.{replicate}
-use Rattle.sheet.specs.declared.Verdict.the-variants.{Whole}
+use Rattle.sheet.specs.declared.SheetVerdict.the-variants.{Whole}
 use Rattle.sheet.specs.Kinds.{kindOf, inOrder}
 use Rattle.sheet.specs.Limits.{keyLimit, wordLimit}
-use Rattle.sheet.specs.Setups.{noMarks, nothingKept, emptyTerms}
+use Rattle.sheet.specs.Setups.{noMarks, nothingGathered, emptyTerms}
 use Rattle.sheet.specs.Records.{featuresRule, sizesRule, keyRule}
 use Rattle.sheet.specs.Judgement.{tooMany, openedOf, withFeatures, withSizes, withKey, recordOf, judgedOf}
 use Rattle.sheet.specs.Sheet.{after, walk, readOf}
@@ -20,7 +20,7 @@ sheet e m = 1 ∷ 0 ∷ 0 ∷ 2 ∷ 0 ∷ 0 ∷ 0 ∷ 0 ∷ 3 ∷ 2 ∷ 1 ∷ 0 
 
 pub taken : (e m : ℕ) → readOf keyLimit (sheet e m) .verdict ≡ Whole
 unfolding readOf walk after judgedOf openedOf recordOf withFeatures withSizes withKey kindOf inOrder tooMany keyLimit
-    wordLimit featuresRule sizesRule keyRule nothingKept noMarks emptyTerms
+    wordLimit featuresRule sizesRule keyRule nothingGathered noMarks emptyTerms
 taken e m = refl
 
 pub sheet-hidden : (named : ℕ → Bool) → named 2 ≡ false → (e m e′ m′ : ℕ) → SheetsAlike named (sheet e m) (sheet e′ m′)

@@ -8,14 +8,14 @@ use Rattle.ground.specs.Bytes.{Bytes}
 use Rattle.sheet.specs.declared.Finding.{Finding}
 use Rattle.sheet.specs.declared.Finding.the-variants.{Taken, Ended, Faulty}
 use Rattle.sheet.specs.declared.Judged.{Judged}
-use Rattle.sheet.specs.declared.Kept.{Kept}
+use Rattle.sheet.specs.declared.Gathered.{Gathered}
 use Rattle.sheet.specs.declared.Key.{Key}
 use Rattle.sheet.specs.declared.Reading.{Reading}
-use Rattle.sheet.specs.declared.Verdict.{Verdict}
-use Rattle.sheet.specs.declared.Verdict.the-variants.{Whole, Refused}
+use Rattle.sheet.specs.declared.SheetVerdict.{SheetVerdict}
+use Rattle.sheet.specs.declared.SheetVerdict.the-variants.{Whole, Refused}
 use Rattle.sheet.specs.Kinds.{kindOf, bodyLength}
 use Rattle.sheet.specs.Limits.{keyLimit}
-use Rattle.sheet.specs.Setups.{nothingKept}
+use Rattle.sheet.specs.Setups.{nothingGathered}
 use Rattle.sheet.specs.Judgement.{judgedOf}
 use Rattle.sheet.specs.KeyTable.{recordsIn, keysIn, keyTable}
 use Rattle.sheet.specs.KeysMet.{keySaid, metIn, metFrom, keysMet}
@@ -38,7 +38,7 @@ module _ (named : ℕ → Bool) where
   alike-length (b ∷ u) (c ∷ v) zero h = ap suc (alike-length u v (bodyLength (kindOf b)) (h .2))
 
   -- whether bytes follow the end record
-  after-alike : (u v : List ℕ) (body at : ℕ) (k : Kept) (r : Reading) → AlikeFrom named u v body → (f : Finding)
+  after-alike : (u v : List ℕ) (body at : ℕ) (k : Gathered) (r : Reading) → AlikeFrom named u v body → (f : Finding)
       → after f k at u r ≡ after f k at v r
   unfolding after AlikeFrom
   after-alike u v body at k r h (Taken n) = refl
@@ -48,7 +48,7 @@ module _ (named : ℕ → Bool) where
   after-alike (b ∷ u) (c ∷ v) body at k r h Ended = refl
   after-alike u v body at k r h (Faulty f) = refl
 
-  walk-alike : (u v : List ℕ) (body at : ℕ) (k : Kept) → AlikeFrom named u v body
+  walk-alike : (u v : List ℕ) (body at : ℕ) (k : Gathered) → AlikeFrom named u v body
       → walk keyLimit u body at k ≡ walk keyLimit v body at k
   unfolding walk AlikeFrom
   walk-alike [] [] body at k h = refl
@@ -59,14 +59,14 @@ module _ (named : ℕ → Bool) where
       let n = bodyLength (kindOf b) in
       let judged = judged-alike named keyLimit b u v k (alike-length u v n more) h in
       let i = judgedOf keyLimit (b ∷ u) k in
-      let rest = walk-alike u v n (at + 1) (i .kept) more in
-      let onwards : Judged → Reading = λ j. after (j .finding) (j .kept) at v (walk keyLimit v n (at + 1) (j .kept)) in
-      ap (after (i .finding) (i .kept) at u) rest
-      ∙ after-alike u v n at (i .kept) (walk keyLimit v n (at + 1) (i .kept)) more (i .finding)
+      let rest = walk-alike u v n (at + 1) (i .gathered) more in
+      let onwards : Judged → Reading = λ j. after (j .finding) (j .gathered) at v (walk keyLimit v n (at + 1) (j .gathered)) in
+      ap (after (i .finding) (i .gathered) at u) rest
+      ∙ after-alike u v n at (i .gathered) (walk keyLimit v n (at + 1) (i .gathered)) more (i .finding)
       ∙ ap onwards judged ∙ ap (λ (z : ℕ). walk keyLimit (z ∷ v) zero at k) e
 
   -- the keys that the walk meets
-  met-alike : (u v : List ℕ) (body : ℕ) (k : Kept) → AlikeFrom named u v body
+  met-alike : (u v : List ℕ) (body : ℕ) (k : Gathered) → AlikeFrom named u v body
       → RecordsAlike named (metFrom keyLimit u body k) (metFrom keyLimit v body k)
   unfolding metFrom AlikeFrom
   met-alike [] [] body k h = none-alike named
@@ -77,10 +77,10 @@ module _ (named : ℕ → Bool) where
       let n = bodyLength (kindOf b) in
       let judged = judged-alike named keyLimit b u v k (alike-length u v n more) h in
       let i = judgedOf keyLimit (b ∷ u) k in
-      let rest = met-alike u v n (i .kept) more in
+      let rest = met-alike u v n (i .gathered) more in
       let Met : List Key → Type 0 = RecordsAlike named (metFrom keyLimit (b ∷ u) zero k) in
       let Onwards : Judged → Type 0 =
-      λ j. Met (metIn (j .finding) (keySaid (kindOf b) (take n v)) (metFrom keyLimit v n (j .kept))) in
+      λ j. Met (metIn (j .finding) (keySaid (kindOf b) (take n v)) (metFrom keyLimit v n (j .gathered))) in
       subst (λ (z : ℕ). Met (metFrom keyLimit (z ∷ v) zero k)) e
       (subst Onwards judged (met-in (i .finding) _ _ _ _ (said-alike named (kindOf b) (take n u) (take n v) h) rest))
     where
@@ -93,11 +93,11 @@ module _ (named : ℕ → Bool) where
   module _ (u v : List ℕ) (y : Bytes u) (z : Bytes v) (h : SheetsAlike named u v) where
     same : readOf keyLimit u ≡ readOf keyLimit v
     unfolding readOf
-    same = walk-alike u v 0 0 nothingKept h
+    same = walk-alike u v 0 0 nothingGathered h
 
     met : RecordsAlike named (keysMet keyLimit u) (keysMet keyLimit v)
     unfolding keysMet
-    met = met-alike u v 0 nothingKept h
+    met = met-alike u v 0 nothingGathered h
 
     abbrev table : List ℕ → List Key
     table s = keysIn (keyTable s (readOf keyLimit s .keys))
@@ -107,14 +107,14 @@ module _ (named : ℕ → Bool) where
     unfolding keyTable keysIn recordsIn
     no-keys s m e = ap (λ (k : ℕ). keysIn (keyTable s k)) e
 
-    keys-alike : (w : Verdict) → readOf keyLimit u .verdict ≡ w → RecordsAlike named (table u) (table v)
+    keys-alike : (w : SheetVerdict) → readOf keyLimit u .verdict ≡ w → RecordsAlike named (table u) (table v)
     unfolding readOf
     keys-alike Whole e =
         let f : readOf keyLimit v .verdict ≡ Whole = sym (ap (λ (r : Reading). r .verdict) same) ∙ e in
         subst (λ (l : List Key). RecordsAlike named l (table v)) (keys-stand keyLimit u y e)
         (subst (RecordsAlike named (keysMet keyLimit u)) (keys-stand keyLimit v z f) met)
     keys-alike (Refused g at) e =
-        let none = walk-empty u 0 0 nothingKept g at e .1 in
+        let none = walk-empty u 0 0 nothingGathered g at e .1 in
         let other = sym (ap (λ (r : Reading). r .keys) same) ∙ none in
         subst (λ (l : List Key). RecordsAlike named l (table v)) (sym (no-keys u _ none))
         (subst (RecordsAlike named []) (sym (no-keys v _ other)) (none-alike named))

@@ -10,7 +10,7 @@ use Rattle.sheet.specs.Limits.{keyLimit, profileLimit}
 use Rattle.frames.specs.Kinds.{kindOf, iamKind}
 use Rattle.frames.specs.Lengths.{lengthFits}
 use Rattle.frames.specs.Messages.{iam1Of}
-use Rattle.offer.specs.declared.Fault.the-variants.{OtherError}
+use Rattle.offer.specs.declared.TagFault.the-variants.{OtherError}
 use Rattle.offer.specs.declared.Outcome.the-variants.{Replied, Refused}
 use Rattle.entry.specs.declared.State.the-variants.{IamInit}
 use Rattle.tag.specs.declared.Tag.{Tag}
@@ -21,7 +21,7 @@ use Rattle.tag.specs.States.{keyed, poweredUp, atRest, inTurn}
 use Rattle.ground.specs.Checks.{judgedTo}
 use Rattle.keytable.specs.Named.{hasKey}
 use Rattle.offer.specs.Records.{offered}
-use Rattle.offer.specs.Judged.{benchChecks, openingChecks}
+use Rattle.offer.specs.Judged.{lendingChecks, openingChecks}
 use Rattle.tag.specs.Answers.{effectOf, ofMessage, inOrder, byKind, iam1Answer, ifFine, replied, refused}
 use Rattle.tag.specs.Runs.{answerTo, run}
 use Rattle.tag.specs.Reactions.{steppedOf}
@@ -100,14 +100,14 @@ unanswered = record {
 
 one-call : (n : ℕ) → defined table bench [] user (Step (brings iam1 n) ∷ []) ≡ answered n ∷ []
 unfolding leftAll run answerTo eventsOf terms keysIn recordsIn keyOf bench cleared atRest inTurn judgedTo offered hasKey
-    benchChecks openingChecks effectOf ofMessage inOrder byKind iam1Answer ifFine replied refused kindOf iamKind
+    lendingChecks openingChecks effectOf ofMessage inOrder byKind iam1Answer ifFine replied refused kindOf iamKind
     lengthFits iam1Of keyLimit profileLimit
 one-call n = refl
 
 two-calls : (n : ℕ) → defined table bench [] user (Step (brings [] 0) ∷ Step (brings iam1 n) ∷ []) ≡ unanswered ∷
     answered n ∷ []
 unfolding leftAll run answerTo eventsOf terms keysIn recordsIn keyOf bench cleared atRest inTurn judgedTo offered hasKey
-    benchChecks openingChecks effectOf ofMessage inOrder byKind iam1Answer ifFine replied refused kindOf iamKind
+    lendingChecks openingChecks effectOf ofMessage inOrder byKind iam1Answer ifFine replied refused kindOf iamKind
     lengthFits iam1Of keyLimit profileLimit
 two-calls n = refl
 

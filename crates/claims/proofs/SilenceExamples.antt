@@ -27,7 +27,7 @@ use Rattle.entry.specs.Sessions.{cleared}
 use Rattle.tag.specs.States.{holding, atRest, inTurn, poweredUp}
 use Rattle.keytable.specs.Named.{hasKey, keyWith}
 use Rattle.offer.specs.Records.{offered, slotNamed}
-use Rattle.offer.specs.Judged.{benchChecks, openingChecks}
+use Rattle.offer.specs.Judged.{lendingChecks, openingChecks}
 use Rattle.tag.specs.Answers.{replied, ifFine, iam1Answer, byKind, inOrder, ofMessage, effectOf}
 use Rattle.tag.specs.Runs.{Event, Message, answerTo, run}
 use Rattle.claims.specs.Names.{carriesKeyid, namedBy, namedIn}
@@ -168,7 +168,7 @@ pub answered : (enc : List ℕ) (l : Key) (a b : ℕ) → answers (carrying (our
       identity = [];
       user = 1 ∷ 2 ∷ a ∷ b ∷ [];
     } ∷ []
-unfolding run answerTo poweredUp effectOf benchChecks judgedTo ofMessage inOrder kindOf iamKind offered inTurn atRest
+unfolding run answerTo poweredUp effectOf lendingChecks judgedTo ofMessage inOrder kindOf iamKind offered inTurn atRest
     cleared byKind iam1Answer iam1Of openingChecks lengthFits hasKey carrying ifFine replied
 answered enc l a b = refl
 

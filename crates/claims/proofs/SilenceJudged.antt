@@ -26,7 +26,7 @@ use Rattle.frames.specs.Lengths.{lengthFits, replyRoom}
 use Rattle.frames.specs.Modes.{hasMac, inMode, protModeOf}
 use Rattle.frames.specs.declared.ProtMode.{ProtMode}
 use Rattle.frames.proofs.Range.{both-right}
-use Rattle.offer.specs.declared.Fault.the-variants.{
+use Rattle.offer.specs.declared.TagFault.the-variants.{
   OtherError,
   NotSupported,
   MemoryOverrun,
@@ -35,13 +35,13 @@ use Rattle.offer.specs.declared.Fault.the-variants.{
   BenchFault,
 }
 use Rattle.entry.specs.declared.Session.{Session}
-use Rattle.offer.specs.declared.Verdict.the-variants.{Fine}
+use Rattle.offer.specs.declared.Checked.the-variants.{Fine}
 use Rattle.ground.specs.Checks.{_else_}
 use Rattle.offer.specs.Checks.{judged}
 use Rattle.keytable.specs.Named.{hasKey, keyWith}
 use Rattle.offer.specs.Records.{sizeOffered, revOffered, modeOffered, modeServed, modeSupported, slotNamed, blockAsked}
 use Rattle.entry.specs.Opened.{iamProof, mamProof, iam3Proof}
-use Rattle.offer.specs.Judged.{drawBytes, benchChecks, openingChecks}
+use Rattle.offer.specs.Judged.{drawBytes, lendingChecks, openingChecks}
 use Rattle.tam.specs.Judged.{tam2Checks}
 use Rattle.entry.specs.Judged.{iam2Checks, iam3Checks, mam2Checks}
 use Rattle.offer.proofs.Lines.{first-holds, others-hold}
@@ -67,10 +67,10 @@ module _ (named : ℕ → Bool) (s t : Setup) (alike : SetupsAlike named s t) wh
       (λ (mode : ProtMode). both (modeOffered (alike .features j) mode) (implies (hasMac mode) (finds keyid .mac j)))
       false
 
-  pub bench-alike : (draws room i u j v : ℕ) → i ≡ j → u ≡ v
-      → judged (benchChecks (s .sizes) draws room i u) ≡ judged (benchChecks (t .sizes) draws room j v)
-  unfolding benchChecks
-  bench-alike draws room i u j v e f k = judged
+  pub lending-alike : (draws room i u j v : ℕ) → i ≡ j → u ≡ v
+      → judged (lendingChecks (s .sizes) draws room i u) ≡ judged (lendingChecks (t .sizes) draws room j v)
+  unfolding lendingChecks
+  lending-alike draws room i u j v e f k = judged
       ((eqb draws drawBytes else BenchFault)
       ∷ (leb replyRoom room else BenchFault)
       ∷ (eqb (e k) (alike .sizes k .identity * 2) else BenchFault)

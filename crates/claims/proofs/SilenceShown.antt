@@ -6,9 +6,10 @@ use mathlib.Core.List.{List, [], _∷_, _++_, append-cancel-left, append-cancel-
 use Prim.Native.Nat.{ℕ, zero, suc, _/_, _%_}
 use native.Mathlib.Omega.{arith}
 use lib.ListN.{length, getD, replicate}
+use Rattle.ground.specs.Bytes.{twoBytes, bit}
 use Rattle.field.specs.Block.{xor}
 use Rattle.field.specs.Field.{times, remainder, polynomialProduct, productOfSquares, inverse}
-use Rattle.field.specs.Sbox.{sbox, affine, affineBit, fromBits, bit}
+use Rattle.field.specs.Sbox.{sbox, affine, affineBit, fromBits}
 use Rattle.aes.specs.Cipher.{subBytes, shiftRows, mixColumns, mixedByte}
 use Rattle.aes.specs.KeyExpansion.{roundConstant}
 use Rattle.aes.specs.NextRoundKey.{nextRoundKey}
@@ -19,7 +20,7 @@ use Rattle.memory.specs.Rights.{permitted}
 use Rattle.sheet.specs.declared.Key.{Key}
 use Rattle.frames.specs.Asked.{blockAsked as wordsAsked}
 use Rattle.frames.specs.Blocks.{blockBytes, dataLength, headerLength, headerPart, carried, dOf, blocksLength}
-use Rattle.frames.specs.Constants.{twoBytes, byMode, tam2Constant}
+use Rattle.frames.specs.Constants.{byMode, tam2Constant}
 use Rattle.frames.specs.Fields.{bytesFrom, sizeOf, selectCustom}
 use Rattle.frames.specs.Header.{headerStart, headerOf}
 use Rattle.frames.specs.Kinds.{kindOf, tamKind}
@@ -36,7 +37,7 @@ use Rattle.keytable.specs.Named.{hasKey, keyWith}
 use Rattle.offer.specs.Records.{offered, sizeOffered, revOffered, modeOffered, modeServed, modeSupported, slotNamed}
 use Rattle.offer.specs.Records.{blockAsked}
 use Rattle.tam.specs.Replies.{tamBlock, tam1Reply, tam2Body, tam2InMode, tam2Reply}
-use Rattle.offer.specs.Judged.{benchChecks, openingChecks}
+use Rattle.offer.specs.Judged.{lendingChecks, openingChecks}
 use Rattle.tam.specs.Judged.{tam2Checks}
 use Rattle.tag.specs.Answers.{replied, ifFine, tam1Answer, tam2Answer, byKind, inOrder, ofMessage, effectOf}
 use Rattle.tag.specs.Runs.{Event, Message, answerTo, run}
@@ -73,7 +74,7 @@ firstRows =
     ∷ []
 
 first-reply : aesEnc (bytes 0x000102030405060708090A0B0C0D0E0F) block ≡ bytes 0xE920530CC781B20CFE1AB4A0144E7335
-unfolding nextRoundKey roundConstant xor mixColumns mixedByte shiftRows subBytes sbox affine affineBit fromBits bit
+unfolding nextRoundKey roundConstant xor mixColumns mixedByte shiftRows subBytes sbox affine affineBit fromBits
     inverse productOfSquares times remainder polynomialProduct
 first-reply =
     traced (bytes 0x000102030405060708090A0B0C0D0E0F) block refl firstRows (bytes 0x13111D7FE3944A17F307A78B4D2B30C5)
@@ -109,7 +110,7 @@ secondRows =
     ∷ []
 
 second-reply : aesEnc (bytes 0x0A1B2C3D4E5F6A7B8C9D0E1F2AB3C4D5) block ≡ bytes 0x46E1F7B9B5A7951F828175344FD38EDB
-unfolding nextRoundKey roundConstant xor mixColumns mixedByte shiftRows subBytes sbox affine affineBit fromBits bit
+unfolding nextRoundKey roundConstant xor mixColumns mixedByte shiftRows subBytes sbox affine affineBit fromBits
     inverse productOfSquares times remainder polynomialProduct
 second-reply =
     traced (bytes 0x0A1B2C3D4E5F6A7B8C9D0E1F2AB3C4D5) block refl secondRows (bytes 0x11BCF69E19E5E239148BBBFAF2CB7C72)
@@ -149,7 +150,7 @@ answered : (enc : List ℕ) (l : Key) (a b : ℕ) → answers (carrying (ours en
           [];
       user = 1 ∷ 2 ∷ a ∷ b ∷ [];
     } ∷ []
-unfolding run answerTo poweredUp effectOf benchChecks judgedTo ofMessage inOrder kindOf tamKind offered inTurn byKind
+unfolding run answerTo poweredUp effectOf lendingChecks judgedTo ofMessage inOrder kindOf tamKind offered inTurn byKind
     tam1Answer tam1Of bytesFrom openingChecks lengthFits hasKey keyWith carrying ifFine replied tam1Reply tamBlock
     twoBytes
 answered enc l a b = refl
@@ -206,7 +207,7 @@ word-answered : (enc : List ℕ) (l : Key) (a b : ℕ) → answers (carrying (ou
           [];
       user = a ∷ b ∷ 3 ∷ 4 ∷ [];
     } ∷ []
-unfolding run answerTo poweredUp effectOf benchChecks judgedTo ofMessage inOrder kindOf tamKind offered inTurn byKind
+unfolding run answerTo poweredUp effectOf lendingChecks judgedTo ofMessage inOrder kindOf tamKind offered inTurn byKind
     tam2Answer tam2Of bytesFrom sizeOf selectCustom tam2Checks lengthFits sizeOffered revOffered modeSupported
     modeServed modeOffered protModeOf hasMac hasKey keyWith slotNamed blockAsked wordsAsked addressOf stepOf overruns profileEnd lastWord
     permitted windowOf areaOf partOf within carrying ifFine replied tam2Reply tam2InMode tam2Body tamBlock twoBytes byMode

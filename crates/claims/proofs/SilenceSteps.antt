@@ -19,14 +19,14 @@ use Rattle.frames.specs.Fields.{byte}
 use Rattle.frames.specs.Kinds.{kindOf}
 use Rattle.frames.specs.Lengths.{lengthFits}
 use Rattle.frames.specs.Messages.{tam1Of, tam2Of, iam1Of, iam2Of, iam3Of, mam1Of, mam2Of}
-use Rattle.offer.specs.declared.Fault.{Fault}
-use Rattle.offer.specs.declared.Fault.the-variants.{OtherError, NotSupported, OutOfTurn}
+use Rattle.offer.specs.declared.TagFault.{TagFault}
+use Rattle.offer.specs.declared.TagFault.the-variants.{OtherError, NotSupported, OutOfTurn}
 use Rattle.offer.specs.declared.Outcome.the-variants.{Replied, Entered}
 use Rattle.entry.specs.declared.Session.{Session}
 use Rattle.entry.specs.declared.State.{State}
 use Rattle.entry.specs.declared.State.the-variants.{Initial, IamInit, MamInit, IaOk}
-use Rattle.offer.specs.declared.Verdict.{Verdict}
-use Rattle.offer.specs.declared.Verdict.the-variants.{Fine, Wrong}
+use Rattle.offer.specs.declared.Checked.{Checked}
+use Rattle.offer.specs.declared.Checked.the-variants.{Fine, Wrong}
 use Rattle.offer.specs.Checks.{judged}
 use Rattle.entry.specs.Sessions.{cleared, entered}
 use Rattle.tag.specs.States.{holding, atRest, afterIam1, afterMam1, inTurn}
@@ -35,7 +35,7 @@ use Rattle.offer.specs.Records.{offered, blockAsked}
 use Rattle.tam.specs.Replies.{tam1Reply, tam2Reply}
 use Rattle.entry.specs.Replies.{mam1Reply}
 use Rattle.entry.specs.Opened.{purposeIn, openedData, wordsIn, sentBlock}
-use Rattle.offer.specs.Judged.{benchChecks}
+use Rattle.offer.specs.Judged.{lendingChecks}
 use Rattle.tam.specs.Judged.{tam2Checks}
 use Rattle.tag.specs.Answers.{
   Effect,
@@ -54,7 +54,7 @@ use Rattle.tag.specs.Answers.{
   byKind,
   inOrder,
   ofMessage,
-  ofBench,
+  ofLending,
   effectOf,
   answerWith,
 }
@@ -68,7 +68,7 @@ use Rattle.claims.proofs.SilenceWords.{asked-open, window-alike, same-i
 use Rattle.claims.proofs.SilenceJudged.{
   finds,
   block-alike,
-  bench-alike,
+  lending-alike,
   opening-alike,
   tam2-alike,
   iam2-alike,
@@ -146,7 +146,7 @@ module _ (named : ℕ → Bool) (s t : Setup) (alike : SetupsAlike named s t) (x
     pub same : SameAnswer x y (answerWith s a) (answerWith t b)
     pub holds : HeldNamed named (a .session)
 
-  refusal : (f : Fault) (held : Session) → HeldNamed named held → Step (refused c f held) (refused d f held)
+  refusal : (f : TagFault) (held : Session) → HeldNamed named held → Step (refused c f held) (refused d f held)
   unfolding refused
   refusal f held h = record {
     same = record {
@@ -160,7 +160,7 @@ module _ (named : ℕ → Bool) (s t : Setup) (alike : SetupsAlike named s t) (x
     holds = h;
   }
 
-  to-initial : (f : Fault) → Step (refused c f cleared) (refused d f cleared)
+  to-initial : (f : TagFault) → Step (refused c f cleared) (refused d f cleared)
   to-initial f = refusal f cleared (cleared-named named)
 
   reply-alike : (r q : List ℕ) (held : Session) → r ≡ q → HeldNamed named held
@@ -187,11 +187,11 @@ module _ (named : ℕ → Bool) (s t : Setup) (alike : SetupsAlike named s t) (x
         entered-named named;
   }
 
-  fine-alike : (v w : Verdict) (a b : Effect) → v ≡ w → (v ≡ Fine → Step a b) → Step (ifFine c v a) (ifFine d w b)
+  fine-alike : (v w : Checked) (a b : Effect) → v ≡ w → (v ≡ Fine → Step a b) → Step (ifFine c v a) (ifFine d w b)
   unfolding ifFine
-  fine-alike v w a b e h = subst (λ (z : Verdict). Step (ifFine c v a) (ifFine d z b)) e (as-judged v h)
+  fine-alike v w a b e h = subst (λ (z : Checked). Step (ifFine c v a) (ifFine d z b)) e (as-judged v h)
     where
-      as-judged : (z : Verdict) → (z ≡ Fine → Step a b) → Step (ifFine c z a) (ifFine d z b)
+      as-judged : (z : Checked) → (z ≡ Fine → Step a b) → Step (ifFine c z a) (ifFine d z b)
       as-judged Fine k = k refl
       as-judged (Wrong f) k = to-initial f
 
@@ -322,13 +322,13 @@ module _ (named : ℕ → Bool) (s t : Setup) (alike : SetupsAlike named s t) (x
       → Step (effectOf c (holding s held)) (effectOf d (holding t held))
   unfolding effectOf
   step-alike held h =
-      subst (λ (w : Verdict). Step (ofBench c s held v) (ofBench d t held w))
-      (bench-alike named s t alike (length (sent .draws)) (sent .room) _ _ _ _ (mem .identityLength) (mem .userLength))
+      subst (λ (w : Checked). Step (ofLending c s held v) (ofLending d t held w))
+      (lending-alike named s t alike (length (sent .draws)) (sent .room) _ _ _ _ (mem .identityLength) (mem .userLength))
       (judged-alike v)
     where
-      v : Verdict
-      v = judged (benchChecks (s .sizes) (length (sent .draws)) (sent .room) (length (x .identity)) (length (x .user)))
+      v : Checked
+      v = judged (lendingChecks (s .sizes) (length (sent .draws)) (sent .room) (length (x .identity)) (length (x .user)))
 
-      judged-alike : (z : Verdict) → Step (ofBench c s held z) (ofBench d t held z)
+      judged-alike : (z : Checked) → Step (ofLending c s held z) (ofLending d t held z)
       judged-alike Fine = message-step held h m refl
       judged-alike (Wrong f) = refusal f held h

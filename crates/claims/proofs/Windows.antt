@@ -27,9 +27,9 @@ use Rattle.frames.specs.declared.Custom.{Custom}
 use Rattle.frames.specs.Asked.{blockAsked as wordsAsked}
 use Rattle.frames.specs.Blocks.{dataLength}
 use Rattle.frames.proofs.Range.{both-right}
-use Rattle.offer.specs.declared.Verdict.the-variants.{Fine}
+use Rattle.offer.specs.declared.Checked.the-variants.{Fine}
 use Rattle.offer.specs.Checks.{judged}
-use Rattle.offer.specs.Judged.{benchChecks}
+use Rattle.offer.specs.Judged.{lendingChecks}
 use Rattle.offer.specs.Records.{slotNamed, blockAsked}
 use Rattle.offer.proofs.Lines.{first-holds, others-hold}
 use Rattle.tam.proofs.Tam2Asked.{asked-bytes}
@@ -52,13 +52,13 @@ ends-in z s (inr h) p =
     (both-right (leb (areaByte (s .profile .area)) 1) (both (leb 1 (s .profile .words)) (leb n w)) (h .1)))
 
 module _ (setup : Setup) (identity user : List ℕ) (draws room : ℕ)
-    (h : judged (benchChecks (setup .sizes) draws room (length identity) (length user)) ≡ Fine) where
+    (h : judged (lendingChecks (setup .sizes) draws room (length identity) (length user)) ≡ Fine) where
   bench-identity : length identity ≡ setup .sizes .identity * 2
-  unfolding benchChecks
+  unfolding lendingChecks
   bench-identity = eqb-true _ _ (first-holds _ _ (others-hold _ _ (others-hold _ _ h)))
 
   bench-user : length user ≡ setup .sizes .user * 2
-  unfolding benchChecks
+  unfolding lendingChecks
   bench-user = eqb-true _ _ (first-holds _ _ (others-hold _ _ (others-hold _ _ (others-hold _ _ h))))
 
   area-long : (a : Area) → length (areaOf a identity user) ≡ wordsIn (setup .sizes) (areaByte a) * 2

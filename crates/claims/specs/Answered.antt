@@ -9,23 +9,23 @@ use Prim.Native.Nat.{ℕ, _≤_}
 use lib.ListN.{length, replicate}
 use Rattle.modes.specs.declared.Chaining.{Chaining}
 use Rattle.modes.specs.Room as room
-use Rattle.sheet.specs.declared.Fault.{Fault as SheetFault}
+use Rattle.sheet.specs.declared.SheetFault.{SheetFault}
 use Rattle.sheet.specs.declared.Finding.the-variants.{Faulty}
-use Rattle.sheet.specs.declared.Kept.{Kept}
-use Rattle.sheet.specs.declared.Verdict.the-variants.{Refused as NoSheet}
+use Rattle.sheet.specs.declared.Gathered.{Gathered}
+use Rattle.sheet.specs.declared.SheetVerdict.the-variants.{Refused as NoSheet}
 use Rattle.sheet.specs.Kinds as sheet
 use Rattle.sheet.specs.Setups.{emptyTerms}
 use Rattle.sheet.specs.Judgement.{judgedOf}
 use Rattle.sheet.specs.Limits.{keyLimit}
 use Rattle.sheet.specs.Sheet.{readOf}
 use Rattle.frames.specs.Built.{Built}
-use Rattle.offer.specs.declared.Fault.{Fault as TagFault}
+use Rattle.offer.specs.declared.TagFault.{TagFault}
 use Rattle.offer.specs.declared.Outcome.the-variants.{Refused as NoReply}
 use Rattle.tag.specs.declared.Tag.{Tag}
 use Rattle.offer.specs.Outcomes as outcomes
 use Rattle.tag.specs.States.{sessionAfter}
 use Rattle.tag.specs.Plays.{Brought, Left, Called}
-use Rattle.reader.specs.declared.Fault.{Fault as ReaderFault}
+use Rattle.reader.specs.declared.ReaderFault.{ReaderFault}
 use Rattle.reader_judge.specs.declared.Judgement.{Judgement}
 use Rattle.reader.specs.declared.Keys.{Keys}
 use Rattle.reader_build.specs.declared.Made.{Made}
@@ -99,9 +99,9 @@ SheetAnswers =
 -- `sheet::judge`: a record that is refused leaves what was kept.
 abbrev pub RecordAnswers : Type 0
 RecordAnswers =
-    (s : List ℕ) (k : Kept) (f : SheetFault)
+    (s : List ℕ) (k : Gathered) (f : SheetFault)
     → judgedOf keyLimit s k .finding ≡ Faulty f
-    → FromTo 30 35 (sheet.numberOf f) × (judgedOf keyLimit s k .kept ≡ k)
+    → FromTo 30 35 (sheet.numberOf f) × (judgedOf keyLimit s k .gathered ≡ k)
 
 -- ---- chaining and MAC, and the parts of messages
 

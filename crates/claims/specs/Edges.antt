@@ -19,7 +19,7 @@ use Rattle.sheet.specs.Sheet.{readNumber, readPlace}
 use Rattle.frames.specs.declared.Iam3.{Iam3}
 use Rattle.frames.specs.Fields.{sizeOf}
 use Rattle.frames.specs.Messages.{iam3Of}
-use Rattle.offer.specs.declared.Fault.the-variants.{MemoryOverrun}
+use Rattle.offer.specs.declared.TagFault.the-variants.{MemoryOverrun}
 use Rattle.offer.specs.Outcomes.{numberOf}
 
 -- (7): the fields of a head.

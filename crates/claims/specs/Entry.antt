@@ -16,13 +16,14 @@ use Rattle.frames.specs.declared.Kind.the-variants.{Iam2, Mam2, Iam3}
 use Rattle.sheet.specs.declared.Key.{Key}
 use Rattle.sheet.specs.Setups.{Setup}
 use Rattle.tag.specs.States.{KeyedTag}
-use Rattle.offer.specs.declared.Verdict.the-variants.{Fine}
+use Rattle.offer.specs.declared.Checked.the-variants.{Fine}
 use Rattle.offer.specs.Checks.{judged}
-use Rattle.offer.specs.Judged.{benchChecks}
+use Rattle.offer.specs.Judged.{lendingChecks}
 use Rattle.tag.specs.States.{inTurn}
 use Rattle.keytable.specs.Named.{keyWith}
 use Rattle.offer.specs.Records.{offered, slotNamed, sizeOffered, modeSupported, blockAsked}
 use Rattle.tag.specs.Answers.{Call, letIn, answerWith, answerOf}
+use Rattle.claims.specs.HasKeys.{HasKeys}
 use Rattle.reader.specs.declared.Keys.{Keys}
 use Rattle.reader_build.specs.Builds.{purposeFits, iam2Made, mam2Made, iam3Made, iam3Fits}
 
@@ -31,15 +32,14 @@ pub record Array (n : ℕ) (s : List ℕ) : Type 0 where
   pub long : length s ≡ n
   pub bytes : Bytes s
 
--- The reader has the keys of the record.
+-- The reader has the keys of the record, whose ENC_key is sixteen bytes.
 pub record Knows (keys : Keys) (key : Key) : Type 0 where
-  pub enc : keys .enc ≡ key .enc
-  pub mackey : keys .mackey ≡ key .mackey
+  pub has : HasKeys keys key
   pub array : Array 16 (key .enc)
 
 -- The bench lends what it must, the tag offers the message, and waits for it (Annex A).
 pub record Waits (c : Call) (tag : KeyedTag) (kind : Kind) : Type 0 where
-  pub bench : judged (benchChecks (tag .setup .sizes) (length (c .draws)) (c .room) (length (c .identity))
+  pub bench : judged (lendingChecks (tag .setup .sizes) (length (c .draws)) (c .room) (length (c .identity))
       (length (c .user))) ≡ Fine
   pub there : offered (tag .setup .features) kind ≡ true
   pub turn : inTurn (tag .session .state) kind ≡ true

@@ -1,4 +1,5 @@
 -- What holds of the two halves together, and the demands.
+pub mod HasKeys
 pub mod Entry
 pub mod Recovery
 pub mod Answered

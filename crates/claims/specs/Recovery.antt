@@ -27,6 +27,7 @@ use Rattle.keytable.specs.Named.{keyWith}
 use Rattle.offer.specs.Records.{blockAsked}
 use Rattle.tag.specs.Reactions.{lent}
 use Rattle.tag.specs.Plays.{Brought, Left, Called}
+use Rattle.claims.specs.HasKeys.{HasKeys}
 use Rattle.reader_judge.specs.declared.Judgement.{Judgement}
 use Rattle.reader_judge.specs.declared.Worth.{Worth}
 use Rattle.reader_judge.specs.declared.Worth.the-variants.{NoData}
@@ -55,11 +56,10 @@ keyidUsed tag m Unsupported = 0
 abbrev pub keyUsed : KeyedTag → List ℕ → Key
 keyUsed tag m = keyWith (keyidUsed tag m (kindOf (byte m 0))) (tag .setup .keys)
 
--- The reader has the keys of a record.
+-- The reader has the keys of a record, and knows whether it has one for a MAC.
 pub record Shares (keys : Keys) (key : Key) : Type 0 where
-  pub enc : keys .enc ≡ key .enc
+  pub has : HasKeys keys key
   pub mac : keys .mac ≡ key .mac
-  pub mackey : keys .mackey ≡ key .mackey
 
 -- What is lent and what is sent are bytes, and the setup is one that a sheet says.
 pub record Fit (c : Call) (tag : KeyedTag) (keys : Keys) : Type 0 where

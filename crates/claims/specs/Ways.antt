@@ -11,7 +11,7 @@ use Rattle.frames.specs.declared.ProtMode.{ProtMode}
 use Rattle.frames.specs.Modes.{inMode, protModeOf}
 use Rattle.sheet.specs.Setups.{Setup}
 use Rattle.entry.specs.declared.Session.{Session}
-use Rattle.offer.specs.declared.Verdict.the-variants.{Fine}
+use Rattle.offer.specs.declared.Checked.the-variants.{Fine}
 use Rattle.offer.specs.Checks.{judged}
 use Rattle.entry.specs.Judged.{iam2Checks, iam3Checks, mam2Checks}
 use Rattle.keytable.specs.Named.{keyWith}

@@ -13,10 +13,10 @@ use Rattle.frames.specs.Messages.{iam1Of, mam1Of}
 use Rattle.octets.proofs.Parts.{bytes-length}
 use Rattle.payload.proofs.Bytes.{last-four}
 use Rattle.payload.proofs.Overs.{over-all}
-use Rattle.offer.specs.declared.Fault.{Fault}
+use Rattle.offer.specs.declared.TagFault.{TagFault}
 use Rattle.offer.specs.declared.Outcome.the-variants.{Replied, Refused}
-use Rattle.offer.specs.declared.Verdict.{Verdict}
-use Rattle.offer.specs.declared.Verdict.the-variants.{Fine, Wrong}
+use Rattle.offer.specs.declared.Checked.{Checked}
+use Rattle.offer.specs.declared.Checked.the-variants.{Fine, Wrong}
 use Rattle.offer.specs.Outcomes.{settled, sending, sent}
 use Rattle.offer.specs.Checks.{judged}
 use Rattle.offer.specs.Judged.{openingChecks}
@@ -26,40 +26,40 @@ use Rattle.entry.specs.declared.State.the-variants.{IamInit, MamInit}
 use Rattle.entry.specs.declared.Challenged.{Challenged}
 use Rattle.entry.specs.Sessions.{cleared}
 use Rattle.entry.specs.Replies.{mam1Reply}
-use Rattle.entry.specs.Given.{Challenges, challengeRoom, iam1Verdict, iam1Held, mam1Verdict, mam1Sent, mam1Held}
+use Rattle.entry.specs.Given.{Challenges, challengeRoom, iam1Checked, iam1Held, mam1Checked, mam1Sent, mam1Held}
 use Rattle.entry.proofs.Mam1Reply.{mam1-long}
 
 abbrev zeros : List ℕ
 zeros = replicate challengeRoom 0
 
 -- What `unchallenged` of the code gives.
-abbrev Silent : Challenged → Fault → Type 0
+abbrev Silent : Challenged → TagFault → Type 0
 Silent r f = (r .outcome ≡ Refused f) × (r .session ≡ cleared) × (r .reply ≡ zeros)
 
-module _ (v : Verdict) (bytes : List ℕ) (next : Session) (r : Challenged) where
-  refuses : (f : Fault) → v ≡ Wrong f → Silent r f → Challenges v bytes next r
+module _ (v : Checked) (bytes : List ℕ) (next : Session) (r : Challenged) where
+  refuses : (f : TagFault) → v ≡ Wrong f → Silent r f → Challenges v bytes next r
   refuses f e t = record {
-    outcome = t .0 ∙ ap (λ (w : Verdict). sending w bytes) (sym e);
-    session = t .1 ∙ ap (λ (w : Verdict). settled w next (λ f. cleared)) (sym e);
-    reply = t .2 ∙ ap (λ (w : Verdict). over (sent w bytes) zeros) (sym e);
+    outcome = t .0 ∙ ap (λ (w : Checked). sending w bytes) (sym e);
+    session = t .1 ∙ ap (λ (w : Checked). settled w next (λ f. cleared)) (sym e);
+    reply = t .2 ∙ ap (λ (w : Checked). over (sent w bytes) zeros) (sym e);
   }
 
   challenges : v ≡ Fine → r .outcome ≡ Replied (length bytes) → r .session ≡ next → r .reply ≡ over bytes zeros
       → Challenges v bytes next r
   challenges e o s h = record {
-    outcome = o ∙ ap (λ (w : Verdict). sending w bytes) (sym e);
-    session = s ∙ ap (λ (w : Verdict). settled w next (λ f. cleared)) (sym e);
-    reply = h ∙ ap (λ (w : Verdict). over (sent w bytes) zeros) (sym e);
+    outcome = o ∙ ap (λ (w : Checked). sending w bytes) (sym e);
+    session = s ∙ ap (λ (w : Checked). settled w next (λ f. cleared)) (sym e);
+    reply = h ∙ ap (λ (w : Checked). over (sent w bytes) zeros) (sym e);
   }
 
-module _ (keys : List Key) (m draws : List ℕ) (v : Verdict) where
+module _ (keys : List Key) (m draws : List ℕ) (v : Checked) where
   -- IAM1
   module _ (f : Iam1Fields) (e : f ≡ iam1Of m) (w : v ≡ judged (openingChecks Iam1 (f .rfu) (f .keyid) keys m)) where
-    iam1-judged : iam1Verdict keys m ≡ v
+    iam1-judged : iam1Checked keys m ≡ v
     iam1-judged = sym (w ∙ (λ j. judged (openingChecks Iam1 (e j .rfu) (e j .keyid) keys m)))
 
-    pub iam1-wrong : (fault : Fault) (r : Challenged) → v ≡ Wrong fault → Silent r fault
-        → Challenges (iam1Verdict keys m) draws (iam1Held m draws) r
+    pub iam1-wrong : (fault : TagFault) (r : Challenged) → v ≡ Wrong fault → Silent r fault
+        → Challenges (iam1Checked keys m) draws (iam1Held m draws) r
     iam1-wrong fault r x t = refuses _ draws (iam1Held m draws) r fault (iam1-judged ∙ x) t
 
     abbrev iam1Session : Session
@@ -67,7 +67,7 @@ module _ (keys : List Key) (m draws : List ℕ) (v : Verdict) where
 
     pub iam1-fine : (after : List ℕ) → length draws ≡ 10 → v ≡ Fine
         → after ≡ take (length draws) draws ++ drop (length draws) zeros
-        → Challenges (iam1Verdict keys m) draws (iam1Held m draws)
+        → Challenges (iam1Checked keys m) draws (iam1Held m draws)
         (record { outcome = Replied 10; session = iam1Session; reply = after })
     iam1-fine after ten x h =
         challenges _ draws (iam1Held m draws) _ (iam1-judged ∙ x) (ap Replied (sym ten))
@@ -76,11 +76,11 @@ module _ (keys : List Key) (m draws : List ℕ) (v : Verdict) where
 
   -- MAM1
   module _ (f : Mam1Fields) (e : f ≡ mam1Of m) (w : v ≡ judged (openingChecks Mam1 (f .rfu) (f .keyid) keys m)) where
-    mam1-judged : mam1Verdict keys m ≡ v
+    mam1-judged : mam1Checked keys m ≡ v
     mam1-judged = sym (w ∙ (λ j. judged (openingChecks Mam1 (e j .rfu) (e j .keyid) keys m)))
 
-    pub mam1-wrong : (fault : Fault) (r : Challenged) → v ≡ Wrong fault → Silent r fault
-        → Challenges (mam1Verdict keys m) (mam1Sent keys m draws) (mam1Held m draws) r
+    pub mam1-wrong : (fault : TagFault) (r : Challenged) → v ≡ Wrong fault → Silent r fault
+        → Challenges (mam1Checked keys m) (mam1Sent keys m draws) (mam1Held m draws) r
     mam1-wrong fault r x t = refuses _ (mam1Sent keys m draws) (mam1Held m draws) r fault (mam1-judged ∙ x) t
 
     mam1-ten : length (mam1Of m .ichallenge) ≡ 10
@@ -97,7 +97,7 @@ module _ (keys : List Key) (m draws : List ℕ) (v : Verdict) where
 
     pub mam1-fine : (k : Key) (reply : List ℕ) → length draws ≡ 10 → v ≡ Fine → k ≡ keyWith (f .keyid) keys
         → reply ≡ mam1Reply k f draws
-        → Challenges (mam1Verdict keys m) (mam1Sent keys m draws) (mam1Held m draws)
+        → Challenges (mam1Checked keys m) (mam1Sent keys m draws) (mam1Held m draws)
         (record { outcome = Replied 22; session = mam1Session; reply = reply })
     mam1-fine k reply ten x ke re =
         let full : k ≡ keyWith (mam1Of m .keyid) keys = ke ∙ (λ j. keyWith (e j .keyid) keys) in

@@ -23,11 +23,11 @@ use Rattle.frames.specs.Blocks.{blocksLength}
 use Rattle.frames.specs.Constants.{C-IAM2}
 use Rattle.frames.specs.Lengths.{iam3HeadLength, iam3MacAt, iam3Length}
 use Rattle.frames.specs.Messages.{iam2Of, iam3Of, mam2Of}
-use Rattle.offer.specs.declared.Fault.{Fault}
-use Rattle.offer.specs.declared.Fault.the-variants.{ProofWrong}
+use Rattle.offer.specs.declared.TagFault.{TagFault}
+use Rattle.offer.specs.declared.TagFault.the-variants.{ProofWrong}
 use Rattle.offer.specs.declared.Outcome.the-variants.{Entered, Refused}
-use Rattle.offer.specs.declared.Verdict.{Verdict}
-use Rattle.offer.specs.declared.Verdict.the-variants.{Fine, Wrong}
+use Rattle.offer.specs.declared.Checked.{Checked}
+use Rattle.offer.specs.declared.Checked.the-variants.{Fine, Wrong}
 use Rattle.offer.specs.Outcomes.{settled}
 use Rattle.offer.specs.Checks.{judged}
 use Rattle.keytable.specs.Named.{keyWith}
@@ -38,34 +38,34 @@ use Rattle.entry.specs.declared.Session.{Session}
 use Rattle.entry.specs.Sessions.{cleared, entered}
 use Rattle.entry.specs.Opened.{iamProof, mamProof, purposeIn, iam3Proof}
 use Rattle.entry.specs.Judged.{iam2Checks, mam2Checks, iam3Checks, closingChecks, iam3FieldChecks}
-use Rattle.entry.specs.Given.{LetsIn, Writes, iam2Verdict, iam2Purpose, iam3Verdict, iam3Purpose, iam3Stored}
-use Rattle.entry.specs.Given.{mam2Verdict, mam2Purpose}
+use Rattle.entry.specs.Given.{LetsIn, Writes, iam2Checked, iam2Purpose, iam3Checked, iam3Purpose, iam3Stored}
+use Rattle.entry.specs.Given.{mam2Checked, mam2Purpose}
 use Rattle.entry.specs.Decided.{ProofDecides}
 use Rattle.entry.proofs.Passed.{iam3-length}
 
 -- What `refused` and `let_in` of the code give.
-abbrev pub Turned : Reacted → Fault → Type 0
+abbrev pub Turned : Reacted → TagFault → Type 0
 Turned r f = (r .outcome ≡ Refused f) × (r .session ≡ cleared)
 
 abbrev pub Entering : Reacted → ℕ → Type 0
 Entering r purpose = (r .outcome ≡ Entered purpose) × (r .session ≡ entered)
 
-module _ (v : Verdict) (purpose : ℕ) (r : Reacted) where
-  told : (w : Verdict) → v ≡ w → r .outcome ≡ settled w (Entered purpose) Refused
+module _ (v : Checked) (purpose : ℕ) (r : Reacted) where
+  told : (w : Checked) → v ≡ w → r .outcome ≡ settled w (Entered purpose) Refused
       → r .session ≡ settled w entered (λ f. cleared) → LetsIn v purpose r
   told w e o s = record {
-    outcome = o ∙ ap (λ (x : Verdict). settled x (Entered purpose) Refused) (sym e);
-    session = s ∙ ap (λ (x : Verdict). settled x entered (λ f. cleared)) (sym e);
+    outcome = o ∙ ap (λ (x : Checked). settled x (Entered purpose) Refused) (sym e);
+    session = s ∙ ap (λ (x : Checked). settled x entered (λ f. cleared)) (sym e);
   }
 
-  pub turns-away : (f : Fault) → v ≡ Wrong f → Turned r f → LetsIn v purpose r
+  pub turns-away : (f : TagFault) → v ≡ Wrong f → Turned r f → LetsIn v purpose r
   turns-away f e t = told (Wrong f) e (t .0) (t .1)
 
   lets-in : v ≡ Fine → Entering r purpose → LetsIn v purpose r
   lets-in e t = told Fine e (t .0) (t .1)
 
 -- a proof from an opened block, in its line
-closing : (P : List ℕ → Bool) (kind : Kind) (m enc enc′ x x′ b : List ℕ) (rfu rfu′ : ℕ) (proof : Bool) (v : Verdict)
+closing : (P : List ℕ → Bool) (kind : Kind) (m enc enc′ x x′ b : List ℕ) (rfu rfu′ : ℕ) (proof : Bool) (v : Checked)
     → enc ≡ enc′ → x ≡ x′ → rfu ≡ rfu′ → b ≡ aesEnc enc x → proof ≡ P b → v ≡ judged (closingChecks proof rfu kind m)
     → judged (closingChecks (P (aesEnc enc′ x′)) rfu′ kind m) ≡ v
 closing P kind m enc enc′ x x′ b rfu rfu′ proof v e f g h p w =
@@ -74,24 +74,24 @@ closing P kind m enc enc′ x x′ b rfu rfu′ proof v e f g h p w =
     sym (w ∙ (λ j. judged (closingChecks (told j) (g j) kind m)))
 
 module _ (keys : List Key) (held : Session) (m : List ℕ) (k : Key) (ke : k ≡ keyWith (held .keyid) keys)
-    (b : List ℕ) (proof : Bool) (v : Verdict)
+    (b : List ℕ) (proof : Bool) (v : Checked)
   where
     -- IAM2
     module _ (f : Iam2Fields) (e : f ≡ iam2Of m) (be : b ≡ aesEnc (k .enc) (f .iresponse))
         (pe : proof ≡ iamProof C-IAM2 held b) (w : v ≡ judged (closingChecks proof (f .rfu) Iam2 m))
       where
-        iam2-judged : iam2Verdict keys held m ≡ v
+        iam2-judged : iam2Checked keys held m ≡ v
         unfolding iam2Checks
         iam2-judged =
             closing (iamProof C-IAM2 held) Iam2 m (k .enc) _ (f .iresponse) _ b (f .rfu) _ proof v (λ j. ke j .enc)
             (λ j. e j .iresponse) (λ j. e j .rfu) be pe w
 
-        pub iam2-wrong : (fault : Fault) (r : Reacted) → v ≡ Wrong fault → Turned r fault
-            → LetsIn (iam2Verdict keys held m) (iam2Purpose keys held m) r
+        pub iam2-wrong : (fault : TagFault) (r : Reacted) → v ≡ Wrong fault → Turned r fault
+            → LetsIn (iam2Checked keys held m) (iam2Purpose keys held m) r
         iam2-wrong fault r x t = turns-away _ (iam2Purpose keys held m) r fault (iam2-judged ∙ x) t
 
         pub iam2-fine : (purpose : ℕ) (r : Reacted) → v ≡ Fine → purpose ≡ purposeIn b → Entering r purpose
-            → LetsIn (iam2Verdict keys held m) (iam2Purpose keys held m) r
+            → LetsIn (iam2Checked keys held m) (iam2Purpose keys held m) r
         iam2-fine purpose r x q t =
             let told : purpose ≡ iam2Purpose keys held m =
             q ∙ ap purposeIn (be ∙ (λ j. aesEnc (ke j .enc) (e j .iresponse))) in
@@ -101,18 +101,18 @@ module _ (keys : List Key) (held : Session) (m : List ℕ) (k : Key) (ke : k ≡
     module _ (f : Mam2Fields) (e : f ≡ mam2Of m) (be : b ≡ aesEnc (k .enc) (f .iresponse))
         (pe : proof ≡ mamProof held b) (w : v ≡ judged (closingChecks proof (f .rfu) Mam2 m))
       where
-        mam2-judged : mam2Verdict keys held m ≡ v
+        mam2-judged : mam2Checked keys held m ≡ v
         unfolding mam2Checks
         mam2-judged =
             closing (mamProof held) Mam2 m (k .enc) _ (f .iresponse) _ b (f .rfu) _ proof v (λ j. ke j .enc)
             (λ j. e j .iresponse) (λ j. e j .rfu) be pe w
 
-        pub mam2-wrong : (fault : Fault) (r : Reacted) → v ≡ Wrong fault → Turned r fault
-            → LetsIn (mam2Verdict keys held m) (mam2Purpose keys held m) r
+        pub mam2-wrong : (fault : TagFault) (r : Reacted) → v ≡ Wrong fault → Turned r fault
+            → LetsIn (mam2Checked keys held m) (mam2Purpose keys held m) r
         mam2-wrong fault r x t = turns-away _ (mam2Purpose keys held m) r fault (mam2-judged ∙ x) t
 
         pub mam2-fine : (purpose : ℕ) (r : Reacted) → v ≡ Fine → purpose ≡ purposeIn b → Entering r purpose
-            → LetsIn (mam2Verdict keys held m) (mam2Purpose keys held m) r
+            → LetsIn (mam2Checked keys held m) (mam2Purpose keys held m) r
         mam2-fine purpose r x q t =
             let told : purpose ≡ mam2Purpose keys held m =
             q ∙ ap purposeIn (be ∙ (λ j. aesEnc (ke j .enc) (e j .iresponse))) in
@@ -121,7 +121,7 @@ module _ (keys : List Key) (held : Session) (m : List ℕ) (k : Key) (ke : k ≡
 -- ---- IAM3
 
 -- its blocks are there once its fields were judged
-pub iam3-whole : (terms : Terms) (k : Key) (m : List ℕ) (f : Iam3Fields) (v : Verdict)
+pub iam3-whole : (terms : Terms) (k : Key) (m : List ℕ) (f : Iam3Fields) (v : Checked)
     → v ≡ judged (iam3FieldChecks terms k m) → v ≡ Fine → f ≡ iam3Of m
     → iam3HeadLength + blocksLength (f .custom .blocksize) true (f .custom .blockcount) ≤ length m
 unfolding iam3Length iam3MacAt
@@ -142,7 +142,7 @@ by-proof false purpose stored i u r i′ u′ o s p q =
     record { letsIn = record { outcome = o; session = s }; inIdentity = p; inUser = q }
 
 module _ (setup : Setup) (held : Session) (m : List ℕ) (k : Key) (ke : k ≡ keyWith (held .keyid) (setup .keys))
-    (v : Verdict) (w : v ≡ judged (iam3FieldChecks (termsOf setup) k m)) (i u : List ℕ)
+    (v : Checked) (w : v ≡ judged (iam3FieldChecks (termsOf setup) k m)) (i u : List ℕ)
   where
     abbrev named : Key
     named = keyWith (held .keyid) (setup .keys)
@@ -151,18 +151,18 @@ module _ (setup : Setup) (held : Session) (m : List ℕ) (k : Key) (ke : k ≡ k
     fields-judged = sym (w ∙ (λ j. judged (iam3FieldChecks (termsOf setup) (ke j) m)))
 
     abbrev Written : Reacted → List ℕ → List ℕ → Type 0
-    Written = Writes (iam3Verdict setup held m) (iam3Purpose setup held m) (iam3Stored setup held m) i u
+    Written = Writes (iam3Checked setup held m) (iam3Purpose setup held m) (iam3Stored setup held m) i u
 
     -- a fault of the fields is the fault of the message
-    pub iam3-refused : (fault : Fault) (r : Reacted) → v ≡ Wrong fault → Turned r fault → Written r i u
+    pub iam3-refused : (fault : TagFault) (r : Reacted) → v ≡ Wrong fault → Turned r fault → Written r i u
     unfolding iam3Checks
     iam3-refused fault r x t =
-        let wrong : iam3Verdict setup held m ≡ Wrong fault =
+        let wrong : iam3Checked setup held m ≡ Wrong fault =
         then-wrong _ fault (iam3FieldChecks (termsOf setup) named m) (fields-judged ∙ x) in
         record {
           letsIn = turns-away _ (iam3Purpose setup held m) r fault wrong t;
-          inIdentity = ap (λ (y : Verdict). settled y (iam3Stored setup held m Identity i) (λ f. i)) (sym wrong);
-          inUser = ap (λ (y : Verdict). settled y (iam3Stored setup held m User u) (λ f. u)) (sym wrong);
+          inIdentity = ap (λ (y : Checked). settled y (iam3Stored setup held m Identity i) (λ f. i)) (sym wrong);
+          inUser = ap (λ (y : Checked). settled y (iam3Stored setup held m User u) (λ f. u)) (sym wrong);
         }
 
     module _ (f : Iam3Fields) (e : f ≡ iam3Of m) (b : Block) (be : b ≡ blockAsked (setup .profiles) (f .custom)) where
@@ -172,13 +172,13 @@ module _ (setup : Setup) (held : Session) (m : List ℕ) (k : Key) (ke : k ≡ k
       abbrev proof : Bool
       proof = iam3Proof named held (iam3Of m) m
 
-      decides : iam3Verdict setup held m ≡ pick proof Fine (Wrong ProofWrong) → v ≡ Fine → (r : Reacted)
+      decides : iam3Checked setup held m ≡ pick proof Fine (Wrong ProofWrong) → v ≡ Fine → (r : Reacted)
           (i′ u′ : List ℕ) → ProofDecides k held f b m i u r i′ u′ → Written r i′ u′
       decides d x r i′ u′ h =
           let h1 = subst (λ (x : Key). ProofDecides x held f b m i u r i′ u′) ke h in
           let h2 = subst (λ (g : Iam3Fields). ProofDecides named held g b m i u r i′ u′) e h1 in
           let s = subst (λ (y : Block). ProofDecides named held (iam3Of m) y m i u r i′ u′) asked h2 in
-          subst (λ (y : Verdict). Writes y (iam3Purpose setup held m) (iam3Stored setup held m) i u r i′ u′) (sym d)
+          subst (λ (y : Checked). Writes y (iam3Purpose setup held m) (iam3Stored setup held m) i u r i′ u′) (sym d)
           (by-proof proof (iam3Purpose setup held m) (iam3Stored setup held m) i u r i′ u′ (s .outcome) (s .session)
           (s .inIdentity) (s .inUser))
 

@@ -4,4 +4,4 @@ pub mod Passed
 pub mod Mam1Reply
 pub mod Challenging
 pub mod Giving
-pub mod Fits
+pub mod Unique

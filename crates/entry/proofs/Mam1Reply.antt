@@ -5,12 +5,12 @@ use Prim.Native.Nat.{ℕ}
 use native.Mathlib.Omega.{arith}
 use lib.ListN.{length, getD, take, drop, length-append, length-drop}
 use lib.Seq.{length-take-le}
-use Rattle.ground.specs.Bytes.{Bytes}
+use Rattle.ground.specs.Bytes.{Bytes, twoBytes}
 use Rattle.aes.specs.AesEnc.{aesEnc}
 use Rattle.modes.proofs.Whole.{bytes-take}
 use Rattle.sheet.specs.declared.Key.{Key}
 use Rattle.frames.specs.declared.Mam1.{Mam1}
-use Rattle.frames.specs.Constants.{C-MAM1, twoBytes}
+use Rattle.frames.specs.Constants.{C-MAM1}
 use Rattle.frames.specs.Lengths.{mam1ReplyLength}
 use Rattle.frames.specs.Messages.{mam1Of}
 use Rattle.payload.proofs.Bytes.{last-four, joined-bytes}

@@ -12,7 +12,7 @@ use Rattle.sheet.specs.declared.Terms.{Terms}
 use Rattle.frames.specs.declared.Kind.the-variants.{Iam3}
 use Rattle.frames.specs.Messages.{iam3Of}
 use Rattle.frames.specs.Lengths.{iam3FieldsLength, iam3Length, lengthFits, iam3LengthFits}
-use Rattle.offer.specs.declared.Verdict.the-variants.{Fine}
+use Rattle.offer.specs.declared.Checked.the-variants.{Fine}
 use Rattle.offer.specs.Checks.{judged}
 use Rattle.offer.specs.Records.{sizeOffered, modeSupported, slotNamed, blockAsked}
 use Rattle.offer.proofs.Lines.{first-holds, others-hold}

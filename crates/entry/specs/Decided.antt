@@ -10,7 +10,7 @@ use Rattle.memory.specs.declared.Block.{Block}
 use Rattle.memory.specs.Areas.{storedIn}
 use Rattle.sheet.specs.declared.Key.{Key}
 use Rattle.frames.specs.declared.Iam3.{Iam3}
-use Rattle.offer.specs.declared.Fault.the-variants.{ProofWrong}
+use Rattle.offer.specs.declared.TagFault.the-variants.{ProofWrong}
 use Rattle.offer.specs.declared.Outcome.the-variants.{Entered, Refused}
 use Rattle.entry.specs.declared.Session.{Session}
 use Rattle.entry.specs.declared.Reacted.{Reacted}

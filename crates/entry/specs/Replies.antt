@@ -3,10 +3,11 @@
 use Prim.Native.Nat.{ℕ}
 use mathlib.Core.List.{List, _++_}
 use lib.ListN.{take, drop}
+use Rattle.ground.specs.Bytes.{twoBytes}
 use Rattle.aes.specs.AesEnc.{aesEnc}
 use Rattle.sheet.specs.declared.Key.{Key}
 use Rattle.frames.specs.declared.Mam1.{Mam1}
-use Rattle.frames.specs.Constants.{C-MAM1, twoBytes}
+use Rattle.frames.specs.Constants.{C-MAM1}
 
 -- Table 24: constant, the last 32 bits of TChallenge, IChallenge, encrypted; then the first 48 bits of TChallenge in
 -- the clear.

@@ -6,9 +6,9 @@ use frames::fields::iam2_of;
 use frames::fields::iam3_of;
 use frames::fields::mam1_of;
 use frames::fields::mam2_of;
-use offer::Fault;
+use offer::TagFault;
 use offer::Outcome;
-use offer::Verdict;
+use offer::Checked;
 use offer::records;
 use sheet::Terms;
 ghost use mathlib.Core.Path.{_≡_};
@@ -17,8 +17,8 @@ ghost use Rattle.sheet.specs.KeyTable.{keysIn};
 ghost use Rattle.sheet.specs.Setups.{setupOf};
 ghost use Rattle.entry.specs.Sessions.{cleared, entered};
 ghost use Rattle.entry.specs.Given.{Challenges, challengeRoom, LetsIn, Writes};
-ghost use Rattle.entry.specs.Given.{iam1Verdict, iam1Held, iam2Verdict, iam2Purpose, iam3Verdict, iam3Purpose};
-ghost use Rattle.entry.specs.Given.{iam3Stored, mam1Verdict, mam1Sent, mam1Held, mam2Verdict, mam2Purpose};
+ghost use Rattle.entry.specs.Given.{iam1Checked, iam1Held, iam2Checked, iam2Purpose, iam3Checked, iam3Purpose};
+ghost use Rattle.entry.specs.Given.{iam3Stored, mam1Checked, mam1Sent, mam1Held, mam2Checked, mam2Purpose};
 
 mod judged; // judged.rt: the checks of IAM2, MAM2 and IAM3, in their order
 mod replies; // replies.rt: what the tag sends
@@ -84,7 +84,7 @@ fn entered() -> Session
 /// Numbers 1 to 6 end in Initial.
 ///
 /// Ruled out: another number; a state that stays.
-pub fn refused(fault: Fault) -> Reacted
+pub fn refused(fault: TagFault) -> Reacted
     ensures { λ r. ⌜ (r .outcome ≡ Outcome.Refused fault) × (r .session ≡ cleared) ⌝ }
 {
     Reacted {
@@ -104,7 +104,7 @@ fn let_in(purpose: u8) -> Reacted
 }
 
 // No challenge for a message that is refused.
-fn unchallenged(fault: Fault) -> Challenged
+fn unchallenged(fault: TagFault) -> Challenged
     ensures { λ r. ⌜ (r .outcome ≡ Outcome.Refused fault) × (r .session ≡ cleared)
         × (r .reply ≡ replicate challengeRoom 0) ⌝ }
 {
@@ -119,12 +119,12 @@ fn unchallenged(fault: Fault) -> Challenged
 ///
 /// Ruled out: a challenge that is sent and not kept; a KeyID that is not kept.
 pub fn iam1(keys: &[u8], message: &[u8], draws: [u8; 10]) -> Challenged
-    ensures { λ r. ⌜ Challenges (iam1Verdict (keysIn (now (keys .entry))) (now (message .entry))) draws
+    ensures { λ r. ⌜ Challenges (iam1Checked (keysIn (now (keys .entry))) (now (message .entry))) draws
         (iam1Held (now (message .entry)) draws) r ⌝ }
 {
     let f = iam1_of(message);
     let verdict = offer::judged::opening(keys, Kind::Iam1, f.rfu, f.keyid, message);
-    if let Verdict::Wrong(fault) = verdict {
+    if let Checked::Wrong(fault) = verdict {
         return unchallenged(fault);
     }
     let mut reply = [0u8; 22];
@@ -145,13 +145,13 @@ pub fn iam1(keys: &[u8], message: &[u8], draws: [u8; 10]) -> Challenged
 ///
 /// Ruled out: the first 32 bits of the reader's challenge kept; the state of IAM1.
 pub fn mam1(keys: &[u8], message: &[u8], draws: [u8; 10]) -> Challenged
-    ensures { λ r. ⌜ Challenges (mam1Verdict (keysIn (now (keys .entry))) (now (message .entry)))
+    ensures { λ r. ⌜ Challenges (mam1Checked (keysIn (now (keys .entry))) (now (message .entry)))
         (mam1Sent (keysIn (now (keys .entry))) (now (message .entry)) draws)
         (mam1Held (now (message .entry)) draws) r ⌝ }
 {
     let f = mam1_of(message);
     let verdict = offer::judged::opening(keys, Kind::Mam1, f.rfu, f.keyid, message);
-    if let Verdict::Wrong(fault) = verdict {
+    if let Checked::Wrong(fault) = verdict {
         return unchallenged(fault);
     }
     let found = keytable::find(keys, f.keyid);
@@ -174,7 +174,7 @@ pub fn mam1(keys: &[u8], message: &[u8], draws: [u8; 10]) -> Challenged
 ///
 /// Ruled out: AES-DEC at the tag; a Purpose that is not handed on.
 pub fn iam2(keys: &[u8], held: Session, message: &[u8]) -> Reacted
-    ensures { λ r. ⌜ LetsIn (iam2Verdict (keysIn (now (keys .entry))) held (now (message .entry)))
+    ensures { λ r. ⌜ LetsIn (iam2Checked (keysIn (now (keys .entry))) held (now (message .entry)))
         (iam2Purpose (keysIn (now (keys .entry))) held (now (message .entry))) r ⌝ }
 {
     let f = iam2_of(message);
@@ -185,7 +185,7 @@ pub fn iam2(keys: &[u8], held: Session, message: &[u8]) -> Reacted
     let b = aes::encrypt(enc, iresponse);
     let proof = opened::iam_proof(0xDA8, held, b);
     let verdict = judged::closing(proof, f.rfu, Kind::Iam2, message);
-    if let Verdict::Wrong(fault) = verdict {
+    if let Checked::Wrong(fault) = verdict {
         return refused(fault);
     }
     let_in(opened::purpose(b))
@@ -195,7 +195,7 @@ pub fn iam2(keys: &[u8], held: Session, message: &[u8]) -> Reacted
 ///
 /// Ruled out: the last 32 bits of the reader's challenge not looked at; three RFU bits of four.
 pub fn mam2(keys: &[u8], held: Session, message: &[u8]) -> Reacted
-    ensures { λ r. ⌜ LetsIn (mam2Verdict (keysIn (now (keys .entry))) held (now (message .entry)))
+    ensures { λ r. ⌜ LetsIn (mam2Checked (keysIn (now (keys .entry))) held (now (message .entry)))
         (mam2Purpose (keysIn (now (keys .entry))) held (now (message .entry))) r ⌝ }
 {
     let f = mam2_of(message);
@@ -206,7 +206,7 @@ pub fn mam2(keys: &[u8], held: Session, message: &[u8]) -> Reacted
     let b = aes::encrypt(enc, iresponse);
     let proof = opened::mam_proof(held, b);
     let verdict = judged::closing(proof, f.rfu, Kind::Mam2, message);
-    if let Verdict::Wrong(fault) = verdict {
+    if let Checked::Wrong(fault) = verdict {
         return refused(fault);
     }
     let_in(opened::purpose(b))
@@ -223,7 +223,7 @@ pub fn iam3(
     identity: &mut [u8],
     user: &mut [u8],
 ) -> Reacted
-    ensures { λ r. ⌜ Writes (iam3Verdict (setupOf terms (now (keys .entry))) held (now (message .entry)))
+    ensures { λ r. ⌜ Writes (iam3Checked (setupOf terms (now (keys .entry))) held (now (message .entry)))
         (iam3Purpose (setupOf terms (now (keys .entry))) held (now (message .entry)))
         (iam3Stored (setupOf terms (now (keys .entry))) held (now (message .entry)))
         (now (identity .entry)) (now (user .entry)) r (now (identity .exit)) (now (user .exit)) ⌝ }
@@ -231,7 +231,7 @@ pub fn iam3(
     let found = keytable::find(keys, held.keyid);
     let key = found.key;
     let verdict = judged::iam3_fields(terms, key, message);
-    if let Verdict::Wrong(fault) = verdict {
+    if let Checked::Wrong(fault) = verdict {
         return refused(fault);
     }
     let f = iam3_of(message);

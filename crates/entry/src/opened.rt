@@ -14,7 +14,7 @@ use frames::sizes::DATA_ROOM;
 use frames::sizes::blocks_length;
 use memory::Area;
 use memory::Block;
-use offer::Fault;
+use offer::TagFault;
 use sheet::Key;
 ghost use mathlib.Core.Path.{_≡_};
 ghost use mathlib.Core.Bool.{true};
@@ -195,7 +195,7 @@ fn iam3_in_mode(
     let size = custom.blocksize;
     let n = blocks_length(size, true, custom.blockcount);
     if !proved(key, held, mode, f, m, b, &room[..n]) {
-        return refused(Fault::ProofWrong);
+        return refused(TagFault::ProofWrong);
     }
     write(block, custom, &room[..n], identity, user);
     let_in(purpose(b))
@@ -223,7 +223,7 @@ pub fn iam3(
             return iam3_in_mode(key, held, mode, f, block, m, identity, user);
         }
         ProtModeField::NoMode => {
-            return refused(Fault::ProofWrong);
+            return refused(TagFault::ProofWrong);
         }
     }
 }

@@ -4,8 +4,9 @@ use mathlib.Core.Path.{_≡_, refl, sym, ap, _∙_}
 use Prim.Native.Nat.{ℕ, _+_, _*_, _/_, _<_, min}
 use native.Mathlib.Omega.{arith}
 use lib.ListN.{getD}
+use Rattle.ground.specs.Bytes.{bit}
 use Rattle.field.specs.Field.{inverse, times, remainder, polynomialProduct}
-use Rattle.field.specs.Sbox.{sbox, sboxTable, affine, affineBit, bit, fromBits}
+use Rattle.field.specs.Sbox.{sbox, sboxTable, affine, affineBit, fromBits}
 use Rattle.field.specs.Block.{tabulated}
 use Rattle.field.proofs.Table.{same-at, same-table, entry-at}
 use Rattle.field.proofs.Inverses.{inverses, inverse-is}
@@ -40,7 +41,7 @@ inverse-twice b h = inverse-is (inverse b) (inverse-byte b h) ∙ ap (λ (x : �
     ∙ twice-test b h
 
 affine-byte : (b : ℕ) → b < 256 → affine b / 256 ≡ 0
-unfolding affine affineBit bit fromBits
+unfolding affine affineBit fromBits
 affine-byte = same-at (λ b. affine b / 256) (λ b. 0) 256 refl
 
 pub sbox-byte : (b : ℕ) → b < 256 → sbox b < 256

@@ -6,4 +6,4 @@ pub mod Inverses
 pub mod Inverse
 pub mod Block
 pub mod Arrays
-pub mod Fits
+pub mod Unique

@@ -1,12 +1,9 @@
 -- The S-box, FIPS 197 section 5.1.1.
 use Prim.Native.Nat.{ℕ, zero, suc, _+_, _*_, _/_, _%_, _^_}
 use mathlib.Core.List.{List}
+use Rattle.ground.specs.Bytes.{bit}
 use Rattle.field.specs.Field.{inverse}
 use Rattle.field.specs.Block.{tabulated}
-
--- Bit i of b.
-unfoldable pub bit : ℕ → ℕ → ℕ
-bit b i = b / 2 ^ i % 2
 
 -- The number whose bits i, i + 1 and so on, n of them, are those of f, the others being 0.
 unfoldable pub fromBits : (ℕ → ℕ) → ℕ → ℕ → ℕ

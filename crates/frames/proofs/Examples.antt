@@ -3,10 +3,11 @@ use mathlib.Core.Path.{_≡_, refl}
 use mathlib.Core.Bool.{true, false}
 use mathlib.Core.List.{List, [], _∷_}
 use Prim.Native.Nat.{ℕ}
+use Rattle.ground.specs.Bytes.{twoBytes}
 use Rattle.memory.specs.declared.BlockSize.{BlockSize}
 use Rattle.memory.specs.declared.BlockSize.the-variants.{Bits64, Bits16}
 use Rattle.frames.specs.Blocks.{blockBytes, headerLength, headerPart, dataLength, carried, dOf, blocksLength}
-use Rattle.frames.specs.Constants.{tam2Constant, iam3Constant, byMode, twoBytes, withPurpose}
+use Rattle.frames.specs.Constants.{tam2Constant, iam3Constant, byMode, withPurpose}
 use Rattle.memory.specs.Address.{blockSizeBit}
 use Rattle.frames.specs.Fields.{sizeOf, selectBytes, selectCustom}
 use Rattle.frames.specs.Header.{headerStart, headerOf}
@@ -81,5 +82,5 @@ pub constants : (twoBytes (tam2Constant false CbcCmac) ≡ 0x96 ∷ 0xC5 ∷ [])
     × (withPurpose (iam3Constant Cbc) 0 ≡ 0xDA ∷ 0x90 ∷ [])
     × (withPurpose (iam3Constant Cmac) 9 ≡ 0xDA ∷ 0xA9 ∷ [])
     × (withPurpose (iam3Constant CbcCmac) 15 ≡ 0xDA ∷ 0xBF ∷ [])
-unfolding twoBytes tam2Constant iam3Constant byMode withPurpose
+unfolding tam2Constant iam3Constant byMode withPurpose
 constants = (refl, refl, refl, refl, refl, refl, refl)

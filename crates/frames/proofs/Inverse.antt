@@ -5,11 +5,11 @@ use mathlib.Core.List.{List, [], _∷_, _++_}
 use Prim.Native.Nat.{ℕ, _+_, _*_, _/_, _%_, _≤_, _<_}
 use native.Mathlib.Omega.{arith}
 use lib.ListN.{length, take}
-use Rattle.ground.specs.Bytes.{Bytes, byteAt}
+use Rattle.ground.specs.Bytes.{Bytes, byteAt, bitOf, flag}
 use Rattle.octets.specs.Parts.{bytesFrom}
 use Rattle.octets.proofs.Parts.{whole, bytes-taken}
 use Rattle.memory.specs.declared.BlockSize.{BlockSize}
-use Rattle.frames.specs.Fields.{sizeBit, sizeOf, bit, flag, selectBytes, selectCustom}
+use Rattle.frames.specs.Fields.{sizeBit, sizeOf, selectBytes, selectCustom}
 use Rattle.frames.specs.Kinds.{kindOf}
 use Rattle.frames.specs.Lengths.{
   tam1Length,
@@ -86,8 +86,8 @@ module _ (m : List ℕ) (bytes : Bytes m) where
   tam2-built n k =
       let h = byteAt m 0 in
       let b : sizeBit (sizeOf (h / 16 % 2)) ≡ h / 16 % 2 = bit-of-size (h / 16 % 2) (omega arith) in
-      let v : bit (flag (h / 8 % 2)) ≡ h / 8 % 2 = bit-of-flag (h / 8 % 2) (omega arith) in
-      let x : 0x20 + sizeBit (sizeOf (h / 16 % 2)) * 16 + bit (flag (h / 8 % 2)) * 8 + h % 8 ≡ h =
+      let v : bitOf (flag (h / 8 % 2)) ≡ h / 8 % 2 = bit-of-flag (h / 8 % 2) (omega arith) in
+      let x : 0x20 + sizeBit (sizeOf (h / 16 % 2)) * 16 + bitOf (flag (h / 8 % 2)) * 8 + h % 8 ≡ h =
       omega (arith, kind-range h Tam2 (bytes 0) k) in
       let s =
       select-bytes (sizeOf (h / 16 % 2)) (byteAt m 12) (byteAt m 13) (byteAt m 14) (bytes 12) (bytes 13) (bytes 14) in

@@ -5,10 +5,11 @@ use Prim.Native.Nat.{ℕ, _+_, _*_, _-_, _≤_}
 use native.Mathlib.Omega.{arith}
 use native.Mathlib.Nat.{add-zero}
 use lib.ListN.{length, take, getD, replicate}
+use Rattle.ground.specs.Bytes.{bitOf}
 use Rattle.memory.specs.declared.BlockSize.{BlockSize}
 use Rattle.memory.specs.declared.BlockSize.the-variants.{Bits64, Bits16}
 use Rattle.frames.specs.Blocks.{headerLength}
-use Rattle.frames.specs.Fields.{sizeBit, bit, selectBytes}
+use Rattle.frames.specs.Fields.{sizeBit, selectBytes}
 use Rattle.frames.specs.Header.{headerStart, headerOf}
 use Rattle.frames.specs.Messages.{tam2Message, iam3Head}
 use Rattle.frames.specs.declared.Custom.{Custom}
@@ -16,7 +17,7 @@ use Rattle.frames.specs.declared.Tam2.{Tam2}
 use Rattle.frames.specs.declared.Iam3.{Iam3}
 
 pub tam2-layout : (f : Tam2) (x : ℕ) (s : List ℕ) → f .rfu ≡ 0
-    → x ≡ 0x20 + sizeBit (f .custom .blocksize) * 16 + bit (f .rev) * 8
+    → x ≡ 0x20 + sizeBit (f .custom .blocksize) * 16 + bitOf (f .rev) * 8
     → s ≡ selectBytes (f .custom) (f .protmode) → (x ∷ f .keyid ∷ []) ++ (f .ichallenge ++ s) ≡ tam2Message f
 unfolding tam2Message
 tam2-layout f x s h e q = rw (h, e, q, add-zero)

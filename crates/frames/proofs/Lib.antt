@@ -15,4 +15,4 @@ pub mod Told
 pub mod ProtModes
 pub mod Shape
 pub mod Examples
-pub mod Fits
+pub mod Unique

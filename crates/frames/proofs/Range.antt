@@ -5,11 +5,12 @@ use Prim.Native.Nat.{ℕ, zero, suc, _<_}
 use native.Mathlib.Omega.{arith}
 use borrow.Author.Tests.{ltb-true, eqb-true}
 use lib.Dec.{ltb, eqb}
+use Rattle.ground.specs.Bytes.{bitOf, flag}
 use Rattle.memory.specs.declared.BlockSize.{BlockSize}
 use Rattle.memory.specs.declared.BlockSize.the-variants.{Bits64, Bits16}
 use Rattle.ground.specs.Choice.{both}
 use Rattle.memory.specs.Address.{blockSizeBit}
-use Rattle.frames.specs.Fields.{sizeBit, sizeOf, bit, flag, customFits}
+use Rattle.frames.specs.Fields.{sizeBit, sizeOf, customFits}
 use Rattle.frames.specs.Messages.{selectFits}
 use Rattle.frames.specs.declared.Custom.{Custom}
 
@@ -76,15 +77,15 @@ bit-of-size zero h = refl
 bit-of-size (suc zero) h = refl
 bit-of-size (suc (suc b)) h = absurd (let w : ⊥ = omega arith in w)
 
-pub bit-lt : (f : Bool) → bit f < 2
+pub bit-lt : (f : Bool) → bitOf f < 2
 bit-lt true = omega arith
 bit-lt false = omega arith
 
-pub flag-of-bit : (f : Bool) → flag (bit f) ≡ f
+pub flag-of-bit : (f : Bool) → flag (bitOf f) ≡ f
 flag-of-bit true = refl
 flag-of-bit false = refl
 
-pub bit-of-flag : (b : ℕ) → b < 2 → bit (flag b) ≡ b
+pub bit-of-flag : (b : ℕ) → b < 2 → bitOf (flag b) ≡ b
 bit-of-flag zero h = refl
 bit-of-flag (suc zero) h = refl
 bit-of-flag (suc (suc b)) h = absurd (let w : ⊥ = omega arith in w)

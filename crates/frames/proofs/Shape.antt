@@ -7,8 +7,8 @@ use native.Mathlib.Omega.{arith}
 use borrow.Author.Tests.{eq-eqb, le-leb}
 use lib.ListN.{length, replicate, length-append, length-replicate}
 use Rattle.frames.specs.Blocks.{headerLength, blocksLength}
-use Rattle.ground.specs.Bytes.{byteAt}
-use Rattle.frames.specs.Fields.{sizeBit, bit, customFits, selectBytes}
+use Rattle.ground.specs.Bytes.{byteAt, bitOf}
+use Rattle.frames.specs.Fields.{sizeBit, customFits, selectBytes}
 use Rattle.frames.specs.Header.{headerStart, headerOf}
 use Rattle.frames.specs.Kinds.{kindOf}
 use Rattle.frames.specs.Modes.{protModeOf}
@@ -82,7 +82,7 @@ tam2-shape f e h =
     let s = selectBytes (f .custom) (f .protmode) in
     let b = size-bit-lt (f .custom .blocksize) in
     let v = bit-lt (f .rev) in
-    let x = 0x20 + sizeBit (f .custom .blocksize) * 16 + bit (f .rev) * 8 + f .rfu in (
+    let x = 0x20 + sizeBit (f .custom .blocksize) * 16 + bitOf (f .rev) * 8 + f .rfu in (
       ap (λ (n : ℕ). suc (suc n)) (length-append (f .ichallenge) s ∙ ap (λ (n : ℕ). n + 3) e),
       tam2-kind x (omega arith) (omega (arith, b, v)),
     )

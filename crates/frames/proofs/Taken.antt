@@ -6,9 +6,10 @@ use mathlib.Core.List.{List, _++_}
 use Prim.Native.Nat.{ℕ, _+_, _*_, _/_, _%_, _<_}
 use native.Mathlib.Omega.{arith}
 use lib.ListN.{length, getD}
+use Rattle.ground.specs.Bytes.{bitOf, flag}
 use Rattle.octets.specs.Parts.{bytesFrom}
 use Rattle.octets.proofs.Parts.{front, whole}
-use Rattle.frames.specs.Fields.{sizeBit, sizeOf, bit, flag, customFits, selectBytes, selectCustom}
+use Rattle.frames.specs.Fields.{sizeBit, sizeOf, customFits, selectBytes, selectCustom}
 use Rattle.frames.specs.Messages.{
   tam1Message,
   tam1Of,
@@ -88,7 +89,7 @@ module _ (f : Tam2) (long : length (f .ichallenge) ≡ 10) (rfu : f .rfu < 8) (f
   tam2-rest = f .ichallenge ++ selectBytes (f .custom) (f .protmode)
 
   abbrev tam2-first : ℕ
-  tam2-first = 0x20 + sizeBit (f .custom .blocksize) * 16 + bit (f .rev) * 8 + f .rfu
+  tam2-first = 0x20 + sizeBit (f .custom .blocksize) * 16 + bitOf (f .rev) * 8 + f .rfu
 
   tam2-custom : selectCustom (sizeOf (tam2-first / 16 % 2)) (getD tam2-rest 10 0) (getD tam2-rest 11 0)
       (getD tam2-rest 12 0) ≡ f .custom
@@ -115,7 +116,7 @@ module _ (f : Tam2) (long : length (f .ichallenge) ≡ 10) (rfu : f .rfu < 8) (f
   unfolding tam2Of tam2Message bytesFrom
   tam2-taken =
       let v : flag (tam2-first / 8 % 2) ≡ f .rev =
-      ap flag (let b : tam2-first / 8 % 2 ≡ bit (f .rev) =
+      ap flag (let b : tam2-first / 8 % 2 ≡ bitOf (f .rev) =
       omega (arith, size-bit-lt (f .custom .blocksize), bit-lt (f .rev)) in b) ∙ flag-of-bit (f .rev) in
       let r : tam2-first % 8 ≡ f .rfu = omega arith in
       λ i. record {

@@ -3,8 +3,8 @@ use mathlib.Core.Path.{_≡_, ap}
 use mathlib.Core.List.{List, [], _∷_}
 use Prim.Native.Nat.{ℕ, _+_, _*_, _/_, _%_, _<_}
 use native.Mathlib.Omega.{arith}
-use Rattle.ground.specs.Bytes.{byteAt}
-use Rattle.frames.specs.Constants.{twoBytes, withPurpose}
+use Rattle.ground.specs.Bytes.{byteAt, twoBytes}
+use Rattle.frames.specs.Constants.{withPurpose}
 
 -- the bytes of a 12-bit constant with the Purpose that came are the bytes that came exactly where the constant came
 pub constant-told : (c x y : ℕ) → y < 256 → x * 16 + y / 16 ≡ c → withPurpose c (y % 16) ≡ x ∷ y ∷ []
@@ -28,5 +28,4 @@ purpose-told c p h = omega arith
 
 -- a 16-bit constant comes back
 pub two-told : (c : ℕ) → byteAt (twoBytes c) 0 * 256 + byteAt (twoBytes c) 1 ≡ c
-unfolding twoBytes
 two-told c = omega arith

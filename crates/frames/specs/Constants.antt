@@ -62,10 +62,6 @@ tam2Constant true mode = byMode C-TAM2-0 C-TAM2-1 C-TAM2-2 C-TAM2-3 mode
 unfoldable pub iam3Constant : ProtMode → ℕ
 iam3Constant mode = byMode C-IAM3-0 C-IAM3-1 C-IAM3-2 C-IAM3-3 mode
 
--- a constant of 16 bits, as two bytes
-unfoldable pub twoBytes : ℕ → List ℕ
-twoBytes c = c / 256 ∷ c % 256 ∷ []
-
 -- a constant of 12 bits and the four bits of Purpose, as two bytes
 unfoldable pub withPurpose : ℕ → ℕ → List ℕ
 withPurpose c purpose = c / 16 ∷ (c % 16 * 16 + purpose % 16) ∷ []

@@ -9,14 +9,6 @@ use Rattle.memory.specs.declared.BlockSize.the-variants.{Bits64, Bits16}
 use Rattle.ground.specs.Choice.{pick, both}
 use Rattle.frames.specs.declared.Custom.{Custom}
 
--- a flag as a bit, and a bit as a flag
-abbrev pub bit : Bool → ℕ
-bit true = 1
-bit false = 0
-
-abbrev pub flag : ℕ → Bool
-flag b = eqb b 1
-
 -- 9.2, BlockSize: memory's, 0 for 64-bit blocks and 1 for 16-bit blocks
 abbrev pub sizeBit : BlockSize → ℕ
 sizeBit s = blockSizeBit s

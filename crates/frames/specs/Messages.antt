@@ -5,18 +5,9 @@ use mathlib.Core.Bool.{Bool}
 use mathlib.Core.List.{List, [], _∷_, _++_}
 use lib.Dec.{eqb, ltb}
 use Rattle.ground.specs.Choice.{both}
-use Rattle.ground.specs.Bytes.{byteAt}
+use Rattle.ground.specs.Bytes.{byteAt, bitOf, flag}
 use Rattle.octets.specs.Parts.{bytesFrom}
-use Rattle.frames.specs.Fields.{
-  bit,
-  flag,
-  sizeBit,
-  sizeOf,
-  customFits,
-  selectBytes,
-  selectCustom,
-  selectProtMode,
-}
+use Rattle.frames.specs.Fields.{sizeBit, sizeOf, customFits, selectBytes, selectCustom, selectProtMode}
 use Rattle.frames.specs.declared.Custom.{Custom}
 use Rattle.frames.specs.declared.Tam1.{Tam1}
 use Rattle.frames.specs.declared.Tam2.{Tam2}
@@ -37,7 +28,7 @@ tam1Of m = record { rfu = byteAt m 0 % 32; keyid = byteAt m 1; ichallenge = byte
 -- Profile[3:0], Offset[11:0], BlockCount[3:0], ProtMode[3:0]
 unfoldable pub tam2Message : Tam2 → List ℕ
 tam2Message f =
-    (0x20 + sizeBit (f .custom .blocksize) * 16 + bit (f .rev) * 8 + f .rfu)
+    (0x20 + sizeBit (f .custom .blocksize) * 16 + bitOf (f .rev) * 8 + f .rfu)
     ∷ f .keyid
     ∷ (f .ichallenge ++ selectBytes (f .custom) (f .protmode))
 

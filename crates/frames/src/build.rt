@@ -16,9 +16,10 @@ ghost use mathlib.Core.Bool.{true};
 ghost use mathlib.Core.List.{_++_};
 ghost use Prim.Native.Nat.{_+_, _*_, _<_};
 ghost use lib.ListN.{length};
+ghost use Rattle.ground.specs.Bytes.{bitOf};
 ghost use Rattle.frames.specs.Blocks.{headerLength};
 ghost use Rattle.frames.specs.Built.{Built};
-ghost use Rattle.frames.specs.Fields.{bit, sizeBit, customFits, selectBytes};
+ghost use Rattle.frames.specs.Fields.{sizeBit, customFits, selectBytes};
 ghost use Rattle.frames.specs.Header.{headerStart, headerOf};
 ghost use Rattle.frames.specs.Lengths.{
   tam1Length,
@@ -118,7 +119,7 @@ fn with_response(room: &mut [u8], head: &[u8], iresponse: [u8; 16]) -> bool
 
 // The first byte of TAM2.
 fn tam2_first(blocksize: BlockSize, rev: bool) -> u8
-    ensures { λ r. ⌜ r ≡ 0x20 + sizeBit blocksize * 16 + bit rev * 8 ⌝ }
+    ensures { λ r. ⌜ r ≡ 0x20 + sizeBit blocksize * 16 + bitOf rev * 8 ⌝ }
 {
     let b = size_bit(blocksize);
     if rev {

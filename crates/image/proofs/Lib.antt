@@ -6,4 +6,4 @@ pub mod ReadBack
 pub mod Sessions
 pub mod Stays
 pub mod Examples
-pub mod Fits
+pub mod Unique

@@ -7,10 +7,10 @@ use native.Mathlib.Omega.{arith}
 use lib.ListN.{length, drop, length-take}
 use Rattle.ground.specs.Choice.{pick}
 use Rattle.ground.specs.Bytes.{Bytes}
-use Rattle.sheet.specs.declared.Fault.{Fault}
+use Rattle.sheet.specs.declared.SheetFault.{SheetFault}
 use Rattle.sheet.specs.declared.Reading.{Reading}
 use Rattle.sheet.specs.declared.Terms.{Terms}
-use Rattle.sheet.specs.declared.Verdict.the-variants.{Whole, Refused}
+use Rattle.sheet.specs.declared.SheetVerdict.the-variants.{Whole, Refused}
 use Rattle.sheet.specs.Limits.{keyLimit, profileLimit, lockLimit}
 use Rattle.sheet.specs.KeyTable.{recordCount, recordsIn, keysIn, keyTable}
 use Rattle.sheet.specs.Sheet.{readOf, saidOf, Accepted}
@@ -92,7 +92,7 @@ module _ (sheet : List ℕ) (y : Bytes sheet) (e : Accepted keyLimit sheet) wher
 -- ---- what `lay` leaves
 
 module _ (sheet : List ℕ) (q : Reading) (e : q ≡ readOf keyLimit sheet) where
-  pub laid-refused : (image : List ℕ) (f : Fault) (at : ℕ) → q .verdict ≡ Refused f at
+  pub laid-refused : (image : List ℕ) (f : SheetFault) (at : ℕ) → q .verdict ≡ Refused f at
       → Laid sheet image (Refused f at) image
   laid-refused image f at h =
       let v : readOf keyLimit sheet .verdict ≡ Refused f at = sym (ap (λ (x : Reading). x .verdict) e) ∙ h in

@@ -12,15 +12,15 @@ use Rattle.frames.specs.Kinds.{kindOf}
 use Rattle.frames.specs.Messages.{mam1Of}
 use Rattle.frames.proofs.Places.{bytes-length}
 use Rattle.payload.specs.Alike.{same}
-use Rattle.offer.specs.declared.Fault.{Fault}
-use Rattle.offer.specs.declared.Fault.the-variants.{NotSupported, BenchFault}
-use Rattle.offer.specs.declared.Verdict.{Verdict}
-use Rattle.offer.specs.Judged.{benchChecks}
+use Rattle.offer.specs.declared.TagFault.{TagFault}
+use Rattle.offer.specs.declared.TagFault.the-variants.{NotSupported, BenchFault}
+use Rattle.offer.specs.declared.Checked.{Checked}
+use Rattle.offer.specs.Judged.{lendingChecks}
 use Rattle.offer.proofs.Lines.{fails}
 use Rattle.entry.specs.Sessions.{cleared, entered}
 use Rattle.tag.specs.States.{KeyedTag, atRest}
 use Rattle.tag.specs.Answers.{Effect, Call, refused, replied, letIn, tam1Answer, tam2Answer, iam1Answer, iam2Answer}
-use Rattle.tag.specs.Answers.{iam3Answer, mam1Answer, mam2Answer, byKind, ofBench, effectOf, answerOf}
+use Rattle.tag.specs.Answers.{iam3Answer, mam1Answer, mam2Answer, byKind, ofLending, effectOf, answerOf}
 use Rattle.tag.proofs.Cases.{fine-case, effect-case}
 use Rattle.image.specs.Image.{rests}
 use Rattle.image.specs.Kept.{Fits}
@@ -38,7 +38,7 @@ module _ (c : Call) where
   abbrev Of : Effect → Type 0
   Of e = length (c .draws) ≡ 10 → Fits (e .session)
 
-  refused-fits : (f : Fault) → Of (refused c f cleared)
+  refused-fits : (f : TagFault) → Of (refused c f cleared)
   unfolding refused
   refused-fits f d = cleared-fits
 
@@ -69,9 +69,9 @@ module _ (c : Call) where
 
     -- any other number of draws is number 7, and the session stays
     not-ten : eqb (length (c .draws)) 10 ≡ false → Fits (answerOf c tag .tag .session)
-    unfolding effectOf benchChecks refused
+    unfolding effectOf lendingChecks refused
     not-ten e =
-        subst (λ (v : Verdict). Fits (ofBench c (tag .setup) (tag .session) v .session)) (fails BenchFault _ e) h
+        subst (λ (v : Checked). Fits (ofLending c (tag .setup) (tag .session) v .session)) (fails BenchFault _ e) h
 
     by-draws : (b : Bool) → eqb (length (c .draws)) 10 ≡ b → Fits (answerOf c tag .tag .session)
     by-draws true e = ten-drawn (eqb-true _ _ e)

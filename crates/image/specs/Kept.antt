@@ -5,8 +5,8 @@ use mathlib.Core.List.{List}
 use Prim.Native.Nat.{ℕ}
 use lib.ListN.{length}
 use Rattle.ground.specs.Choice.{pick}
-use Rattle.sheet.specs.declared.Verdict.{Verdict}
-use Rattle.sheet.specs.declared.Verdict.the-variants.{Whole, Refused}
+use Rattle.sheet.specs.declared.SheetVerdict.{SheetVerdict}
+use Rattle.sheet.specs.declared.SheetVerdict.the-variants.{Whole, Refused}
 use Rattle.sheet.specs.KeyTable.{keyTable}
 use Rattle.sheet.specs.Limits.{keyLimit}
 use Rattle.sheet.specs.Sheet.{readOf}
@@ -14,7 +14,7 @@ use Rattle.entry.specs.declared.Session.{Session}
 use Rattle.entry.specs.Sessions.{cleared}
 use Rattle.image.specs.Image.{imageOf, rests}
 
-abbrev pub accepts : Verdict → Bool
+abbrev pub accepts : SheetVerdict → Bool
 accepts Whole = true
 accepts (Refused f at) = false
 
@@ -23,7 +23,7 @@ abbrev pub sheetImage : Session → List ℕ → List ℕ
 sheetImage s sheet =
     imageOf s (readOf keyLimit sheet .terms) (keyTable sheet (readOf keyLimit sheet .keys))
 
-pub record Laid (sheet image : List ℕ) (r : Verdict) (after : List ℕ) : Type 0 where
+pub record Laid (sheet image : List ℕ) (r : SheetVerdict) (after : List ℕ) : Type 0 where
   pub verdict : r ≡ readOf keyLimit sheet .verdict
   pub holds : after ≡ pick (accepts (readOf keyLimit sheet .verdict)) (sheetImage cleared sheet) image
 

@@ -2,15 +2,15 @@
 use entry::Session;
 use sheet::FEATURE_BODY;
 use sheet::KEY_RECORD;
-use sheet::KEYS;
+use sheet::KEY_LIMIT;
 use sheet::LOCK_BODY;
-use sheet::LOCKS;
+use sheet::LOCK_LIMIT;
 use sheet::PROFILE_BODY;
-use sheet::PROFILES;
+use sheet::PROFILE_LIMIT;
 use sheet::SIZE_BODY;
 use sheet::Sizes;
 use sheet::Terms;
-use sheet::Verdict;
+use sheet::SheetVerdict;
 ghost use mathlib.Core.Path.{_≡_};
 ghost use Rattle.image.specs.Image.{kept, sessionIn, termsIn, tableIn, isTag};
 ghost use Rattle.image.specs.Kept.{Laid};
@@ -25,16 +25,16 @@ pub const SIZES_AT: usize = FEATURES_AT + FEATURE_BODY;
 
 pub const PROFILES_AT: usize = SIZES_AT + SIZE_BODY;
 
-pub const LOCK_COUNT_AT: usize = PROFILES_AT + PROFILES * PROFILE_BODY;
+pub const LOCK_COUNT_AT: usize = PROFILES_AT + PROFILE_LIMIT * PROFILE_BODY;
 
 pub const LOCKS_AT: usize = LOCK_COUNT_AT + 1;
 
-pub const KEY_COUNT_AT: usize = LOCKS_AT + LOCKS * LOCK_BODY;
+pub const KEY_COUNT_AT: usize = LOCKS_AT + LOCK_LIMIT * LOCK_BODY;
 
 pub const KEYS_AT: usize = KEY_COUNT_AT + 2;
 
 /// The bytes of an image: 793.
-pub const IMAGE: usize = KEYS_AT + KEYS * KEY_RECORD;
+pub const IMAGE: usize = KEYS_AT + KEY_LIMIT * KEY_RECORD;
 
 /// What the tag of an image holds.
 ///
@@ -93,13 +93,13 @@ pub fn keep(image: &mut [u8; IMAGE], session: Session)
 /// Lays the tag of a sheet into an image, powered up. One that is refused changes no byte.
 ///
 /// Ruled out: a tag made of a refused sheet; bytes of an older tag left behind a shorter key table.
-pub fn lay(sheet: &[u8], image: &mut [u8; IMAGE]) -> Verdict
+pub fn lay(sheet: &[u8], image: &mut [u8; IMAGE]) -> SheetVerdict
     ensures { λ r. ⌜ Laid (now (sheet .entry)) (now (image .entry)) r (now (image .exit)) ⌝ }
 {
     let reading = sheet::read(sheet);
     let verdict = reading.verdict;
-    if let Verdict::Refused(fault, at) = verdict {
-        return Verdict::Refused(fault, at);
+    if let SheetVerdict::Refused(fault, at) = verdict {
+        return SheetVerdict::Refused(fault, at);
     }
     let terms = reading.terms;
     let made = write::made(terms, sheet::key_table(sheet, reading.keys));

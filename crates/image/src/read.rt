@@ -16,12 +16,12 @@ use memory::Word;
 use sheet::FEATURE_BODY;
 use sheet::Features;
 use sheet::KEY_RECORD;
-use sheet::KEYS;
+use sheet::KEY_LIMIT;
 use sheet::LOCK_BODY;
-use sheet::LOCKS;
+use sheet::LOCK_LIMIT;
 use sheet::Locks;
 use sheet::PROFILE_BODY;
-use sheet::PROFILES;
+use sheet::PROFILE_LIMIT;
 use sheet::SIZE_BODY;
 use sheet::Sizes;
 use sheet::Slot;
@@ -156,7 +156,7 @@ fn slot_in(b: &[u8]) -> Slot
     }
 }
 
-fn profiles(image: &[u8]) -> [Slot; PROFILES]
+fn profiles(image: &[u8]) -> [Slot; PROFILE_LIMIT]
     requires { ⌜ length (now image) ≡ imageLength ⌝ }
     ensures { λ r. ⌜ r ≡ saidIn slotIn 6 profileLimit (drop profilesAt (now (image .entry))) ⌝ }
 {
@@ -168,9 +168,9 @@ fn profiles(image: &[u8]) -> [Slot; PROFILES]
     let mut slots = [Slot {
         present: false,
         profile: none,
-    }; PROFILES];
+    }; PROFILE_LIMIT];
     let mut i = 0;
-    while i < PROFILES {
+    while i < PROFILE_LIMIT {
         let at = PROFILES_AT + PROFILE_BODY * i;
         let end = at + PROFILE_BODY;
         slots[i] = slot_in(&image[at..end]);
@@ -193,7 +193,7 @@ fn lock_of(b: &[u8]) -> Lock
     }
 }
 
-fn locks(image: &[u8]) -> [Lock; LOCKS]
+fn locks(image: &[u8]) -> [Lock; LOCK_LIMIT]
     requires { ⌜ length (now image) ≡ imageLength ⌝ }
     ensures { λ r. ⌜ r ≡ saidIn lockOf 5 lockLimit (drop locksAt (now (image .entry))) ⌝ }
 {
@@ -201,9 +201,9 @@ fn locks(image: &[u8]) -> [Lock; LOCKS]
         area: Area::Identity,
         first: Word(0),
         words: 0,
-    }; LOCKS];
+    }; LOCK_LIMIT];
     let mut i = 0;
-    while i < LOCKS {
+    while i < LOCK_LIMIT {
         let at = LOCKS_AT + LOCK_BODY * i;
         let end = at + LOCK_BODY;
         table[i] = lock_of(&image[at..end]);
@@ -234,7 +234,7 @@ pub fn key_table(image: &[u8]) -> &[u8]
     ensures { λ r. ⌜ now r ≡ tableIn (now (image .entry)) ⌝ }
 {
     let records = word_at(image, KEY_COUNT_AT) as usize;
-    if KEYS < records {
+    if KEY_LIMIT < records {
         return &image[KEYS_AT..IMAGE];
     }
     let end = KEYS_AT + KEY_RECORD * records;
@@ -273,11 +273,11 @@ pub fn is_tag(image: &[u8]) -> bool
         return false;
     }
     let count = image[LOCK_COUNT_AT] as usize;
-    if LOCKS < count {
+    if LOCK_LIMIT < count {
         return false;
     }
     let records = word_at(image, KEY_COUNT_AT) as usize;
-    if KEYS < records {
+    if KEY_LIMIT < records {
         return false;
     }
     if !tag::key_held(session(image), key_table(image)) {

@@ -14,10 +14,10 @@ use memory::Lock;
 use sheet::Features;
 use sheet::KEY_RECORD;
 use sheet::LOCK_BODY;
-use sheet::LOCKS;
+use sheet::LOCK_LIMIT;
 use sheet::Locks;
 use sheet::PROFILE_BODY;
-use sheet::PROFILES;
+use sheet::PROFILE_LIMIT;
 use sheet::Sizes;
 use sheet::Slot;
 use sheet::Terms;
@@ -133,7 +133,7 @@ fn slot_body(s: Slot) -> [u8; 6]
     ]
 }
 
-fn lay_profiles(image: &mut [u8], profiles: [Slot; PROFILES])
+fn lay_profiles(image: &mut [u8], profiles: [Slot; PROFILE_LIMIT])
     requires { ⌜ length (now image) ≡ imageLength ⌝ }
     ensures { λ _. ⌜ now (image .exit)
         ≡ take profilesAt (now (image .entry))
@@ -141,7 +141,7 @@ fn lay_profiles(image: &mut [u8], profiles: [Slot; PROFILES])
     ensures { λ _. ⌜ length profiles ≡ profileLimit ⌝ }
 {
     let mut i = 0;
-    while i < PROFILES {
+    while i < PROFILE_LIMIT {
         let slot = profiles[i];
         let body = slot_body(slot);
         payload::put(image, PROFILES_AT + PROFILE_BODY * i, &body);
@@ -164,14 +164,14 @@ fn lock_body(l: Lock) -> [u8; 5]
     ]
 }
 
-fn lay_locks(image: &mut [u8], table: [Lock; LOCKS])
+fn lay_locks(image: &mut [u8], table: [Lock; LOCK_LIMIT])
     requires { ⌜ length (now image) ≡ imageLength ⌝ }
     ensures { λ _. ⌜ now (image .exit)
         ≡ take locksAt (now (image .entry)) ++ over (bodies lockBody table) (drop locksAt (now (image .entry))) ⌝ }
     ensures { λ _. ⌜ length table ≡ lockLimit ⌝ }
 {
     let mut i = 0;
-    while i < LOCKS {
+    while i < LOCK_LIMIT {
         let lock = table[i];
         let body = lock_body(lock);
         payload::put(image, LOCKS_AT + LOCK_BODY * i, &body);

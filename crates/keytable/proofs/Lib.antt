@@ -1,4 +1,4 @@
 pub mod Search
 pub mod Answers
 pub mod Named
-pub mod Fits
+pub mod Unique

@@ -5,4 +5,4 @@ pub mod Whole
 pub mod Undone
 pub mod Results
 pub mod MacBytes
-pub mod Fits
+pub mod Unique

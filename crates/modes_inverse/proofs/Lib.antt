@@ -1,2 +1,2 @@
 pub mod Inverse
-pub mod Fits
+pub mod Unique

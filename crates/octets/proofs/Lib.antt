@@ -2,4 +2,4 @@
 pub mod Parts
 pub mod Alike
 pub mod AllZero
-pub mod Fits
+pub mod Unique

@@ -8,13 +8,12 @@ use borrow.Author.Tests.{lt-ltb}
 use lib.Dec.{lit<}
 use lib.ListN.{length, drop, replicate, length-append}
 use lib.Seq.{getD-drop}
-use Rattle.ground.specs.Bytes.{Bytes}
+use Rattle.ground.specs.Bytes.{Bytes, twoBytes}
 use Rattle.ground.specs.Choice.{pick, both}
 use Rattle.field.proofs.Block.{Block}
 use Rattle.aes.specs.AesEnc.{aesEnc}
 use Rattle.aes.proofs.Forward.{enc-block}
 use Rattle.memory.specs.declared.BlockSize.{BlockSize}
-use Rattle.frames.specs.Constants.{twoBytes}
 use Rattle.octets.specs.Parts.{bytesFrom}
 use Rattle.octets.proofs.Parts.{bytes-length}
 use Rattle.frames.specs.Fields.{customFits, selectCustom}
@@ -40,7 +39,6 @@ pick-bytes false s t h k = k
 -- a constant
 
 pub two-bytes : (c : ℕ) → c ≤ 0xFFFF → Bytes (twoBytes c)
-unfolding twoBytes
 two-bytes c h zero = omega arith
 two-bytes c h (suc zero) = omega arith
 two-bytes c h (suc (suc i)) = lit< tt
@@ -75,7 +73,6 @@ module _ (m : List ℕ) (h : Bytes m) where
 pub block-block : (enc middle ichallenge : List ℕ) (c : ℕ) → Bytes enc → c ≤ 0xFFFF → length middle ≡ 4 → Bytes middle
     → Ten ichallenge
     → Block (aesEnc enc (twoBytes c ++ (middle ++ ichallenge)))
-unfolding twoBytes
 block-block enc middle ichallenge c k l e h t =
     let s = middle ++ ichallenge in
     let n : length s ≡ 14 = omega (arith, length-append middle ichallenge, t .ten) in

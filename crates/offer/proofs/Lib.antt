@@ -3,4 +3,4 @@ pub mod Named
 pub mod Passed
 pub mod Bytes
 pub mod PaperNumbers
-pub mod Fits
+pub mod Unique

@@ -1,7 +1,7 @@
 -- The scope paper's table "Numbers the tag gives", row by row.
 use mathlib.Core.Path.{_≡_, refl}
-use Rattle.offer.specs.declared.Fault.the-variants.{OtherError, NotSupported, MemoryOverrun, MemoryWriteError}
-use Rattle.offer.specs.declared.Fault.the-variants.{OutOfTurn, ProofWrong, BenchFault}
+use Rattle.offer.specs.declared.TagFault.the-variants.{OtherError, NotSupported, MemoryOverrun, MemoryWriteError}
+use Rattle.offer.specs.declared.TagFault.the-variants.{OutOfTurn, ProofWrong, BenchFault}
 use Rattle.offer.specs.Outcomes.{numberOf}
 
 pub other-error : numberOf OtherError ≡ 1

@@ -11,11 +11,11 @@ use Rattle.sheet.specs.declared.Sizes.{Sizes}
 use Rattle.frames.specs.declared.Kind.{Kind}
 use Rattle.frames.proofs.ProtModes.{Says, says}
 use Rattle.frames.specs.Lengths.{lengthFits, replyRoom}
-use Rattle.offer.specs.declared.Verdict.the-variants.{Fine}
+use Rattle.offer.specs.declared.Checked.the-variants.{Fine}
 use Rattle.offer.specs.Checks.{judged}
 use Rattle.keytable.specs.Named.{hasKey}
 use Rattle.offer.specs.Records.{modeServed, modeSupported}
-use Rattle.offer.specs.Judged.{drawBytes, benchChecks, openingChecks}
+use Rattle.offer.specs.Judged.{drawBytes, lendingChecks, openingChecks}
 use Rattle.offer.proofs.Lines.{first-holds, others-hold}
 
 pub both-second : (b d : Bool) → both b d ≡ true → d ≡ true
@@ -32,14 +32,14 @@ mode-named f key p h = says p (modeServed f key) h
 
 -- The bench: the draws and the room.
 module _ (sizes : Sizes) (draws room identity user : ℕ)
-    (h : judged (benchChecks sizes draws room identity user) ≡ Fine) where
-  pub bench-draws : draws ≡ drawBytes
-  unfolding benchChecks
-  bench-draws = eqb-true _ _ (first-holds _ _ h)
+    (h : judged (lendingChecks sizes draws room identity user) ≡ Fine) where
+  pub lending-draws : draws ≡ drawBytes
+  unfolding lendingChecks
+  lending-draws = eqb-true _ _ (first-holds _ _ h)
 
-  pub bench-room : replyRoom ≤ room
-  unfolding benchChecks
-  bench-room = leb-true _ _ (first-holds _ _ (others-hold _ _ h))
+  pub lending-room : replyRoom ≤ room
+  unfolding lendingChecks
+  lending-room = leb-true _ _ (first-holds _ _ (others-hold _ _ h))
 
 -- TAM1, IAM1, MAM1: the length and the record.
 module _ (kind : Kind) (rfu keyid : ℕ) (keys : List Key) (m : List ℕ)

@@ -4,14 +4,14 @@ use mathlib.Core.List.{List, []}
 use lib.ListN.{length}
 use Rattle.offer.specs.declared.Outcome.{Outcome}
 use Rattle.offer.specs.declared.Outcome.the-variants.{Replied, Entered, Refused}
-use Rattle.offer.specs.declared.Verdict.{Verdict}
-use Rattle.offer.specs.declared.Verdict.the-variants.{Fine, Wrong}
-use Rattle.offer.specs.declared.Fault.{Fault}
-use Rattle.offer.specs.declared.Fault.the-variants.{OtherError, NotSupported, MemoryOverrun, MemoryWriteError}
-use Rattle.offer.specs.declared.Fault.the-variants.{OutOfTurn, ProofWrong, BenchFault}
+use Rattle.offer.specs.declared.Checked.{Checked}
+use Rattle.offer.specs.declared.Checked.the-variants.{Fine, Wrong}
+use Rattle.offer.specs.declared.TagFault.{TagFault}
+use Rattle.offer.specs.declared.TagFault.the-variants.{OtherError, NotSupported, MemoryOverrun, MemoryWriteError}
+use Rattle.offer.specs.declared.TagFault.the-variants.{OutOfTurn, ProofWrong, BenchFault}
 
 -- The scope paper's number of each refusal.
-abbrev pub numberOf : Fault → ℕ
+abbrev pub numberOf : TagFault → ℕ
 numberOf OtherError = 1
 numberOf NotSupported = 2
 numberOf MemoryOverrun = 3
@@ -32,13 +32,13 @@ replyLength (Entered purpose) = 0
 replyLength (Refused f) = 0
 
 -- What follows a line of checks: `a` where all hold, and otherwise what the refusal leads to.
-abbrev pub settled : {A : Type 0} → Verdict → A → (Fault → A) → A
+abbrev pub settled : {A : Type 0} → Checked → A → (TagFault → A) → A
 settled Fine a refused = a
 settled (Wrong f) a refused = refused f
 
 -- Bytes that are sent where all holds: the outcome, and what is sent.
-abbrev pub sending : Verdict → List ℕ → Outcome
+abbrev pub sending : Checked → List ℕ → Outcome
 sending v reply = settled v (Replied (length reply)) Refused
 
-abbrev pub sent : Verdict → List ℕ → List ℕ
+abbrev pub sent : Checked → List ℕ → List ℕ
 sent v reply = settled v reply (λ f. [])

@@ -1,13 +1,13 @@
 // Checks in their order: the first that does not hold decides. Number 7, and the line that TAM1, IAM1 and MAM1 share.
-use super::Fault;
-use super::Verdict;
+use super::TagFault;
+use super::Checked;
 use frames::Kind;
 use frames::sizes::length_fits;
 use sheet::Sizes;
 ghost use mathlib.Core.Path.{_≡_};
 ghost use Rattle.sheet.specs.KeyTable.{keysIn};
 ghost use Rattle.offer.specs.Checks.{judged};
-ghost use Rattle.offer.specs.Judged.{benchChecks, openingChecks};
+ghost use Rattle.offer.specs.Judged.{lendingChecks, openingChecks};
 
 /// The draws that each call brings.
 const DRAWS: usize = 10;
@@ -18,39 +18,39 @@ const ROOM: usize = 172;
 /// Number 7: the draws, the room and the areas that the bench lends, by their lengths in bytes.
 ///
 /// Ruled out: a room of exactly 172 bytes refused; an area measured in words.
-pub fn bench(sizes: Sizes, draws: usize, room: usize, identity: usize, user: usize) -> Verdict
-    ensures { λ r. ⌜ r ≡ judged (benchChecks sizes draws room identity user) ⌝ }
+pub fn lending(sizes: Sizes, draws: usize, room: usize, identity: usize, user: usize) -> Checked
+    ensures { λ r. ⌜ r ≡ judged (lendingChecks sizes draws room identity user) ⌝ }
 {
     if draws != DRAWS {
-        return Verdict::Wrong(Fault::BenchFault);
+        return Checked::Wrong(TagFault::BenchFault);
     }
     if room < ROOM {
-        return Verdict::Wrong(Fault::BenchFault);
+        return Checked::Wrong(TagFault::BenchFault);
     }
     if identity != sizes.identity as usize * 2 {
-        return Verdict::Wrong(Fault::BenchFault);
+        return Checked::Wrong(TagFault::BenchFault);
     }
     if user != sizes.user as usize * 2 {
-        return Verdict::Wrong(Fault::BenchFault);
+        return Checked::Wrong(TagFault::BenchFault);
     }
-    Verdict::Fine
+    Checked::Fine
 }
 
 /// TAM1, IAM1, MAM1: length, RFU, key.
 ///
 /// Ruled out: a missing record told before a wrong length; RFU bits that are not looked at.
-pub fn opening(keys: &[u8], kind: Kind, rfu: u8, keyid: u8, m: &[u8]) -> Verdict
+pub fn opening(keys: &[u8], kind: Kind, rfu: u8, keyid: u8, m: &[u8]) -> Checked
     ensures { λ r. ⌜ r ≡ judged (openingChecks kind rfu keyid (keysIn (now (keys .entry))) (now (m .entry))) ⌝ }
 {
     if !length_fits(kind, m) {
-        return Verdict::Wrong(Fault::OtherError);
+        return Checked::Wrong(TagFault::OtherError);
     }
     if rfu != 0 { // each of its bits
-        return Verdict::Wrong(Fault::NotSupported);
+        return Checked::Wrong(TagFault::NotSupported);
     }
     let found = keytable::find(keys, keyid);
     if found.present {
-        return Verdict::Fine;
+        return Checked::Fine;
     }
-    Verdict::Wrong(Fault::NotSupported)
+    Checked::Wrong(TagFault::NotSupported)
 }

@@ -7,7 +7,7 @@ pub mod records; // records.rt: what a setup offers, and what a message names
 pub mod judged; // judged.rt: the bench's check, and the line that opens TAM1, IAM1 and MAM1
 
 /// Why a message is refused: the scope paper's numbers 1 to 7.
-pub enum Fault {
+pub enum TagFault {
     OtherError,
     NotSupported,
     MemoryOverrun,
@@ -18,9 +18,9 @@ pub enum Fault {
 }
 
 /// The end of a line of checks.
-pub enum Verdict {
+pub enum Checked {
     Fine,
-    Wrong(Fault),
+    Wrong(TagFault),
 }
 
 /// What a message comes to: a reply of so many bytes, a reader that is let in with its Purpose (the reply is empty), or
@@ -28,21 +28,21 @@ pub enum Verdict {
 pub enum Outcome {
     Replied(usize),
     Entered(u8),
-    Refused(Fault),
+    Refused(TagFault),
 }
 
 // The scope paper's number of a refusal.
-fn fault_number(fault: Fault) -> u8
+fn fault_number(fault: TagFault) -> u8
     ensures { λ r. ⌜ r ≡ numberOf fault ⌝ }
 {
     match fault {
-        Fault::OtherError => 1,
-        Fault::NotSupported => 2,
-        Fault::MemoryOverrun => 3,
-        Fault::MemoryWriteError => 4,
-        Fault::OutOfTurn => 5,
-        Fault::ProofWrong => 6,
-        Fault::BenchFault => 7,
+        TagFault::OtherError => 1,
+        TagFault::NotSupported => 2,
+        TagFault::MemoryOverrun => 3,
+        TagFault::MemoryWriteError => 4,
+        TagFault::OutOfTurn => 5,
+        TagFault::ProofWrong => 6,
+        TagFault::BenchFault => 7,
     }
 }
 

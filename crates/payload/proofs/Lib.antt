@@ -7,4 +7,4 @@ pub mod Lengths
 pub mod Data
 pub mod Recovered
 pub mod Macs
-pub mod Fits
+pub mod Unique

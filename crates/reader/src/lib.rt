@@ -15,7 +15,7 @@ pub struct Keys {
 }
 
 /// Why the reader's side refuses: the scope paper's numbers 20 to 24.
-pub enum Fault {
+pub enum ReaderFault {
     ReplyLength,
     ChallengeWrong,
     MacWrong,
@@ -26,14 +26,14 @@ pub enum Fault {
 /// The scope paper's number of a refusal.
 ///
 /// Ruled out: the MAC's number for a wrong challenge; the tag's numbers.
-pub fn number(fault: Fault) -> u8
+pub fn number(fault: ReaderFault) -> u8
     ensures { λ r. ⌜ r ≡ numberOf fault ⌝ }
 {
     match fault {
-        Fault::ReplyLength => 20,
-        Fault::ChallengeWrong => 21,
-        Fault::MacWrong => 22,
-        Fault::HeaderWrong => 23,
-        Fault::OwnMessage => 24,
+        ReaderFault::ReplyLength => 20,
+        ReaderFault::ChallengeWrong => 21,
+        ReaderFault::MacWrong => 22,
+        ReaderFault::HeaderWrong => 23,
+        ReaderFault::OwnMessage => 24,
     }
 }

@@ -1,5 +1,5 @@
 pub mod Making
-pub mod Fits
+pub mod Unique
 pub mod Responses
 pub mod Sending
 pub mod Iam3Made

@@ -21,7 +21,7 @@ use Rattle.frames.proofs.Range.{both-left, both-right}
 use Rattle.reader.specs.declared.Keys.{Keys}
 use Rattle.reader_build.specs.declared.Made.{Made}
 use Rattle.reader_build.specs.declared.Made.the-variants.{Message, Refused}
-use Rattle.reader.specs.declared.Fault.the-variants.{OwnMessage}
+use Rattle.reader.specs.declared.ReaderFault.the-variants.{OwnMessage}
 use Rattle.frames.proofs.ProtModes.{says, mode-below}
 use Rattle.reader.specs.Own.{modeServed, modeFits}
 use Rattle.reader_build.specs.Builds.{purposeFits, dataFits, iam3Fits}

@@ -10,7 +10,7 @@ use Rattle.modes.specs.Room.{over}
 use Rattle.frames.specs.Lengths.{messageRoom}
 use Rattle.reader_build.specs.declared.Made.{Made}
 use Rattle.reader_build.specs.declared.Made.the-variants.{Message, Refused}
-use Rattle.reader.specs.declared.Fault.the-variants.{OwnMessage}
+use Rattle.reader.specs.declared.ReaderFault.the-variants.{OwnMessage}
 use Rattle.reader.specs.Numbers.{numberOf}
 
 -- The number of an answer; 0 where nothing is refused.

@@ -28,7 +28,7 @@ use frames::sizes::MESSAGE_ROOM;
 use frames::sizes::blocks_length;
 use frames::sizes::data_length;
 use payload::carried_into;
-use reader::Fault;
+use reader::ReaderFault;
 use reader::Keys;
 use reader::own::mode_fits;
 use sent::iam3_whole;
@@ -49,17 +49,17 @@ ghost use Rattle.reader_build.specs.Makes.{Makes};
 /// What a builder answers: a message of so many bytes in the room's first bytes, or a refusal, and the room as it was.
 pub enum Made {
     Message(usize),
-    Refused(Fault),
+    Refused(ReaderFault),
 }
 
 // What is built of frames' answer: a message of so many bytes, or nothing.
 fn answer(built: bool, n: usize) -> Made
-    ensures { λ r. ⌜ r ≡ pick built (Made.Message n) (Made.Refused Fault.OwnMessage) ⌝ }
+    ensures { λ r. ⌜ r ≡ pick built (Made.Message n) (Made.Refused ReaderFault.OwnMessage) ⌝ }
 {
     if built {
         return Made::Message(n);
     }
-    Made::Refused(Fault::OwnMessage)
+    Made::Refused(ReaderFault::OwnMessage)
 }
 
 // Is what an IAM3 with n bytes of data says fit to be sent, its Profile, Offset and BlockCount aside?
@@ -81,7 +81,7 @@ pub fn tam1(keyid: u8, ichallenge: [u8; 10], room: &mut [u8]) -> Made
     ensures { λ r. ⌜ Makes true (tam1Made keyid ichallenge) (now (room .entry)) r (now (room .exit)) ⌝ }
 {
     if room.len() < MESSAGE_ROOM {
-        return Made::Refused(Fault::OwnMessage);
+        return Made::Refused(ReaderFault::OwnMessage);
     }
     answer(
         tam1_into(
@@ -110,10 +110,10 @@ pub fn tam2(
         (tam2Made keyid ichallenge rev custom protmode) (now (room .entry)) r (now (room .exit)) ⌝ }
 {
     if room.len() < MESSAGE_ROOM {
-        return Made::Refused(Fault::OwnMessage);
+        return Made::Refused(ReaderFault::OwnMessage);
     }
     if !mode_fits(keys, protmode) {
-        return Made::Refused(Fault::OwnMessage);
+        return Made::Refused(ReaderFault::OwnMessage);
     }
     let f = Tam2 {
         rev,
@@ -131,7 +131,7 @@ pub fn iam1(keyid: u8, room: &mut [u8]) -> Made
     ensures { λ r. ⌜ Makes true (iam1Made keyid) (now (room .entry)) r (now (room .exit)) ⌝ }
 {
     if room.len() < MESSAGE_ROOM {
-        return Made::Refused(Fault::OwnMessage);
+        return Made::Refused(ReaderFault::OwnMessage);
     }
     answer(iam1_into(Iam1 { rfu: 0, keyid }, room), 2)
 }
@@ -141,7 +141,7 @@ pub fn mam1(keyid: u8, ichallenge: [u8; 10], room: &mut [u8]) -> Made
     ensures { λ r. ⌜ Makes true (mam1Made keyid ichallenge) (now (room .entry)) r (now (room .exit)) ⌝ }
 {
     if room.len() < MESSAGE_ROOM {
-        return Made::Refused(Fault::OwnMessage);
+        return Made::Refused(ReaderFault::OwnMessage);
     }
     answer(
         mam1_into(
@@ -162,10 +162,10 @@ pub fn iam2(keys: Keys, purpose: u8, irnd: [u8; 4], tchallenge: [u8; 10], room: 
         (now (room .exit)) ⌝ }
 {
     if room.len() < MESSAGE_ROOM {
-        return Made::Refused(Fault::OwnMessage);
+        return Made::Refused(ReaderFault::OwnMessage);
     }
     if 16 <= purpose {
-        return Made::Refused(Fault::OwnMessage);
+        return Made::Refused(ReaderFault::OwnMessage);
     }
     let enc = keys.enc;
     let iresponse = response(enc, iam2_constant(purpose), irnd, tchallenge);
@@ -184,10 +184,10 @@ pub fn mam2(
         (now (room .exit)) ⌝ }
 {
     if room.len() < MESSAGE_ROOM {
-        return Made::Refused(Fault::OwnMessage);
+        return Made::Refused(ReaderFault::OwnMessage);
     }
     if 16 <= purpose {
-        return Made::Refused(Fault::OwnMessage);
+        return Made::Refused(ReaderFault::OwnMessage);
     }
     let enc = keys.enc;
     let last = [ichallenge[6], ichallenge[7], ichallenge[8], ichallenge[9]];
@@ -215,7 +215,7 @@ fn iam3_in_mode(
 {
     let mut p = [0u8; DATA_ROOM];
     if !carried_into(true, custom, words, &mut p) {
-        return Made::Refused(Fault::OwnMessage);
+        return Made::Refused(ReaderFault::OwnMessage);
     }
     let enc = keys.enc;
     let a = response(enc, iam3_constant(mode, purpose), irnd, tchallenge);
@@ -241,10 +241,10 @@ pub fn iam3(
         (now (room .exit)) ⌝ }
 {
     if room.len() < MESSAGE_ROOM {
-        return Made::Refused(Fault::OwnMessage);
+        return Made::Refused(ReaderFault::OwnMessage);
     }
     if !iam3_fits(keys, custom, protmode, purpose, words.len()) {
-        return Made::Refused(Fault::OwnMessage);
+        return Made::Refused(ReaderFault::OwnMessage);
     }
     match prot_mode(protmode) {
         ProtModeField::Mode(mode) => {
@@ -253,7 +253,7 @@ pub fn iam3(
             );
         }
         ProtModeField::NoMode => {
-            return Made::Refused(Fault::OwnMessage);
+            return Made::Refused(ReaderFault::OwnMessage);
         }
     }
 }

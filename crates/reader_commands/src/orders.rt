@@ -11,7 +11,7 @@ use lines::numbers::sum;
 use memory::BlockSize;
 use memory::Offset;
 use payload::same;
-use reader::Fault;
+use reader::ReaderFault;
 use reader::Keys;
 use reader_build::Made;
 
@@ -95,7 +95,7 @@ pub fn made(keys: Keys, kind: Kind, line: &[u8], room: &mut [u8]) -> Made {
 }
 
 fn out_of_range() -> Made {
-    Made::Refused(Fault::OwnMessage)
+    Made::Refused(ReaderFault::OwnMessage)
 }
 
 // TAM1, or MAM1, which has the same fields.

@@ -9,7 +9,7 @@ use Rattle.frames.specs.declared.Tam2.{Tam2 as Tam2Fields}
 use Rattle.frames.specs.declared.Mam1.{Mam1 as Mam1Fields}
 use Rattle.frames.specs.Messages.{tam1Of, tam2Of, mam1Of}
 use Rattle.reader.specs.declared.Keys.{Keys}
-use Rattle.reader.specs.declared.Fault.the-variants.{OwnMessage}
+use Rattle.reader.specs.declared.ReaderFault.the-variants.{OwnMessage}
 use Rattle.reader_judge.specs.declared.Judgement.{Judgement}
 use Rattle.reader_judge.specs.Findings.{Finding, refused, nothingMore, issues, saidOf, Judges}
 use Rattle.reader_judge.specs.Judged.{tam1Finding, tam2Finding, iam1Finding, mam1Finding, emptyFinding, byKind}

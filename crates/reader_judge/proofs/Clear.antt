@@ -35,7 +35,7 @@ use Rattle.payload.proofs.Lengths.{blocks-whole, dec-joined}
 use Rattle.payload.proofs.Macs.{into-taken}
 use Rattle.payload.proofs.Overs.{over-taken}
 use Rattle.reader.specs.declared.Keys.{Keys}
-use Rattle.reader.specs.declared.Fault.the-variants.{OwnMessage}
+use Rattle.reader.specs.declared.ReaderFault.the-variants.{OwnMessage}
 use Rattle.reader_judge.specs.declared.Judgement.{Judgement}
 use Rattle.reader_judge.specs.Findings.{carries, refused, worthOf, saidOf, Judges}
 use Rattle.reader_judge.specs.Judged.{dataFinding, tam2InMode, tam2Finding}

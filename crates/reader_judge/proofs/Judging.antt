@@ -16,8 +16,8 @@ use Rattle.frames.specs.Kinds.{kindOf}
 use Rattle.frames.specs.Lengths.{lengthFits}
 use Rattle.frames.proofs.Range.{both-left}
 use Rattle.reader.specs.declared.Keys.{Keys}
-use Rattle.reader.specs.declared.Fault.{Fault}
-use Rattle.reader.specs.declared.Fault.the-variants.{OwnMessage}
+use Rattle.reader.specs.declared.ReaderFault.{ReaderFault}
+use Rattle.reader.specs.declared.ReaderFault.the-variants.{OwnMessage}
 use Rattle.reader_judge.specs.declared.Judgement.{Judgement}
 use Rattle.reader_judge.specs.Findings.{Finding, refused, saidOf, verdictNumber, Judges}
 use Rattle.reader_judge.specs.Judged.{byKind, ofKind, judgementOf}
@@ -46,7 +46,7 @@ pub judges-as : {f g : Finding} {room after : List ℕ} {r : Judgement} → f �
 judges-as e h = rw (← e) h
 
 -- A line of checks brings no data of its own.
-pub line-quiet : (cs : List (Check Fault)) (found : Finding) → found .bytes ≡ [] → judgedTo refused cs found .bytes ≡ []
+pub line-quiet : (cs : List (Check ReaderFault)) (found : Finding) → found .bytes ≡ [] → judgedTo refused cs found .bytes ≡ []
 line-quiet cs found e = keeps refused found (λ (f : Finding). f .bytes ≡ []) (λ f. refl) e cs
 
 -- The judge, from the message's first byte on.

@@ -2,4 +2,4 @@ pub mod Places
 pub mod Judging
 pub mod Arms
 pub mod Clear
-pub mod Fits
+pub mod Unique

@@ -8,7 +8,7 @@ use Rattle.ground.specs.Choice.{pick}
 use Rattle.modes.specs.Room.{over}
 use Rattle.frames.specs.declared.ProtMode.{ProtMode}
 use Rattle.frames.specs.Modes.{hasMac}
-use Rattle.reader.specs.declared.Fault.{Fault}
+use Rattle.reader.specs.declared.ReaderFault.{ReaderFault}
 use Rattle.reader_judge.specs.declared.Worth.{Worth}
 use Rattle.reader_judge.specs.declared.Worth.the-variants.{NoData, Unproved, Proved}
 use Rattle.reader_judge.specs.declared.Verdict.{Verdict}
@@ -28,7 +28,7 @@ pub record Finding : Type 0 where
 abbrev pub silent : Verdict → Finding
 silent v = record { verdict = v; bytes = []; worth = NoData; issued = false; challenge = replicate 10 0 }
 
-abbrev pub refused : Fault → Finding
+abbrev pub refused : ReaderFault → Finding
 refused f = silent (Refused f)
 
 abbrev pub nothingMore : Finding

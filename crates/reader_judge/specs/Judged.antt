@@ -5,6 +5,7 @@ use Prim.Native.Nat.{ℕ}
 use mathlib.Core.List.{List, [], _∷_}
 use lib.Dec.{eqb}
 use lib.ListN.{length, take, drop}
+use Rattle.ground.specs.Bytes.{twoBytes}
 use Rattle.ground.specs.Choice.{pick}
 use Rattle.ground.specs.Checks.{_else_, judgedTo}
 use Rattle.frames.specs.declared.Kind.{Kind}
@@ -12,7 +13,7 @@ use Rattle.frames.specs.declared.Kind.the-variants.{Tam1, Tam2, Iam1, Iam2, Iam
 use Rattle.frames.specs.declared.Tam1.{Tam1 as Tam1Fields}
 use Rattle.frames.specs.declared.Tam2.{Tam2 as Tam2Fields}
 use Rattle.frames.specs.declared.Mam1.{Mam1 as Mam1Fields}
-use Rattle.frames.specs.Constants.{C-TAM1, C-MAM1, tam2Constant, twoBytes}
+use Rattle.frames.specs.Constants.{C-TAM1, C-MAM1, tam2Constant}
 use Rattle.frames.specs.Kinds.{kindOf}
 use Rattle.frames.specs.Lengths.{tam1ReplyLength, tam2ReplyLength, tam2MacAt, iam1ReplyLength, mam1ReplyLength}
 use Rattle.frames.specs.Lengths.{emptyReplyLength}
@@ -22,7 +23,7 @@ use Rattle.frames.specs.Modes.{inMode, protModeOf}
 use Rattle.payload.specs.Protected.{macFits}
 use Rattle.payload.specs.Data.{headerFits, fillerFits, wordsIn}
 use Rattle.reader.specs.declared.Keys.{Keys}
-use Rattle.reader.specs.declared.Fault.the-variants.{ReplyLength, ChallengeWrong, MacWrong, HeaderWrong, OwnMessage}
+use Rattle.reader.specs.declared.ReaderFault.the-variants.{ReplyLength, ChallengeWrong, MacWrong, HeaderWrong, OwnMessage}
 use Rattle.reader_judge.specs.Findings.{Finding, refused, nothingMore, carries, worthOf, issues}
 use Rattle.reader_judge.specs.Opened.{openedBlock, blockFits, challengeIn, openedData}
 use Rattle.reader.specs.Own.{ownFits}

@@ -11,7 +11,7 @@ use frames::Mam1;
 use frames::Tam1;
 use frames::constants::mam1_constant;
 use frames::constants::tam1_constant;
-use reader::Fault;
+use reader::ReaderFault;
 use reader::Keys;
 ghost use mathlib.Core.Path.{_≡_};
 ghost use Rattle.reader_judge.specs.Findings.{saidOf};
@@ -22,11 +22,11 @@ pub fn tam1(keys: Keys, f: Tam1, reply: &[u8]) -> Judgement
     ensures { λ r. ⌜ r ≡ saidOf (tam1Finding keys f (now (reply .entry))) ⌝ }
 {
     if reply.len() != 16 {
-        return refused(Fault::ReplyLength);
+        return refused(ReaderFault::ReplyLength);
     }
     let ichallenge = f.ichallenge;
     if !block_fits(tam1_constant(), ichallenge, opened_block(keys, reply)) {
-        return refused(Fault::ChallengeWrong);
+        return refused(ReaderFault::ChallengeWrong);
     }
     silent(Verdict::Accepted)
 }
@@ -36,7 +36,7 @@ pub fn iam1(reply: &[u8]) -> Judgement
     ensures { λ r. ⌜ r ≡ saidOf (iam1Finding (now (reply .entry))) ⌝ }
 {
     if reply.len() != 10 {
-        return refused(Fault::ReplyLength);
+        return refused(ReaderFault::ReplyLength);
     }
     issues([
         reply[0],
@@ -58,12 +58,12 @@ pub fn mam1(keys: Keys, f: Mam1, reply: &[u8]) -> Judgement
     ensures { λ r. ⌜ r ≡ saidOf (mam1Finding keys f (now (reply .entry))) ⌝ }
 {
     if reply.len() != 22 {
-        return refused(Fault::ReplyLength);
+        return refused(ReaderFault::ReplyLength);
     }
     let ichallenge = f.ichallenge;
     let b = opened_block(keys, reply);
     if !block_fits(mam1_constant(), ichallenge, b) {
-        return refused(Fault::ChallengeWrong);
+        return refused(ReaderFault::ChallengeWrong);
     }
     issues(challenge_in(b, reply))
 }
@@ -74,7 +74,7 @@ pub fn empty(reply: &[u8]) -> Judgement
     ensures { λ r. ⌜ r ≡ saidOf (emptyFinding (now (reply .entry))) ⌝ }
 {
     if reply.len() != 0 {
-        return refused(Fault::ReplyLength);
+        return refused(ReaderFault::ReplyLength);
     }
     silent(Verdict::Accepted)
 }

@@ -10,7 +10,7 @@ use frames::fields::mam1_of;
 use frames::fields::tam1_of;
 use frames::fields::tam2_of;
 use frames::first::kind_of;
-use reader::Fault;
+use reader::ReaderFault;
 use reader::Keys;
 use reader::own::own_fits;
 use said::refused;
@@ -32,7 +32,7 @@ pub enum Worth {
 /// The end of a judgement.
 pub enum Verdict {
     Accepted,
-    Refused(Fault),
+    Refused(ReaderFault),
 }
 
 /// What the judge says of a reply: the verdict; how many bytes of data stand in the data room's first bytes, and what
@@ -74,7 +74,7 @@ fn by_kind(keys: Keys, kind: Kind, message: &[u8], reply: &[u8], room: &mut [u8]
             return kinds::empty(reply);
         }
         Kind::Unsupported => {
-            return refused(Fault::OwnMessage);
+            return refused(ReaderFault::OwnMessage);
         }
     }
 }
@@ -88,11 +88,11 @@ pub fn judge(keys: Keys, message: &[u8], reply: &[u8], room: &mut [u8]) -> Judge
         (now (room .entry)) r (now (room .exit)) ⌝ }
 {
     if message.len() == 0 {
-        return refused(Fault::OwnMessage);
+        return refused(ReaderFault::OwnMessage);
     }
     let kind = kind_of(message[0]);
     if !own_fits(keys, kind, message, room.len()) {
-        return refused(Fault::OwnMessage);
+        return refused(ReaderFault::OwnMessage);
     }
     by_kind(keys, kind, message, reply, room)
 }

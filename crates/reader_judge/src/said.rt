@@ -4,7 +4,7 @@ use super::Verdict;
 use super::Worth;
 use frames::ProtMode;
 use frames::modes::has_mac;
-use reader::Fault;
+use reader::ReaderFault;
 ghost use mathlib.Core.Path.{_≡_};
 ghost use Rattle.reader_judge.specs.Findings.{silent, refused, issues, carries, worthOf, saidOf};
 
@@ -22,7 +22,7 @@ pub fn silent(verdict: Verdict) -> Judgement
 }
 
 /// A refusal. Ruled out: acceptance; another number.
-pub fn refused(fault: Fault) -> Judgement
+pub fn refused(fault: ReaderFault) -> Judgement
     ensures { λ r. ⌜ r ≡ saidOf (refused fault) ⌝ }
 {
     silent(Verdict::Refused(fault))

@@ -14,7 +14,7 @@ use frames::modes::prot_mode;
 use frames::sizes::DATA_ROOM;
 use frames::sizes::blocks_length;
 use frames::sizes::tam2_reply_length;
-use reader::Fault;
+use reader::ReaderFault;
 use reader::Keys;
 ghost use mathlib.Core.Path.{_≡_};
 ghost use mathlib.Core.Bool.{true};
@@ -36,10 +36,10 @@ fn judge_data(mode: ProtMode, f: Tam2, p: &[u8], room: &mut [u8]) -> Judgement
 {
     let custom = f.custom;
     if !payload::header_fits(f.rev, custom, p) {
-        return refused(Fault::HeaderWrong);
+        return refused(ReaderFault::HeaderWrong);
     }
     if !payload::filler_fits(f.rev, custom, p) {
-        return refused(Fault::HeaderWrong);
+        return refused(ReaderFault::HeaderWrong);
     }
     let words = payload::words_in(f.rev, custom, p);
     bytes::copy(words, room);
@@ -82,15 +82,15 @@ fn tam2_in_mode(
     let custom = f.custom;
     let size = custom.blocksize;
     if reply.len() != tam2_reply_length(size, f.rev, custom.blockcount, mode) {
-        return refused(Fault::ReplyLength);
+        return refused(ReaderFault::ReplyLength);
     }
     let ichallenge = f.ichallenge;
     let constant = tam2_constant(f.rev, mode);
     if !block_fits(constant, ichallenge, opened_block(keys, reply)) {
-        return refused(Fault::ChallengeWrong);
+        return refused(ReaderFault::ChallengeWrong);
     }
     if !mac_fits(keys, mode, f, reply) {
-        return refused(Fault::MacWrong);
+        return refused(ReaderFault::MacWrong);
     }
     open_and_judge(keys, mode, f, reply, room)
 }
@@ -103,6 +103,6 @@ pub fn tam2(keys: Keys, f: Tam2, reply: &[u8], room: &mut [u8]) -> Judgement
 {
     match prot_mode(f.protmode) {
         ProtModeField::Mode(mode) => tam2_in_mode(keys, mode, f, reply, room),
-        ProtModeField::NoMode => refused(Fault::OwnMessage),
+        ProtModeField::NoMode => refused(ReaderFault::OwnMessage),
     }
 }

@@ -15,7 +15,7 @@ use Rattle.ground.proofs.Bytes.{bytes-tail, bytes-take, bytes-drop}
 use Rattle.ground.proofs.Choice.{both-true}
 use Rattle.sheet.specs.Limits.{profileLimit, lockLimit}
 use Rattle.sheet.specs.Kinds.{kindOf, bodyLength, inOrder}
-use Rattle.sheet.specs.Setups.{noLock, emptyTerms, noMarks, nothingKept}
+use Rattle.sheet.specs.Setups.{noLock, emptyTerms, noMarks, nothingGathered}
 use Rattle.sheet.specs.Records.{featuresRule, featuresOf, sizesRule, sizesOf, keyRule, keyOf}
 use Rattle.sheet.specs.Records.{profileRule, slotOf, lockRule, lockOf}
 use Rattle.sheet.specs.Judgement.{tooMany, withFeatures, withSizes, withKey, withProfile, withLock}
@@ -29,13 +29,13 @@ use Rattle.sheet.specs.declared.Sizes.{Sizes}
 use Rattle.sheet.specs.declared.Key.{Key}
 use Rattle.sheet.specs.declared.Slot.{Slot}
 use Rattle.sheet.specs.declared.Marks.{Marks}
-use Rattle.sheet.specs.declared.Kept.{Kept}
+use Rattle.sheet.specs.declared.Gathered.{Gathered}
 use Rattle.sheet.proofs.Rules.{profile-place}
 use Rattle.sheet.proofs.Judgements.{key-room, lock-room}
 use Rattle.sheet.proofs.Walks.{Took, took-features, took-sizes, took-key, took-profile, took-lock, Step}
 use Rattle.sheet.proofs.Runs.{codeOf, kind-code}
 use Rattle.sheet.proofs.Tables.{longer}
-use Rattle.sheet.proofs.States.{marks-of, state, up-to, profile-marks, lock-marks, slot-kept, lock-kept}
+use Rattle.sheet.proofs.States.{marks-of, state, up-to, profile-marks, lock-marks, slot-gathered, lock-gathered}
 use Rattle.sheet.proofs.Sound.{Fine, Sound, none, first, more, opening, body}
 use Rattle.sheet.proofs.Forth.{features-iam, features-forth, sizes-low, sizes-forth}
 use Rattle.sheet.proofs.Forth.{key-rises, key-within, key-forth, profile-rises, profile-within, profile-forth}
@@ -73,17 +73,17 @@ unfolding locksWritten
 no-lock-bytes ls e = ap locksWritten e
 
 module _ (limit : ℕ) where
-  moved : {c c′ : List ℕ} {k k′ : Kept} {ks : List Key} → c ≡ c′ → k ≡ k′ → Sound limit c k ks → Sound limit c′ k′ ks
-  moved {ks = ks} p q s = subst₂ (λ (c : List ℕ) (k : Kept). Sound limit c k ks) p q s
+  moved : {c c′ : List ℕ} {k k′ : Gathered} {ks : List Key} → c ≡ c′ → k ≡ k′ → Sound limit c k ks → Sound limit c′ k′ ks
+  moved {ks = ks} p q s = subst₂ (λ (c : List ℕ) (k : Gathered). Sound limit c k ks) p q s
 
   -- 01
-  sound-features : (c b : List ℕ) (k : Kept) (ks : List Key) → Sound limit c k ks → length b ≡ 2
+  sound-features : (c b : List ℕ) (k : Gathered) (ks : List Key) → Sound limit c k ks → length b ≡ 2
       → featuresRule b ≡ true → inOrder (k .marks .last) 1 ≡ true
       → Sound limit (c ++ (1 ∷ b)) (withFeatures k b) ks
   unfolding inOrder withFeatures
   sound-features c b k ks none l r o =
       let d = featuresBody (featuresOf b) in
-      let p : Sound limit (1 ∷ d) (withFeatures nothingKept d) [] = first (featuresOf b) (features-iam b l r) in
+      let p : Sound limit (1 ∷ d) (withFeatures nothingGathered d) [] = first (featuresOf b) (features-iam b l r) in
       rw (features-forth b l r) at p
   sound-features c b k ks (first f h) l r o = let z : _≡_ {A = ℕ} 0 1 = cc in absurd (omega arith)
   sound-features c b k _ (more f z m ks ss ls w) l r o =
@@ -91,9 +91,9 @@ module _ (limit : ℕ) where
       absurd (omega arith)
 
   -- 02
-  sound-sizes : (c b : List ℕ) (k : Kept) (ks : List Key) → Sound limit c k ks → Bytes b → length b ≡ 4
+  sound-sizes : (c b : List ℕ) (k : Gathered) (ks : List Key) → Sound limit c k ks → Bytes b → length b ≡ 4
       → sizesRule b ≡ true → inOrder (k .marks .last) 2 ≡ true → Sound limit (c ++ (2 ∷ b)) (withSizes k b) ks
-  unfolding inOrder nothingKept noMarks withFeatures withSizes emptyTerms profileLimit lockLimit keysWritten
+  unfolding inOrder nothingGathered noMarks withFeatures withSizes emptyTerms profileLimit lockLimit keysWritten
       profilesWritten locksWritten
   sound-sizes c b k ks none y l r o = let z : _≡_ {A = ℕ} 0 1 = cc in absurd (omega arith)
   sound-sizes c b k ks (first f h) y l r o =
@@ -128,10 +128,10 @@ module _ (limit : ℕ) where
       absurd (omega arith)
 
   -- 03
-  sound-key : (c b : List ℕ) (k : Kept) (ks : List Key) → Sound limit c k ks → Bytes b → length b ≡ 36
+  sound-key : (c b : List ℕ) (k : Gathered) (ks : List Key) → Sound limit c k ks → Bytes b → length b ≡ 36
       → keyRule (k .marks .id) b ≡ true → inOrder (k .marks .last) 3 ≡ true → k .marks .keys < limit
       → Sound limit (c ++ (3 ∷ b)) (withKey k b) (ks ++ keyOf b ∷ [])
-  unfolding inOrder nothingKept noMarks withFeatures withKey keyOf
+  unfolding inOrder nothingGathered noMarks withFeatures withKey keyOf
   sound-key c b k ks none y l r o t = let z : _≡_ {A = ℕ} 0 1 = cc in absurd (omega arith)
   sound-key c b k ks (first f h) y l r o t = let z : _≡_ {A = ℕ} 0 1 = cc in absurd (omega arith)
   sound-key c b k _ (more f z m ks ss ls w) y l r o t =
@@ -170,10 +170,10 @@ module _ (limit : ℕ) where
       (more f z m′ (ks ++ x ∷ []) ss ls w′)
 
   -- 04
-  sound-profile : (c b : List ℕ) (k : Kept) (ks : List Key) → Sound limit c k ks → Bytes b → length b ≡ 6
+  sound-profile : (c b : List ℕ) (k : Gathered) (ks : List Key) → Sound limit c k ks → Bytes b → length b ≡ 6
       → profileRule (k .marks .number) (k .terms .sizes) b ≡ true → inOrder (k .marks .last) 4 ≡ true
       → Sound limit (c ++ (4 ∷ b)) (withProfile k b) ks
-  unfolding inOrder nothingKept noMarks withFeatures
+  unfolding inOrder nothingGathered noMarks withFeatures
   sound-profile c b k ks none y l r o = let z : _≡_ {A = ℕ} 0 1 = cc in absurd (omega arith)
   sound-profile c b k ks (first f h) y l r o = let z : _≡_ {A = ℕ} 0 1 = cc in absurd (omega arith)
   sound-profile c b k _ (more f z m ks ss ls w) y l r o =
@@ -210,14 +210,14 @@ module _ (limit : ℕ) where
       (ap (λ (i : List ℕ). opening f z ++ (a ++ (i ++ k))) (up-written ss p x up (fine .0))
       ∙ glue-slot (opening f z) a (profilesWritten 0 ss) k one (no-lock-bytes ls el)
       ∙ ap (λ (i : List ℕ). body f z ks ss ls ++ (4 ∷ i)) (profile-forth (m .number) z b y l r))
-      (sym (slot-kept f z m ss ls b up place))
+      (sym (slot-gathered f z m ss ls b up place))
       (more f z (profile-marks m b) ks (up-to ss p x) ls w′)
 
   -- 05
-  sound-lock : (c b : List ℕ) (k : Kept) (ks : List Key) → Sound limit c k ks → Bytes b → length b ≡ 5
+  sound-lock : (c b : List ℕ) (k : Gathered) (ks : List Key) → Sound limit c k ks → Bytes b → length b ≡ 5
       → lockRule (k .marks .area) (k .marks .word) (k .terms .sizes) b ≡ true → inOrder (k .marks .last) 5 ≡ true
       → k .terms .locks .count < lockLimit → Sound limit (c ++ (5 ∷ b)) (withLock k b) ks
-  unfolding inOrder nothingKept noMarks withFeatures lockOf
+  unfolding inOrder nothingGathered noMarks withFeatures lockOf
   sound-lock c b k ks none y l r o t = let z : _≡_ {A = ℕ} 0 1 = cc in absurd (omega arith)
   sound-lock c b k ks (first f h) y l r o t = let z : _≡_ {A = ℕ} 0 1 = cc in absurd (omega arith)
   sound-lock c b k _ (more f z m ks ss ls w) y l r o t =
@@ -248,11 +248,11 @@ module _ (limit : ℕ) where
       (ap (λ (i : List ℕ). opening f z ++ (a ++ (p ++ i))) (locks-written ls x)
       ∙ glue-lock (opening f z) a p (locksWritten ls) (5 ∷ lockBody x)
       ∙ ap (λ (i : List ℕ). body f z ks ss ls ++ (5 ∷ i)) (lock-forth (m .area) (m .word) z b y l r))
-      (sym (lock-kept f z m ss ls b t))
+      (sym (lock-gathered f z m ss ls b t))
       (more f z (lock-marks m b) ks ss (ls ++ x ∷ []) w′)
 
   -- one record of any kind
-  by-kind : (q : Kind) (b c : List ℕ) (k k′ : Kept) (ks : List Key) → Took q b k k′ → Sound limit c k ks → Bytes b
+  by-kind : (q : Kind) (b c : List ℕ) (k k′ : Gathered) (ks : List Key) → Took q b k k′ → Sound limit c k ks → Bytes b
       → length b ≡ bodyLength q → inOrder (k .marks .last) (codeOf q) ≡ true → tooMany limit q k ≡ false
       → Sound limit (c ++ (codeOf q ∷ b)) k′ (ks ++ keySaid q b)
   by-kind q b c k k′ ks (took-features r) s y l o t = rw (append-nil ks) (sound-features c b k ks s l r o)
@@ -266,7 +266,7 @@ module _ (limit : ℕ) where
   bytes-behind c r s e y =
       rw (drop-at c r (length c) refl) at (bytes-drop (length c) (c ++ r) (rw (← e) at y))
 
-  pub sound-step : (s : List ℕ) → Bytes s → (c : List ℕ) (b : ℕ) (t : List ℕ) (k k′ : Kept) (n : ℕ) (ks : List Key)
+  pub sound-step : (s : List ℕ) → Bytes s → (c : List ℕ) (b : ℕ) (t : List ℕ) (k k′ : Gathered) (n : ℕ) (ks : List Key)
       → c ++ (b ∷ t) ≡ s → Step limit b t k k′ n → Sound limit c k ks
       → Sound limit (c ++ take n (b ∷ t)) k′ (ks ++ keySaid (kindOf b) (take (bodyLength (kindOf b)) t))
   sound-step s y c b t k k′ n ks e p h =

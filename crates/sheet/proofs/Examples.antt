@@ -13,14 +13,14 @@ use Rattle.octets.specs.Alike.{allZero}
 use Rattle.sheet.specs.Limits.{keyLimit, profileLimit, lockLimit, wordLimit}
 use Rattle.sheet.specs.Kinds.{kindOf, inOrder}
 use Rattle.sheet.specs.KeyTable.{recordsIn, keysIn, keyTable}
-use Rattle.sheet.specs.Setups.{setupOf, noFeatures, noSlot, noLock, emptyTerms, emptySetup, noMarks, nothingKept}
+use Rattle.sheet.specs.Setups.{setupOf, noFeatures, noSlot, noLock, emptyTerms, emptySetup, noMarks, nothingGathered}
 use Rattle.sheet.specs.Records.{areaOf, wordsIn, inside, featuresRule, featuresOf, sizesRule, sizesOf}
 use Rattle.sheet.specs.Records.{keyRule, keyOf, profileRule, slotOf, lockRule, lockOf}
 use Rattle.sheet.specs.Judgement.{tooMany, openedOf, recordOf, judgedOf}
 use Rattle.sheet.specs.Judgement.{withFeatures, withSizes, withKey, withProfile, withLock}
 use Rattle.sheet.specs.Sheet.{after, walk, readOf, saidOf, whole, refusedAt}
 use Rattle.sheet.specs.Sheet.{verdictNumber, verdictPlace, readNumber, readPlace}
-use Rattle.sheet.specs.declared.Fault.the-variants.{Cut, Unknown, Order, Value, Many, Tail}
+use Rattle.sheet.specs.declared.SheetFault.the-variants.{Cut, Unknown, Order, Value, Many, Tail}
 use Rattle.sheet.specs.declared.Key.{Key}
 use Rattle.sheet.specs.declared.Sizes.{Sizes}
 use Rattle.sheet.specs.declared.Terms.{Terms}
@@ -41,7 +41,7 @@ smallest = 0x01 ∷ 0x00 ∷ 0x00 ∷ 0x02 ∷ 0x00 ∷ 0x00 ∷ 0x00 ∷ 0x00 �
 
 pub example-11 : (limit : ℕ) → readOf limit smallest ≡ whole emptyTerms 0
 unfolding readOf walk after judgedOf openedOf tooMany kindOf inOrder recordOf withFeatures withSizes featuresRule
-    featuresOf sizesRule sizesOf wordLimit nothingKept noMarks emptyTerms noFeatures
+    featuresOf sizesRule sizesOf wordLimit nothingGathered noMarks emptyTerms noFeatures
 example-11 limit = refl
 
 -- example (12): the empty sheet is 30 at 0
@@ -51,7 +51,7 @@ example-12 limit = refl
 
 -- example (13): a sheet that starts 02 is 32 at 0, whatever follows
 pub example-13 : (limit : ℕ) (t : List ℕ) → readOf limit (0x02 ∷ t) ≡ refusedAt Order 0
-unfolding readOf walk after judgedOf openedOf tooMany kindOf inOrder nothingKept noMarks
+unfolding readOf walk after judgedOf openedOf tooMany kindOf inOrder nothingGathered noMarks
 example-13 limit t = refl
 
 -- and what it says is the empty setup
@@ -80,34 +80,34 @@ number-13 limit t = (ap number-of (example-13 limit t), ap place-of (example-13 
 
 -- 01 00 is 30 at 0
 pub cut-first : (limit : ℕ) → readOf limit (0x01 ∷ 0x00 ∷ []) ≡ refusedAt Cut 0
-unfolding readOf walk after judgedOf openedOf tooMany kindOf inOrder nothingKept noMarks
+unfolding readOf walk after judgedOf openedOf tooMany kindOf inOrder nothingGathered noMarks
 cut-first limit = refl
 
 -- 01 00 00 is 30 at 3
 pub cut-second : (limit : ℕ) → readOf limit (0x01 ∷ 0x00 ∷ 0x00 ∷ []) ≡ refusedAt Cut 3
 unfolding readOf walk after judgedOf openedOf tooMany kindOf inOrder recordOf withFeatures featuresRule featuresOf
-    nothingKept noMarks emptyTerms
+    nothingGathered noMarks emptyTerms
 cut-second limit = refl
 
 -- a first byte 00 or 07 is 31 at 0
 pub unknown-0 : (limit : ℕ) (t : List ℕ) → readOf limit (0x00 ∷ t) ≡ refusedAt Unknown 0
-unfolding readOf walk after judgedOf openedOf kindOf nothingKept noMarks
+unfolding readOf walk after judgedOf openedOf kindOf nothingGathered noMarks
 unknown-0 limit t = refl
 
 pub unknown-7 : (limit : ℕ) (t : List ℕ) → readOf limit (0x07 ∷ t) ≡ refusedAt Unknown 0
-unfolding readOf walk after judgedOf openedOf kindOf nothingKept noMarks
+unfolding readOf walk after judgedOf openedOf kindOf nothingGathered noMarks
 unknown-7 limit t = refl
 
 -- 01 00 00 06 is 32 at 3: 02 is not second
 pub end-second : (limit : ℕ) → readOf limit (0x01 ∷ 0x00 ∷ 0x00 ∷ 0x06 ∷ []) ≡ refusedAt Order 3
 unfolding readOf walk after judgedOf openedOf tooMany kindOf inOrder recordOf withFeatures featuresRule featuresOf
-    nothingKept noMarks emptyTerms
+    nothingGathered noMarks emptyTerms
 end-second limit = refl
 
 -- a byte behind the end record of example (11) is 35 at its place
 pub tail : (limit : ℕ) → readOf limit (smallest ++ 0x06 ∷ []) ≡ refusedAt Tail 9
 unfolding readOf walk after judgedOf openedOf tooMany kindOf inOrder recordOf withFeatures withSizes featuresRule
-    featuresOf sizesRule sizesOf wordLimit nothingKept noMarks emptyTerms noFeatures
+    featuresOf sizesRule sizesOf wordLimit nothingGathered noMarks emptyTerms noFeatures
 tail limit = refl
 
 -- one record of each kind: key 05 with a MAC key, profile 2 of area 1, a lock in area 1
@@ -149,7 +149,7 @@ each-terms = record {
 pub each-kind : readOf keyLimit one-of-each ≡ whole each-terms 1
 unfolding readOf walk after judgedOf openedOf tooMany kindOf inOrder recordOf withFeatures withSizes withKey
     withProfile withLock featuresRule featuresOf sizesRule sizesOf keyRule keyOf profileRule slotOf lockRule lockOf
-    inside wordsIn areaOf allZero wordLimit keyLimit profileLimit lockLimit nothingKept noMarks emptyTerms keyed
+    inside wordsIn areaOf allZero wordLimit keyLimit profileLimit lockLimit nothingGathered noMarks emptyTerms keyed
 each-kind = refl
 
 -- its key stands in its key table
@@ -225,7 +225,7 @@ pub equal-ids : readOf keyLimit
     ∷ 0x03 ∷ 0x05 ∷ replicate 35 0 ++ (0x03 ∷ 0x05 ∷ replicate 35 0))
     ≡ refusedAt Value 45
 unfolding readOf walk after judgedOf openedOf tooMany kindOf inOrder recordOf withFeatures withSizes withKey
-    featuresRule featuresOf sizesRule sizesOf keyRule keyOf allZero wordLimit keyLimit nothingKept noMarks
+    featuresRule featuresOf sizesRule sizesOf keyRule keyOf allZero wordLimit keyLimit nothingGathered noMarks
     emptyTerms
 equal-ids = refl
 
@@ -237,25 +237,25 @@ one-word-each t = 0x01 ∷ 0x00 ∷ 0x00 ∷ 0x02 ∷ 0x00 ∷ 0x01 ∷ 0x00 ∷
 pub area-two : (limit : ℕ)
     → readOf limit (one-word-each (0x04 ∷ 0x00 ∷ 0x02 ∷ 0x00 ∷ 0x00 ∷ 0x00 ∷ 0x01 ∷ [])) ≡ refusedAt Value 8
 unfolding readOf walk after judgedOf openedOf tooMany kindOf inOrder recordOf withFeatures withSizes featuresRule
-    featuresOf sizesRule sizesOf profileRule inside wordsIn wordLimit profileLimit nothingKept noMarks emptyTerms
+    featuresOf sizesRule sizesOf profileRule inside wordsIn wordLimit profileLimit nothingGathered noMarks emptyTerms
 area-two limit = refl
 
 pub no-words : (limit : ℕ)
     → readOf limit (one-word-each (0x04 ∷ 0x00 ∷ 0x00 ∷ 0x00 ∷ 0x00 ∷ 0x00 ∷ 0x00 ∷ [])) ≡ refusedAt Value 8
 unfolding readOf walk after judgedOf openedOf tooMany kindOf inOrder recordOf withFeatures withSizes featuresRule
-    featuresOf sizesRule sizesOf profileRule inside wordsIn wordLimit profileLimit nothingKept noMarks emptyTerms
+    featuresOf sizesRule sizesOf profileRule inside wordsIn wordLimit profileLimit nothingGathered noMarks emptyTerms
 no-words limit = refl
 
 pub profile-past : (limit : ℕ)
     → readOf limit (one-word-each (0x04 ∷ 0x00 ∷ 0x00 ∷ 0x00 ∷ 0x00 ∷ 0x00 ∷ 0x02 ∷ [])) ≡ refusedAt Value 8
 unfolding readOf walk after judgedOf openedOf tooMany kindOf inOrder recordOf withFeatures withSizes featuresRule
-    featuresOf sizesRule sizesOf profileRule inside wordsIn wordLimit profileLimit nothingKept noMarks emptyTerms
+    featuresOf sizesRule sizesOf profileRule inside wordsIn wordLimit profileLimit nothingGathered noMarks emptyTerms
 profile-past limit = refl
 
 pub lock-past : (limit : ℕ)
     → readOf limit (one-word-each (0x05 ∷ 0x01 ∷ 0x00 ∷ 0x00 ∷ 0x00 ∷ 0x02 ∷ [])) ≡ refusedAt Value 8
 unfolding readOf walk after judgedOf openedOf tooMany kindOf inOrder recordOf withFeatures withSizes featuresRule
-    featuresOf sizesRule sizesOf lockRule inside wordsIn wordLimit lockLimit nothingKept noMarks emptyTerms
+    featuresOf sizesRule sizesOf lockRule inside wordsIn wordLimit lockLimit nothingGathered noMarks emptyTerms
 lock-past limit = refl
 
 -- a profile and a lock that end with their area are accepted
@@ -279,5 +279,5 @@ end-terms = record {
 pub at-the-end : (limit : ℕ) → readOf limit up-to-the-end ≡ whole end-terms 0
 unfolding readOf walk after judgedOf openedOf tooMany kindOf inOrder recordOf withFeatures withSizes withProfile
     withLock featuresRule featuresOf sizesRule sizesOf profileRule slotOf lockRule lockOf inside wordsIn areaOf
-    wordLimit keyLimit profileLimit lockLimit nothingKept noMarks emptyTerms noFeatures
+    wordLimit keyLimit profileLimit lockLimit nothingGathered noMarks emptyTerms noFeatures
 at-the-end limit = refl

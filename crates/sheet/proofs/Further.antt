@@ -7,7 +7,7 @@ use borrow.Author.Tests.{le-leb, lt-leb}
 use lib.ListN.{length, take, drop, drop-of-length-le}
 use Rattle.sheet.specs.Judgement.{judgedOf}
 use Rattle.sheet.specs.Sheet.{furtherOn}
-use Rattle.sheet.specs.declared.Kept.{Kept}
+use Rattle.sheet.specs.declared.Gathered.{Gathered}
 use Rattle.sheet.specs.declared.Judged.{Judged}
 use Rattle.sheet.proofs.Walks.{rest}
 
@@ -18,7 +18,7 @@ pub further-end : (s : List ℕ) (at n : ℕ) → length s < at + n → length s
 further-end s at n h = rw (lt-leb (at + n) (length s) h)
 
 -- the two ways to the record at a place: it lies in the sheet, or behind its end
-module _ (limit : ℕ) (s : List ℕ) (at : ℕ) (k : Kept) (j : Judged) where
+module _ (limit : ℕ) (s : List ℕ) (at : ℕ) (k : Gathered) (j : Judged) where
   pub judged-at : j ≡ judgedOf limit (take (length s - at) (drop at s)) k → j ≡ judgedOf limit (drop at s) k
   judged-at e = e ∙ ap (λ (t : List ℕ). judgedOf limit t k) (rest s at)
 

@@ -11,16 +11,16 @@ use Rattle.sheet.specs.Kinds.{kindOf, bodyLength}
 use Rattle.sheet.specs.Judgement.{tooMany, openedOf, refused, recordOf, judgedOf}
 use Rattle.sheet.specs.declared.Kind.{Kind}
 use Rattle.sheet.specs.declared.Kind.the-variants.{KeyRecord, ProfileRecord, LockRecord}
-use Rattle.sheet.specs.declared.Fault.{Fault}
-use Rattle.sheet.specs.declared.Fault.the-variants.{Cut}
-use Rattle.sheet.specs.declared.Opened.{Opened}
-use Rattle.sheet.specs.declared.Opened.the-variants.{Open, Shut}
-use Rattle.sheet.specs.declared.Kept.{Kept}
+use Rattle.sheet.specs.declared.SheetFault.{SheetFault}
+use Rattle.sheet.specs.declared.SheetFault.the-variants.{Cut}
+use Rattle.sheet.specs.declared.Head.{Head}
+use Rattle.sheet.specs.declared.Head.the-variants.{Open, Shut}
+use Rattle.sheet.specs.declared.Gathered.{Gathered}
 use Rattle.sheet.specs.declared.Judged.{Judged}
 use Rattle.sheet.proofs.Openings.{passed}
 
 -- there is room for one more of its kind
-module _ (limit : ℕ) (q : Kind) (k : Kept) where
+module _ (limit : ℕ) (q : Kind) (k : Gathered) where
   pub key-room : q ≡ KeyRecord → tooMany limit q k ≡ false → k .marks .keys < limit
   unfolding tooMany
   key-room e h = leb-false _ _ (rw e at h)
@@ -33,12 +33,12 @@ module _ (limit : ℕ) (q : Kind) (k : Kept) where
   unfolding tooMany
   lock-room e h = leb-false _ _ (rw e at h)
 
-pub judged-none : (limit : ℕ) (r : List ℕ) (k : Kept) → length r ≡ 0 → refused Cut k ≡ judgedOf limit r k
+pub judged-none : (limit : ℕ) (r : List ℕ) (k : Gathered) → length r ≡ 0 → refused Cut k ≡ judgedOf limit r k
 unfolding judgedOf
 judged-none limit [] k e = refl
 judged-none limit (b ∷ t) k e = absurd (omega arith)
 
-pub judged-shut : (limit : ℕ) (r : List ℕ) (k : Kept) (o : Opened) (f : Fault) → (length r ≡ 0 → ⊥)
+pub judged-shut : (limit : ℕ) (r : List ℕ) (k : Gathered) (o : Head) (f : SheetFault) → (length r ≡ 0 → ⊥)
     → o ≡ openedOf limit (getD r 0 0) (length r - 1) k → o ≡ Shut f → refused f k ≡ judgedOf limit r k
 unfolding judgedOf
 judged-shut limit [] k o f n e h = absurd (n refl)
@@ -47,7 +47,7 @@ judged-shut limit (b ∷ t) k o f n e h =
     rw (sym (rw l at e) ∙ h)
 
 -- q and n are the kind and the body's length
-module _ (limit : ℕ) (r : List ℕ) (k : Kept) (o : Opened) (q : Kind) (n : ℕ) (some : length r ≡ 0 → ⊥)
+module _ (limit : ℕ) (r : List ℕ) (k : Gathered) (o : Head) (q : Kind) (n : ℕ) (some : length r ≡ 0 → ⊥)
     (eo : o ≡ openedOf limit (getD r 0 0) (length r - 1) k) (eop : o ≡ Open)
     (eq : q ≡ kindOf (getD r 0 0)) (en : n ≡ bodyLength q) where
   pub body-fits : n ≤ length r - 1
@@ -59,7 +59,7 @@ module _ (limit : ℕ) (r : List ℕ) (k : Kept) (o : Opened) (q : Kind) (n : �
   pub body-long : length (take (1 + n - 1) (drop 1 r)) ≡ bodyLength q
   body-long = simp (length-take, length-drop) (omega (arith, body-fits, en))
 
-pub judged-open : (limit : ℕ) (r : List ℕ) (k : Kept) (o : Opened) (q : Kind) (n : ℕ) (j : Judged)
+pub judged-open : (limit : ℕ) (r : List ℕ) (k : Gathered) (o : Head) (q : Kind) (n : ℕ) (j : Judged)
     → (length r ≡ 0 → ⊥) → o ≡ openedOf limit (getD r 0 0) (length r - 1) k → o ≡ Open
     → q ≡ kindOf (getD r 0 0) → n ≡ bodyLength q → j ≡ recordOf q (take (1 + n - 1) (drop 1 r)) k
     → j ≡ judgedOf limit r k

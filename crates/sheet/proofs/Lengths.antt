@@ -147,7 +147,7 @@ keys-bytes id (k ∷ ks) w =
     kind-byte 3 (keyBody k ++ keysWritten ks) (omega arith)
     (bytes-join (keyBody k) (keysWritten ks) (key-bytes id k ks w) (keys-bytes (k .id + 1) ks (w .2)))
 
--- the sizes of the two areas are kept within their limit
+-- the sizes of the two areas are gathered within their limit
 module _ (z : Sizes) (i : z .identity ≤ wordLimit) (u : z .user ≤ wordLimit) where
   sizes-bytes : Bytes (sizesBody z)
   unfolding sizesBody wordLimit

@@ -5,7 +5,7 @@ pub mod Judgements
 pub mod Verdicts
 pub mod Walks
 pub mod Further
-pub mod Fits
+pub mod Unique
 pub mod Examples
 pub mod Bits
 pub mod Back

@@ -8,12 +8,12 @@ use borrow.Author.Tests.{lt-ltb, le-ltb, ltb-false}
 use Rattle.sheet.specs.Kinds.{kindOf, isUnknown, bodyLength, inOrder}
 use Rattle.sheet.specs.Judgement.{tooMany, shutIf, openedOf}
 use Rattle.sheet.specs.declared.Kind.{Kind}
-use Rattle.sheet.specs.declared.Fault.the-variants.{Cut, Unknown, Order, Many}
-use Rattle.sheet.specs.declared.Opened.the-variants.{Open, Shut}
-use Rattle.sheet.specs.declared.Kept.{Kept}
+use Rattle.sheet.specs.declared.SheetFault.the-variants.{Cut, Unknown, Order, Many}
+use Rattle.sheet.specs.declared.Head.the-variants.{Open, Shut}
+use Rattle.sheet.specs.declared.Gathered.{Gathered}
 
 -- q, u, o, m and n are what the calls on the way gave
-module _ (limit b left : ℕ) (k : Kept) (q : Kind) (e : q ≡ kindOf b) (u : Bool) (known : u ≡ isUnknown q) where
+module _ (limit b left : ℕ) (k : Gathered) (q : Kind) (e : q ≡ kindOf b) (u : Bool) (known : u ≡ isUnknown q) where
   pub shut-unknown : u ≡ true → Shut Unknown ≡ openedOf limit b left k
   unfolding openedOf
   shut-unknown h = rw (← e, ← known, h)
@@ -38,7 +38,7 @@ module _ (limit b left : ℕ) (k : Kept) (q : Kind) (e : q ≡ kindOf b) (u : Bo
         opens h = rw (← e, ← known, hu, ← order, ho, ← many, hm, ← long, le-ltb left n h)
 
 -- what an opened record has passed
-pub record Passed (limit b left : ℕ) (k : Kept) : Type 0 where
+pub record Passed (limit b left : ℕ) (k : Gathered) : Type 0 where
   pub known : isUnknown (kindOf b) ≡ false
   pub ordered : inOrder (k .marks .last) b ≡ true
   pub few : tooMany limit (kindOf b) k ≡ false
@@ -52,7 +52,7 @@ all-open false true true c e = let z : _≡_ {A = ℕ} 0 1 = cc in absurd (omega
 all-open false true false true e = let z : _≡_ {A = ℕ} 0 1 = cc in absurd (omega arith)
 all-open false true false false e = (refl, refl, refl, refl)
 
-pub passed : (limit b left : ℕ) (k : Kept) → openedOf limit b left k ≡ Open → Passed limit b left k
+pub passed : (limit b left : ℕ) (k : Gathered) → openedOf limit b left k ≡ Open → Passed limit b left k
 unfolding openedOf
 passed limit b left k e =
     let n = bodyLength (kindOf b) in

@@ -14,7 +14,7 @@ use Rattle.ground.specs.Choice.{implies}
 use Rattle.sheet.specs.Limits.{profileLimit, lockLimit, wordLimit}
 use Rattle.sheet.specs.Kinds.{kindOf, isUnknown, bodyLength, inOrder, keysAt}
 use Rattle.sheet.specs.KeyTable.{keyRecord, keysIn, keyTable}
-use Rattle.sheet.specs.Setups.{Setup, setupOf, termsOf, noSlot, noLock, emptyTerms, noMarks, nothingKept}
+use Rattle.sheet.specs.Setups.{Setup, setupOf, termsOf, noSlot, noLock, emptyTerms, noMarks, nothingGathered}
 use Rattle.sheet.specs.Judgement.{tooMany, openedOf, taken, recordOf, judgedOf}
 use Rattle.sheet.specs.Judgement.{withFeatures, withSizes, withKey, withProfile, withLock}
 use Rattle.sheet.specs.Sheet.{whole, ends, after, walk, readOf, refusedAt, Accepted, saidOf}
@@ -24,18 +24,18 @@ use Rattle.sheet.specs.Within.{KeysRise, SlotFine, SlotsFine, LocksRise,
 use Rattle.sheet.specs.declared.Kind.{Kind}
 use Rattle.sheet.specs.declared.Kind.the-variants.{FeatureRecord, SizeRecord, KeyRecord}
 use Rattle.sheet.specs.declared.Kind.the-variants.{ProfileRecord, LockRecord}
-use Rattle.sheet.specs.declared.Fault.the-variants.{Many}
+use Rattle.sheet.specs.declared.SheetFault.the-variants.{Many}
 use Rattle.sheet.specs.declared.Features.{Features}
 use Rattle.sheet.specs.declared.Sizes.{Sizes}
 use Rattle.sheet.specs.declared.Key.{Key}
 use Rattle.sheet.specs.declared.Slot.{Slot}
 use Rattle.sheet.specs.declared.Terms.{Terms}
-use Rattle.sheet.specs.declared.Kept.{Kept}
+use Rattle.sheet.specs.declared.Gathered.{Gathered}
 use Rattle.sheet.specs.declared.Reading.{Reading}
 use Rattle.sheet.proofs.Walks.{pass}
 use Rattle.sheet.proofs.Bits.{two-back}
 use Rattle.sheet.proofs.Tables.{longer, filled-empty, filled-all, used-length, used-filled}
-use Rattle.sheet.proofs.States.{marks-of, terms-of, state, slot-kept, lock-kept}
+use Rattle.sheet.proofs.States.{marks-of, terms-of, state, slot-gathered, lock-gathered}
 use Rattle.sheet.proofs.KeyTables.{keys-back, table-back}
 use Rattle.sheet.proofs.Back.{features-length, features-back, features-fine}
 use Rattle.sheet.proofs.Back.{sizes-length, sizes-back, sizes-fine}
@@ -51,7 +51,7 @@ order-on last b l h t =
     rw (n0, n1, le-leb 3 b t) (le-leb last b h)
 
 -- One record of kind q with the body c, in front of r.
-module _ (limit b : ℕ) (q : Kind) (c r : List ℕ) (k k′ : Kept) (eq : kindOf b ≡ q) (known : isUnknown q ≡ false)
+module _ (limit b : ℕ) (q : Kind) (c r : List ℕ) (k k′ : Gathered) (eq : kindOf b ≡ q) (known : isUnknown q ≡ false)
     (order : inOrder (k .marks .last) b ≡ true) (few : tooMany limit q k ≡ false) (long : length c ≡ bodyLength q)
     (takes : recordOf q c k ≡ taken q k′) where
   fits : bodyLength q ≤ length (c ++ r)
@@ -77,8 +77,8 @@ shifted before xs all x e = append-assoc before (x ∷ []) xs ∙ e
 
 -- Each kind's records in front of r: the walk behind them has the answer R, so it has it from the first of them on.
 module _ (limit : ℕ) (f : Features) (z : Sizes) (R : Reading) (r : List ℕ) where
-  -- what is kept where n keys have been read, and nothing behind them
-  abbrev keyed : ℕ → ℕ → ℕ → Kept
+  -- what is gathered where n keys have been read, and nothing behind them
+  abbrev keyed : ℕ → ℕ → ℕ → Gathered
   keyed last n id = state f z (marks-of last n 0 id 0 0 0) [] []
 
   module _ (all end : ℕ) (fits : all ≤ limit)
@@ -102,8 +102,8 @@ module _ (limit : ℕ) (f : Features) (z : Sizes) (R : Reading) (r : List ℕ) w
   module _ (keys : ℕ) (all : List Slot) (fits : length all ≤ profileLimit)
       (on : (at last profiles id number : ℕ) → 2 ≤ last → last ≤ 4
       → walk limit r 0 at (state f z (marks-of last keys profiles id number 0 0) all []) ≡ R) where
-    -- what is kept before a slot, and the walk over the slots from number n on
-    abbrev slotted : ℕ → ℕ → ℕ → ℕ → List Slot → Kept
+    -- what is gathered before a slot, and the walk over the slots from number n on
+    abbrev slotted : ℕ → ℕ → ℕ → ℕ → List Slot → Gathered
     slotted last profiles id number before = state f z (marks-of last keys profiles id number 0 0) before []
 
     -- one slot: an absent one has no record
@@ -130,7 +130,7 @@ module _ (limit : ℕ) (f : Features) (z : Sizes) (R : Reading) (r : List ℕ) w
           w .0,
           append-assoc c t r,
           g,
-          slot-kept f z m before [] c (le-refl n) p,
+          slot-gathered f z m before [] c (le-refl n) p,
           profile-back n x (w .0),
           sub-self n,
         )
@@ -170,7 +170,7 @@ module _ (limit : ℕ) (f : Features) (z : Sizes) (R : Reading) (r : List ℕ) w
         rw (
           append-assoc (lockBody x) (locksWritten ls) r,
           g,
-          lock-kept f z m ss before (lockBody x) p,
+          lock-gathered f z m ss before (lockBody x) p,
           lock-back x,
           two-back (x .first .0),
           two-back (x .words),
@@ -179,7 +179,7 @@ module _ (limit : ℕ) (f : Features) (z : Sizes) (R : Reading) (r : List ℕ) w
         (shifted before ls all x e) (w .1) (omega arith) (omega arith))
 
 -- the end record
-end-walk : (limit at : ℕ) (k : Kept) → 2 ≤ k .marks .last → k .marks .last ≤ 5 → walk limit (6 ∷ []) 0 at k ≡ ends k
+end-walk : (limit at : ℕ) (k : Gathered) → 2 ≤ k .marks .last → k .marks .last ≤ 5 → walk limit (6 ∷ []) 0 at k ≡ ends k
 unfolding walk after judgedOf openedOf kindOf tooMany recordOf
 end-walk limit at k l h = rw (order-on (k .marks .last) 6 l (omega arith) (omega arith))
 
@@ -188,11 +188,11 @@ opened : (limit : ℕ) (f : Features) (z : Sizes) (r : List ℕ) → implies (f 
     → z .identity ≤ wordLimit → z .user ≤ wordLimit
     → readOf limit (1 ∷ featuresBody f ++ (2 ∷ sizesBody z ++ r))
     ≡ walk limit r 0 keysAt (state f z (marks-of 2 0 0 0 0 0 0) [] [])
-unfolding readOf kindOf inOrder tooMany recordOf nothingKept noMarks emptyTerms withFeatures withSizes profileLimit
+unfolding readOf kindOf inOrder tooMany recordOf nothingGathered noMarks emptyTerms withFeatures withSizes profileLimit
     lockLimit
 opened limit f z r h a b =
-    let k = withFeatures nothingKept (featuresBody f) in
-    go-on limit 1 FeatureRecord (featuresBody f) (2 ∷ sizesBody z ++ r) nothingKept k refl refl refl refl
+    let k = withFeatures nothingGathered (featuresBody f) in
+    go-on limit 1 FeatureRecord (featuresBody f) (2 ∷ sizesBody z ++ r) nothingGathered k refl refl refl refl
     (features-length f) (rw (features-fine f h)) 0
     ∙ go-on limit 2 SizeRecord (sizesBody z) r k (withSizes k (sizesBody z)) refl refl refl refl
     (sizes-length z) (rw (sizes-fine z a b)) 3
@@ -271,7 +271,7 @@ module _ (limit : ℕ) (s : Setup) (w : Within limit s) where
   )
 
 -- a key record where there are as many as there may be
-pub past : (limit at : ℕ) (k : Kept) (t : List ℕ) → 2 ≤ k .marks .last → k .marks .last ≤ 3 → k .marks .keys ≡ limit
+pub past : (limit at : ℕ) (k : Gathered) (t : List ℕ) → 2 ≤ k .marks .last → k .marks .last ≤ 3 → k .marks .keys ≡ limit
     → walk limit (3 ∷ t) 0 at k ≡ refusedAt Many at
 unfolding walk after judgedOf openedOf kindOf tooMany
 past limit at k t l h e =

@@ -10,7 +10,7 @@ use lib.Dec.{eqb}
 use borrow.Author.Tests.{eqb-true}
 use Rattle.ground.specs.Choice.{pick}
 use Rattle.sheet.specs.Kinds.{kindOf, isUnknown, bodyLength, inOrder}
-use Rattle.sheet.specs.Setups.{nothingKept}
+use Rattle.sheet.specs.Setups.{nothingGathered}
 use Rattle.sheet.specs.Records.{featuresRule, sizesRule, keyRule, profileRule, lockRule}
 use Rattle.sheet.specs.Judgement.{openedOf, onlyIf, takenIf, recordOf, judgedOf}
 use Rattle.sheet.specs.Judgement.{withFeatures, withSizes, withKey, withProfile, withLock}
@@ -18,15 +18,15 @@ use Rattle.sheet.specs.Sheet.{walk, readOf, refusedAt, ends}
 use Rattle.sheet.specs.declared.Kind.{Kind}
 use Rattle.sheet.specs.declared.Kind.the-variants.{FeatureRecord, SizeRecord, KeyRecord, ProfileRecord}
 use Rattle.sheet.specs.declared.Kind.the-variants.{LockRecord, EndRecord, NoRecord}
-use Rattle.sheet.specs.declared.Fault.{Fault}
-use Rattle.sheet.specs.declared.Fault.the-variants.{Cut, Tail}
+use Rattle.sheet.specs.declared.SheetFault.{SheetFault}
+use Rattle.sheet.specs.declared.SheetFault.the-variants.{Cut, Tail}
 use Rattle.sheet.specs.declared.Finding.{Finding}
 use Rattle.sheet.specs.declared.Finding.the-variants.{Taken, Ended, Faulty}
-use Rattle.sheet.specs.declared.Opened.{Opened}
-use Rattle.sheet.specs.declared.Opened.the-variants.{Open, Shut}
-use Rattle.sheet.specs.declared.Verdict.{Verdict}
-use Rattle.sheet.specs.declared.Verdict.the-variants.{Whole}
-use Rattle.sheet.specs.declared.Kept.{Kept}
+use Rattle.sheet.specs.declared.Head.{Head}
+use Rattle.sheet.specs.declared.Head.the-variants.{Open, Shut}
+use Rattle.sheet.specs.declared.SheetVerdict.{SheetVerdict}
+use Rattle.sheet.specs.declared.SheetVerdict.the-variants.{Whole}
+use Rattle.sheet.specs.declared.Gathered.{Gathered}
 use Rattle.sheet.specs.declared.Reading.{Reading}
 use Rattle.sheet.proofs.Openings.{passed}
 use Rattle.sheet.proofs.Walks.{Step, step, ahead, walk-faulty, walk-tail, walk-whole, walk-taken}
@@ -69,13 +69,13 @@ unfolding kindOf
 kind-code x h =
     code-is x (eqb x 1) (eqb x 2) (eqb x 3) (eqb x 4) (eqb x 5) (eqb x 6) refl refl refl refl refl refl h
 
--- the end record leaves what was kept
-pick-end : (q : Kind) (k k′ : Kept) (r : Bool) → takenIf r q k k′ .finding ≡ Ended → ⊥
+-- the end record leaves what was gathered
+pick-end : (q : Kind) (k k′ : Gathered) (r : Bool) → takenIf r q k k′ .finding ≡ Ended → ⊥
 pick-end q k k′ true e = let z : _≡_ {A = ℕ} 0 1 = cc in omega arith
 pick-end q k k′ false e = let z : _≡_ {A = ℕ} 0 1 = cc in omega arith
 
-record-end : (q : Kind) (b : List ℕ) (k : Kept) → recordOf q b k .finding ≡ Ended
-    → (q ≡ EndRecord) × (recordOf q b k .kept ≡ k)
+record-end : (q : Kind) (b : List ℕ) (k : Gathered) → recordOf q b k .finding ≡ Ended
+    → (q ≡ EndRecord) × (recordOf q b k .gathered ≡ k)
 unfolding recordOf
 record-end FeatureRecord b k e = absurd (pick-end FeatureRecord k (withFeatures k b) (featuresRule b) e)
 record-end SizeRecord b k e = absurd (pick-end SizeRecord k (withSizes k b) (sizesRule b) e)
@@ -90,14 +90,14 @@ record-end EndRecord b k e = (refl, refl)
 record-end NoRecord b k e = let z : _≡_ {A = ℕ} 0 1 = cc in absurd (omega arith)
 
 -- the record that ends a sheet
-pub record End (limit b : ℕ) (t : List ℕ) (k : Kept) : Type 0 where
+pub record End (limit b : ℕ) (t : List ℕ) (k : Gathered) : Type 0 where
   pub byte : b ≡ 6
   pub ordered : inOrder (k .marks .last) 6 ≡ true
-  pub same : judgedOf limit (b ∷ t) k .kept ≡ k
+  pub same : judgedOf limit (b ∷ t) k .gathered ≡ k
 
-ended : (limit b : ℕ) (t : List ℕ) (k : Kept) (o : Opened) → openedOf limit b (length t) k ≡ o
+ended : (limit b : ℕ) (t : List ℕ) (k : Gathered) (o : Head) → openedOf limit b (length t) k ≡ o
     → onlyIf o k (ahead (kindOf b) t k) .finding ≡ Ended
-    → (b ≡ 6) × (inOrder (k .marks .last) 6 ≡ true) × (onlyIf o k (ahead (kindOf b) t k) .kept ≡ k)
+    → (b ≡ 6) × (inOrder (k .marks .last) 6 ≡ true) × (onlyIf o k (ahead (kindOf b) t k) .gathered ≡ k)
 ended limit b t k Open o e =
     let h = record-end (kindOf b) (take (bodyLength (kindOf b)) t) k e in
     let p = passed limit b (length t) k o in
@@ -105,43 +105,43 @@ ended limit b t k Open o e =
     (six, rw six at (p .ordered), h .1)
 ended limit b t k (Shut f) o e = let z : _≡_ {A = ℕ} 0 1 = cc in absurd (omega arith)
 
-pub end : (limit b : ℕ) (t : List ℕ) (k : Kept) → judgedOf limit (b ∷ t) k .finding ≡ Ended → End limit b t k
+pub end : (limit b : ℕ) (t : List ℕ) (k : Gathered) → judgedOf limit (b ∷ t) k .finding ≡ Ended → End limit b t k
 unfolding judgedOf
 end limit b t k e =
     let h = ended limit b t k (openedOf limit b (length t) k) refl e in
     record { byte = h .0; ordered = h .1; same = h .2 }
 
-no-refusal : (f : Fault) (at : ℕ) → refusedAt f at .verdict ≡ Whole → ⊥
+no-refusal : (f : SheetFault) (at : ℕ) → refusedAt f at .verdict ≡ Whole → ⊥
 no-refusal f at e = let z : _≡_ {A = ℕ} 0 1 = cc in omega arith
 
-abbrev verdict-of : Reading → Verdict
+abbrev verdict-of : Reading → SheetVerdict
 verdict-of r = r .verdict
 
 -- What holds before the first record, and after a record that is taken where it held before it, holds at the end of an
--- accepted sheet. P speaks of the bytes read and of what is kept of them; s is the whole sheet.
-module _ (limit : ℕ) (s : List ℕ) (P : List ℕ → Kept → Type 0)
-    (more : (c : List ℕ) (b : ℕ) (t : List ℕ) (k k′ : Kept) (n : ℕ) → c ++ (b ∷ t) ≡ s → Step limit b t k k′ n
+-- accepted sheet. P speaks of the bytes read and of what is gathered of them; s is the whole sheet.
+module _ (limit : ℕ) (s : List ℕ) (P : List ℕ → Gathered → Type 0)
+    (more : (c : List ℕ) (b : ℕ) (t : List ℕ) (k k′ : Gathered) (n : ℕ) → c ++ (b ∷ t) ≡ s → Step limit b t k k′ n
     → P c k → P (c ++ take n (b ∷ t)) k′) where
   pub record Run (r : Reading) : Type 0 where
     pub bytes : List ℕ
-    pub kept : Kept
-    pub holds : P bytes kept
+    pub gathered : Gathered
+    pub holds : P bytes gathered
     pub sheet : bytes ++ (6 ∷ []) ≡ s
-    pub ordered : inOrder (kept .marks .last) 6 ≡ true
-    pub says : r ≡ ends kept
+    pub ordered : inOrder (gathered .marks .last) 6 ≡ true
+    pub says : r ≡ ends gathered
 
   -- the walk from the bytes r on, where c stand before them
-  Goes : List ℕ → List ℕ → ℕ → Kept → Type 0
+  Goes : List ℕ → List ℕ → ℕ → Gathered → Type 0
   Goes c r at k = c ++ r ≡ s → P c k → walk limit r 0 at k .verdict ≡ Whole → Run (walk limit r 0 at k)
 
-  last : (c : List ℕ) (b : ℕ) (t : List ℕ) (at : ℕ) (k : Kept) → judgedOf limit (b ∷ t) k .finding ≡ Ended
+  last : (c : List ℕ) (b : ℕ) (t : List ℕ) (at : ℕ) (k : Gathered) → judgedOf limit (b ∷ t) k .finding ≡ Ended
       → Goes c (b ∷ t) at k
   unfolding Goes
   last c b [] at k e cs p w =
       let h = end limit b [] k e in
       record {
         bytes = c;
-        kept = k;
+        gathered = k;
         holds = p;
         sheet = rw (h .byte) at cs;
         ordered = h .ordered;
@@ -150,11 +150,11 @@ module _ (limit : ℕ) (s : List ℕ) (P : List ℕ → Kept → Type 0)
   last c b (y ∷ t) at k e cs p w =
       absurd (no-refusal Tail (at + 1) (sym (ap verdict-of (walk-tail limit at k (b ∷ y ∷ t) (omega arith) e)) ∙ w))
 
-  turn : (c : List ℕ) (b : ℕ) (t : List ℕ) (at : ℕ) (k : Kept) (f : Finding) → judgedOf limit (b ∷ t) k .finding ≡ f
-      → ((c r : List ℕ) (at : ℕ) (k : Kept) → length r ≤ length t → Goes c r at k) → Goes c (b ∷ t) at k
+  turn : (c : List ℕ) (b : ℕ) (t : List ℕ) (at : ℕ) (k : Gathered) (f : Finding) → judgedOf limit (b ∷ t) k .finding ≡ f
+      → ((c r : List ℕ) (at : ℕ) (k : Gathered) → length r ≤ length t → Goes c r at k) → Goes c (b ∷ t) at k
   unfolding Goes
   turn c b t at k (Taken n) e rest cs p w =
-      let k′ = judgedOf limit (b ∷ t) k .kept in
+      let k′ = judgedOf limit (b ∷ t) k .gathered in
       let h = walk-taken limit at k (b ∷ t) n (omega arith) e in
       let l : length (drop n (b ∷ t)) ≤ length t = rw (length-drop n (b ∷ t)) (omega (arith, h .0)) in
       let g : c ++ take n (b ∷ t) ++ drop n (b ∷ t) ≡ s =
@@ -168,7 +168,7 @@ module _ (limit : ℕ) (s : List ℕ) (P : List ℕ → Kept → Type 0)
       absurd (no-refusal f at (sym (ap verdict-of (walk-faulty limit at k (b ∷ t) f (omega arith) e)) ∙ w))
 
   -- N bounds the bytes that are left
-  go : (N : ℕ) (c r : List ℕ) (at : ℕ) (k : Kept) → length r ≤ N → Goes c r at k
+  go : (N : ℕ) (c r : List ℕ) (at : ℕ) (k : Gathered) → length r ≤ N → Goes c r at k
   unfolding walk Goes
   go zero c [] at k l cs p w = absurd (no-refusal Cut at w)
   go zero c (b ∷ t) at k l cs p w = absurd (not-suc-le-zero l)
@@ -177,6 +177,6 @@ module _ (limit : ℕ) (s : List ℕ) (P : List ℕ → Kept → Type 0)
       turn c b t at k (judgedOf limit (b ∷ t) k .finding) refl
       (λ c r at k h. go N c r at k (le-trans h (le-of-suc-le-suc l))) cs p w
 
-  pub run : P [] nothingKept → readOf limit s .verdict ≡ Whole → Run (readOf limit s)
+  pub run : P [] nothingGathered → readOf limit s .verdict ≡ Whole → Run (readOf limit s)
   unfolding readOf Goes
-  run p e = go (length s) [] s 0 nothingKept (le-refl (length s)) refl p e
+  run p e = go (length s) [] s 0 nothingGathered (le-refl (length s)) refl p e

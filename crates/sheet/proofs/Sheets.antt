@@ -12,7 +12,7 @@ use Rattle.ground.specs.Bytes.{Bytes}
 use Rattle.sheet.specs.Limits.{profileLimit, lockLimit}
 use Rattle.sheet.specs.Kinds.{kindOf, bodyLength, inOrder}
 use Rattle.sheet.specs.KeyTable.{keysIn, keyTable}
-use Rattle.sheet.specs.Setups.{Setup, setupOf, noSlot, noLock, noMarks, nothingKept}
+use Rattle.sheet.specs.Setups.{Setup, setupOf, noSlot, noLock, noMarks, nothingGathered}
 use Rattle.sheet.specs.Judgement.{judgedOf, openedOf, tooMany, recordOf, withFeatures}
 use Rattle.sheet.specs.Sheet.{Accepted, readOf, saidOf}
 use Rattle.sheet.specs.KeysMet.{keySaid, metFrom, keysMet}
@@ -22,7 +22,7 @@ use Rattle.sheet.specs.declared.Key.{Key}
 use Rattle.sheet.specs.declared.Slot.{Slot}
 use Rattle.sheet.specs.declared.Terms.{Terms}
 use Rattle.sheet.specs.declared.Reading.{Reading}
-use Rattle.sheet.specs.declared.Kept.{Kept}
+use Rattle.sheet.specs.declared.Gathered.{Gathered}
 use Rattle.sheet.proofs.Tables.{filled}
 use Rattle.sheet.proofs.Back.{features-length, sizes-length}
 use Rattle.sheet.proofs.KeyTables.{keys-back, table-back}
@@ -78,9 +78,9 @@ rest-of c b t n r e =
     sym (drop-append-seam d r) ∙ ap (drop (length d)) (e ∙ whole) ∙ drop-append-seam d (drop n (b ∷ t))
 
 module _ (limit : ℕ) where
-  finish : (c : List ℕ) (k : Kept) (ks : List Key) → Sound limit c k ks → inOrder (k .marks .last) 6 ≡ true
+  finish : (c : List ℕ) (k : Gathered) (ks : List Key) → Sound limit c k ks → inOrder (k .marks .last) 6 ≡ true
       → Within limit (setup-with (k .terms) ks) × (written (setup-with (k .terms) ks) ≡ c ++ (6 ∷ []))
-  unfolding inOrder nothingKept noMarks withFeatures written
+  unfolding inOrder nothingGathered noMarks withFeatures written
   finish c k ks none o = let z : _≡_ {A = ℕ} 0 1 = cc in absurd (omega arith)
   finish c k ks (first f h) o = let z : _≡_ {A = ℕ} 0 1 = cc in absurd (omega arith)
   finish c k _ (more f z m ks ss ls w) o = (
@@ -103,9 +103,9 @@ module _ (limit : ℕ) where
   )
 
   -- the keys stand in the key table
-  stand : (c : List ℕ) (k : Kept) (ks : List Key) → Sound limit c k ks → inOrder (k .marks .last) 6 ≡ true
+  stand : (c : List ℕ) (k : Gathered) (ks : List Key) → Sound limit c k ks → inOrder (k .marks .last) 6 ≡ true
       → keysIn (keyTable (c ++ (6 ∷ [])) (k .marks .keys)) ≡ ks
-  unfolding inOrder nothingKept noMarks withFeatures
+  unfolding inOrder nothingGathered noMarks withFeatures
   stand c k ks none o = let z : _≡_ {A = ℕ} 0 1 = cc in absurd (omega arith)
   stand c k ks (first f h) o = let z : _≡_ {A = ℕ} 0 1 = cc in absurd (omega arith)
   stand c k _ (more f z m ks ss ls w) o =
@@ -118,30 +118,30 @@ module _ (limit : ℕ) where
       rw (w .key-count, glue, table-back 0 ks o (r ++ (6 ∷ [])) (w .keys) long) (keys-back 0 ks (w .keys))
 
   -- bodies are passed as in the walk
-  met-pass : (n : ℕ) (t : List ℕ) (k : Kept) → n ≤ length t → metFrom limit t n k ≡ metFrom limit (drop n t) 0 k
+  met-pass : (n : ℕ) (t : List ℕ) (k : Gathered) → n ≤ length t → metFrom limit t n k ≡ metFrom limit (drop n t) 0 k
   unfolding metFrom
   met-pass zero t k h = refl
   met-pass (suc n) [] k h = absurd (not-suc-le-zero h)
   met-pass (suc n) (b ∷ t) k h = met-pass n t k (le-of-suc-le-suc h)
 
-  met-step : (b : ℕ) (t : List ℕ) (k k′ : Kept) (n : ℕ) → Step limit b t k k′ n
+  met-step : (b : ℕ) (t : List ℕ) (k k′ : Gathered) (n : ℕ) → Step limit b t k k′ n
       → metFrom limit (b ∷ t) 0 k
       ≡ keySaid (kindOf b) (take (bodyLength (kindOf b)) t) ++ metFrom limit (drop n (b ∷ t)) 0 k′
   unfolding metFrom
   met-step b t k k′ n p =
       rw (p .judged, p .size, met-pass (bodyLength (kindOf b)) t k′ (p .passed-checks .whole))
 
-  -- of the bytes read so far: what is kept of them, the keys they say, and that the walk met just these
-  record Sofar (s c : List ℕ) (k : Kept) : Type 0 where
+  -- of the bytes read so far: what is gathered of them, the keys they say, and that the walk met just these
+  record Sofar (s c : List ℕ) (k : Gathered) : Type 0 where
     keys : List Key
     sound : Sound limit c k keys
     met : (r : List ℕ) → c ++ r ≡ s → keysMet limit s ≡ keys ++ metFrom limit r 0 k
 
-  begun : (s : List ℕ) → Sofar s [] nothingKept
+  begun : (s : List ℕ) → Sofar s [] nothingGathered
   unfolding keysMet
-  begun s = record { keys = []; sound = none; met = λ r e. ap (λ (l : List ℕ). metFrom limit l 0 nothingKept) (sym e) }
+  begun s = record { keys = []; sound = none; met = λ r e. ap (λ (l : List ℕ). metFrom limit l 0 nothingGathered) (sym e) }
 
-  further : (s : List ℕ) → Bytes s → (c : List ℕ) (b : ℕ) (t : List ℕ) (k k′ : Kept) (n : ℕ) → c ++ (b ∷ t) ≡ s
+  further : (s : List ℕ) → Bytes s → (c : List ℕ) (b : ℕ) (t : List ℕ) (k k′ : Gathered) (n : ℕ) → c ++ (b ∷ t) ≡ s
       → Step limit b t k k′ n → Sofar s c k → Sofar s (c ++ take n (b ∷ t)) k′
   further s y c b t k k′ n e p h =
       let said = keySaid (kindOf b) (take (bodyLength (kindOf b)) t) in
@@ -156,7 +156,7 @@ module _ (limit : ℕ) where
       }
 
   -- the end record says no key
-  met-end : (k : Kept) → inOrder (k .marks .last) 6 ≡ true → metFrom limit (6 ∷ []) 0 k ≡ []
+  met-end : (k : Gathered) → inOrder (k .marks .last) 6 ≡ true → metFrom limit (6 ∷ []) 0 k ≡ []
   unfolding metFrom judgedOf openedOf kindOf tooMany recordOf
   met-end k o = rw o
 
@@ -170,23 +170,23 @@ module _ (limit : ℕ) where
     table-keys : keysIn (keyTable s (readOf limit s .keys)) ≡ keys-of
     table-keys =
         ap (λ (r : Reading). keysIn (keyTable s (r .keys))) (ran .says)
-        ∙ ap (λ (l : List ℕ). keysIn (keyTable l (ran .kept .marks .keys))) (sym (ran .sheet))
-        ∙ stand (ran .bytes) (ran .kept) keys-of (ran .holds .sound) (ran .ordered)
+        ∙ ap (λ (l : List ℕ). keysIn (keyTable l (ran .gathered .marks .keys))) (sym (ran .sheet))
+        ∙ stand (ran .bytes) (ran .gathered) keys-of (ran .holds .sound) (ran .ordered)
 
-    said : saidOf limit s ≡ setup-with (ran .kept .terms) keys-of
+    said : saidOf limit s ≡ setup-with (ran .gathered .terms) keys-of
     unfolding saidOf
     said = λ i. setup-with (ran .says i .terms) (table-keys i)
 
     -- an accepted sheet says a setup within the rules, and is what is written of it
     pub accepted : Within limit (saidOf limit s) × (written (saidOf limit s) ≡ s)
     accepted =
-        let h = finish (ran .bytes) (ran .kept) keys-of (ran .holds .sound) (ran .ordered) in
+        let h = finish (ran .bytes) (ran .gathered) keys-of (ran .holds .sound) (ran .ordered) in
         (subst (Within limit) (sym said) (h .0), ap written said ∙ h .1 ∙ ran .sheet)
 
     -- The key records stand together where `keyTable` takes them: the keys that the walk meets one by one are its keys.
     pub keys-stand : keysMet limit s ≡ keysIn (keyTable s (readOf limit s .keys))
     keys-stand =
         ran .holds .met (6 ∷ []) (ran .sheet)
-        ∙ ap (λ (l : List Key). keys-of ++ l) (met-end (ran .kept) (ran .ordered))
+        ∙ ap (λ (l : List Key). keys-of ++ l) (met-end (ran .gathered) (ran .ordered))
         ∙ append-nil keys-of
         ∙ sym table-keys

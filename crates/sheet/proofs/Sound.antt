@@ -7,7 +7,7 @@ use lib.ListN.{length}
 use Rattle.memory.specs.declared.Lock.{Lock}
 use Rattle.ground.specs.Choice.{implies}
 use Rattle.sheet.specs.Limits.{profileLimit, lockLimit, wordLimit}
-use Rattle.sheet.specs.Setups.{nothingKept}
+use Rattle.sheet.specs.Setups.{nothingGathered}
 use Rattle.sheet.specs.Judgement.{withFeatures}
 use Rattle.sheet.specs.Writer.{featuresBody, sizesBody, keysWritten, profilesWritten, locksWritten}
 use Rattle.sheet.specs.Within.{KeysRise, SlotsFine, LocksRise}
@@ -16,7 +16,7 @@ use Rattle.sheet.specs.declared.Sizes.{Sizes}
 use Rattle.sheet.specs.declared.Key.{Key}
 use Rattle.sheet.specs.declared.Slot.{Slot}
 use Rattle.sheet.specs.declared.Marks.{Marks}
-use Rattle.sheet.specs.declared.Kept.{Kept}
+use Rattle.sheet.specs.declared.Gathered.{Gathered}
 use Rattle.sheet.proofs.States.{state}
 use Rattle.sheet.proofs.Lists.{nextKey, nextArea, nextWord}
 
@@ -47,10 +47,10 @@ opening f z = (1 ∷ featuresBody f) ++ (2 ∷ sizesBody z)
 abbrev pub body : Features → Sizes → List Key → List Slot → List Lock → List ℕ
 body f z ks ss ls = opening f z ++ (keysWritten ks ++ (profilesWritten 0 ss ++ locksWritten ls))
 
--- the bytes read, what is kept of them, and the keys they say
-pub data Sound (limit : ℕ) : List ℕ → Kept → List Key → Type 0 where
-  none : Sound limit [] nothingKept []
+-- the bytes read, what is gathered of them, and the keys they say
+pub data Sound (limit : ℕ) : List ℕ → Gathered → List Key → Type 0 where
+  none : Sound limit [] nothingGathered []
   first : (f : Features) → implies (f .iam3) (f .iam) ≡ true
-      → Sound limit (1 ∷ featuresBody f) (withFeatures nothingKept (featuresBody f)) []
+      → Sound limit (1 ∷ featuresBody f) (withFeatures nothingGathered (featuresBody f)) []
   more : (f : Features) (z : Sizes) (m : Marks) (ks : List Key) (ss : List Slot) (ls : List Lock)
       → Fine limit f z m ks ss ls → Sound limit (body f z ks ss ls) (state f z m ss ls) ks

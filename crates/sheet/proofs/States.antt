@@ -1,4 +1,4 @@
--- What is kept when lists of keys, slots and locks have been read, and after one record more.
+-- What is gathered when lists of keys, slots and locks have been read, and after one record more.
 use mathlib.Core.Path.{_≡_}
 use mathlib.Core.List.{List, [], _∷_, _++_}
 use Prim.Native.Nat.{ℕ, _+_, _-_, _≤_, _<_}
@@ -14,7 +14,7 @@ use Rattle.sheet.specs.declared.Sizes.{Sizes}
 use Rattle.sheet.specs.declared.Slot.{Slot}
 use Rattle.sheet.specs.declared.Terms.{Terms}
 use Rattle.sheet.specs.declared.Marks.{Marks}
-use Rattle.sheet.specs.declared.Kept.{Kept}
+use Rattle.sheet.specs.declared.Gathered.{Gathered}
 use Rattle.sheet.proofs.Tables.{filled, longer, filled-more, filled-far}
 
 abbrev pub marks-of : ℕ → ℕ → ℕ → ℕ → ℕ → ℕ → ℕ → Marks
@@ -36,7 +36,7 @@ terms-of f z ss ls = record {
   locks = record { count = length ls; table = filled noLock lockLimit ls };
 }
 
-abbrev pub state : Features → Sizes → Marks → List Slot → List Lock → Kept
+abbrev pub state : Features → Sizes → Marks → List Slot → List Lock → Gathered
 state f z m ss ls = record { marks = m; terms = terms-of f z ss ls }
 
 -- a profile at a number p above those before it: the numbers between are absent
@@ -51,12 +51,12 @@ abbrev pub lock-marks : Marks → List ℕ → Marks
 lock-marks m b = marks-of 5 (m .keys) (m .profiles) (m .id) (m .number) (byteAt b 0) (wordAt b 1 + wordAt b 3)
 
 module _ (f : Features) (z : Sizes) (m : Marks) (ss : List Slot) (ls : List Lock) (b : List ℕ) where
-  pub slot-kept : length ss ≤ byteAt b 0 → byteAt b 0 < profileLimit
+  pub slot-gathered : length ss ≤ byteAt b 0 → byteAt b 0 < profileLimit
       → withProfile (state f z m ss ls) b ≡ state f z (profile-marks m b) (up-to ss (byteAt b 0) (slotOf b)) ls
   unfolding withProfile
-  slot-kept h l = rw (filled-far noSlot profileLimit ss (slotOf b) (byteAt b 0) h l)
+  slot-gathered h l = rw (filled-far noSlot profileLimit ss (slotOf b) (byteAt b 0) h l)
 
-  pub lock-kept : length ls < lockLimit
+  pub lock-gathered : length ls < lockLimit
       → withLock (state f z m ss ls) b ≡ state f z (lock-marks m b) ss (ls ++ lockOf b ∷ [])
   unfolding withLock
-  lock-kept h = rw (filled-more noLock lockLimit ls (lockOf b) h, longer noLock lockLimit ls (lockOf b))
+  lock-gathered h = rw (filled-more noLock lockLimit ls (lockOf b) h, longer noLock lockLimit ls (lockOf b))

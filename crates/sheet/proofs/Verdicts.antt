@@ -4,7 +4,7 @@ use mathlib.Core.List.{List}
 use Prim.Native.Nat.{ℕ}
 use Rattle.sheet.specs.Judgement.{JudgedAs, judgedOf, findingNumber, judgedNumber}
 use Rattle.sheet.specs.Sheet.{ReadAs, readOf, verdictNumber, verdictPlace, readNumber, readPlace}
-use Rattle.sheet.specs.declared.Kept.{Kept}
+use Rattle.sheet.specs.declared.Gathered.{Gathered}
 use Rattle.sheet.specs.declared.Judged.{Judged}
 use Rattle.sheet.specs.declared.Reading.{Reading}
 
@@ -14,7 +14,7 @@ number-of r = verdictNumber (r .verdict)
 abbrev place-of : Reading → ℕ
 place-of r = verdictPlace (r .verdict)
 
-pub judge-told : (limit : ℕ) (s : List ℕ) (k : Kept) (r : Judged) → r ≡ judgedOf limit s k
+pub judge-told : (limit : ℕ) (s : List ℕ) (k : Gathered) (r : Judged) → r ≡ judgedOf limit s k
     → (r ≡ judgedOf limit s k) × (findingNumber (r .finding) ≡ judgedNumber limit s k)
 unfolding judgedNumber
 judge-told limit s k r e = (e, ap (λ (q : Judged). findingNumber (q .finding)) e)

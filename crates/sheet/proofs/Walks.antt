@@ -15,17 +15,17 @@ use Rattle.sheet.specs.Sheet.{walk, after, ends, refusedAt}
 use Rattle.sheet.specs.declared.Kind.{Kind}
 use Rattle.sheet.specs.declared.Kind.the-variants.{FeatureRecord, SizeRecord, KeyRecord, ProfileRecord}
 use Rattle.sheet.specs.declared.Kind.the-variants.{LockRecord, EndRecord, NoRecord}
-use Rattle.sheet.specs.declared.Fault.{Fault}
-use Rattle.sheet.specs.declared.Fault.the-variants.{Cut, Tail}
+use Rattle.sheet.specs.declared.SheetFault.{SheetFault}
+use Rattle.sheet.specs.declared.SheetFault.the-variants.{Cut, Tail}
 use Rattle.sheet.specs.declared.Finding.the-variants.{Taken, Ended, Faulty}
-use Rattle.sheet.specs.declared.Opened.{Opened}
-use Rattle.sheet.specs.declared.Opened.the-variants.{Open, Shut}
-use Rattle.sheet.specs.declared.Kept.{Kept}
+use Rattle.sheet.specs.declared.Head.{Head}
+use Rattle.sheet.specs.declared.Head.the-variants.{Open, Shut}
+use Rattle.sheet.specs.declared.Gathered.{Gathered}
 use Rattle.sheet.specs.declared.Judged.{Judged}
 use Rattle.sheet.proofs.Openings.{Passed, passed}
 
 -- a body is passed
-pub pass : (limit n : ℕ) (t : List ℕ) (at : ℕ) (k : Kept) → n ≤ length t
+pub pass : (limit n : ℕ) (t : List ℕ) (at : ℕ) (k : Gathered) → n ≤ length t
     → walk limit t n at k ≡ walk limit (drop n t) 0 (at + n) k
 unfolding walk
 pass limit zero t at k h = ap (λ (m : ℕ). walk limit t 0 m k) (let e : at ≡ at + 0 = omega arith in e)
@@ -34,23 +34,23 @@ pass limit (suc n) (b ∷ t) at k h =
     let e : at + 1 + n ≡ at + suc n = omega arith in
     pass limit n t (at + 1) k (le-of-suc-le-suc h) ∙ ap (λ (m : ℕ). walk limit (drop n t) 0 m k) e
 
--- A record that is taken: its rule holds, and what is kept is that of its kind.
-pub data Took : Kind → List ℕ → Kept → Kept → Type 0 where
-  took-features : {b : List ℕ} {k : Kept} → featuresRule b ≡ true → Took FeatureRecord b k (withFeatures k b)
-  took-sizes : {b : List ℕ} {k : Kept} → sizesRule b ≡ true → Took SizeRecord b k (withSizes k b)
-  took-key : {b : List ℕ} {k : Kept} → keyRule (k .marks .id) b ≡ true → Took KeyRecord b k (withKey k b)
-  took-profile : {b : List ℕ} {k : Kept} → profileRule (k .marks .number) (k .terms .sizes) b ≡ true
+-- A record that is taken: its rule holds, and what is gathered is that of its kind.
+pub data Took : Kind → List ℕ → Gathered → Gathered → Type 0 where
+  took-features : {b : List ℕ} {k : Gathered} → featuresRule b ≡ true → Took FeatureRecord b k (withFeatures k b)
+  took-sizes : {b : List ℕ} {k : Gathered} → sizesRule b ≡ true → Took SizeRecord b k (withSizes k b)
+  took-key : {b : List ℕ} {k : Gathered} → keyRule (k .marks .id) b ≡ true → Took KeyRecord b k (withKey k b)
+  took-profile : {b : List ℕ} {k : Gathered} → profileRule (k .marks .number) (k .terms .sizes) b ≡ true
       → Took ProfileRecord b k (withProfile k b)
-  took-lock : {b : List ℕ} {k : Kept} → lockRule (k .marks .area) (k .marks .word) (k .terms .sizes) b ≡ true
+  took-lock : {b : List ℕ} {k : Gathered} → lockRule (k .marks .area) (k .marks .word) (k .terms .sizes) b ≡ true
       → Took LockRecord b k (withLock k b)
 
-picked : (q : Kind) (b : List ℕ) (k k′ : Kept) (r : Bool) (n : ℕ) → (r ≡ true → Took q b k k′)
-    → takenIf r q k k′ .finding ≡ Taken n → (n ≡ recordLength q) × Took q b k (takenIf r q k k′ .kept)
+picked : (q : Kind) (b : List ℕ) (k k′ : Gathered) (r : Bool) (n : ℕ) → (r ≡ true → Took q b k k′)
+    → takenIf r q k k′ .finding ≡ Taken n → (n ≡ recordLength q) × Took q b k (takenIf r q k k′ .gathered)
 picked q b k k′ true n t e = (let h : n ≡ recordLength q = cc in h, t refl)
 picked q b k k′ false n t e = let z : _≡_ {A = ℕ} 0 1 = cc in absurd (omega arith)
 
-pub record-took : (q : Kind) (b : List ℕ) (k : Kept) (n : ℕ) → recordOf q b k .finding ≡ Taken n
-    → (n ≡ recordLength q) × Took q b k (recordOf q b k .kept)
+pub record-took : (q : Kind) (b : List ℕ) (k : Gathered) (n : ℕ) → recordOf q b k .finding ≡ Taken n
+    → (n ≡ recordLength q) × Took q b k (recordOf q b k .gathered)
 unfolding recordOf
 record-took FeatureRecord b k n e = picked FeatureRecord b k (withFeatures k b) (featuresRule b) n took-features e
 record-took SizeRecord b k n e = picked SizeRecord b k (withSizes k b) (sizesRule b) n took-sizes e
@@ -65,27 +65,27 @@ record-took EndRecord b k n e = let z : _≡_ {A = ℕ} 0 1 = cc in absurd (omeg
 record-took NoRecord b k n e = let z : _≡_ {A = ℕ} 0 1 = cc in absurd (omega arith)
 
 -- The same of the record at which the bytes b ∷ t start.
-pub record Step (limit b : ℕ) (t : List ℕ) (k k′ : Kept) (n : ℕ) : Type 0 where
+pub record Step (limit b : ℕ) (t : List ℕ) (k k′ : Gathered) (n : ℕ) : Type 0 where
   pub passed-checks : Passed limit b (length t) k
   pub size : n ≡ recordLength (kindOf b)
   pub took : Took (kindOf b) (take (bodyLength (kindOf b)) t) k k′
-  pub judged : judgedOf limit (b ∷ t) k ≡ record { finding = Taken n; kept = k′ }
+  pub judged : judgedOf limit (b ∷ t) k ≡ record { finding = Taken n; gathered = k′ }
 
 -- the record of kind q with which the body in front of t starts, were it opened
-abbrev pub ahead : Kind → List ℕ → Kept → Judged
+abbrev pub ahead : Kind → List ℕ → Gathered → Judged
 ahead q t k = recordOf q (take (bodyLength q) t) k
 
-stepped : (limit b : ℕ) (t : List ℕ) (k : Kept) (n : ℕ) (o : Opened) → openedOf limit b (length t) k ≡ o
+stepped : (limit b : ℕ) (t : List ℕ) (k : Gathered) (n : ℕ) (o : Head) → openedOf limit b (length t) k ≡ o
     → onlyIf o k (ahead (kindOf b) t k) .finding ≡ Taken n
     → Passed limit b (length t) k × (n ≡ recordLength (kindOf b))
-    × Took (kindOf b) (take (bodyLength (kindOf b)) t) k (onlyIf o k (ahead (kindOf b) t k) .kept)
+    × Took (kindOf b) (take (bodyLength (kindOf b)) t) k (onlyIf o k (ahead (kindOf b) t k) .gathered)
 stepped limit b t k n Open o e =
     let h = record-took (kindOf b) (take (bodyLength (kindOf b)) t) k n e in
     (passed limit b (length t) k o, h .0, h .1)
 stepped limit b t k n (Shut f) o e = let z : _≡_ {A = ℕ} 0 1 = cc in absurd (omega arith)
 
-pub step : (limit b : ℕ) (t : List ℕ) (k : Kept) (n : ℕ) → judgedOf limit (b ∷ t) k .finding ≡ Taken n
-    → Step limit b t k (judgedOf limit (b ∷ t) k .kept) n
+pub step : (limit b : ℕ) (t : List ℕ) (k : Gathered) (n : ℕ) → judgedOf limit (b ∷ t) k .finding ≡ Taken n
+    → Step limit b t k (judgedOf limit (b ∷ t) k .gathered) n
 unfolding judgedOf
 step limit b t k n e =
     let h = stepped limit b t k n (openedOf limit b (length t) k) refl e in
@@ -93,12 +93,12 @@ step limit b t k n e =
       passed-checks = h .0;
       size = h .1;
       took = h .2;
-      judged = λ i. record { finding = e i; kept = judgedOf limit (b ∷ t) k .kept };
+      judged = λ i. record { finding = e i; gathered = judgedOf limit (b ∷ t) k .gathered };
     }
 
 -- What each finding on the record at which the bytes r start means for the walk.
-module _ (limit at : ℕ) (k : Kept) where
-  pub walk-faulty : (r : List ℕ) (f : Fault) → 0 < length r → judgedOf limit r k .finding ≡ Faulty f
+module _ (limit at : ℕ) (k : Gathered) where
+  pub walk-faulty : (r : List ℕ) (f : SheetFault) → 0 < length r → judgedOf limit r k .finding ≡ Faulty f
       → walk limit r 0 at k ≡ refusedAt f at
   unfolding walk after
   walk-faulty [] f h e = absurd (not-suc-le-zero h)
@@ -112,14 +112,14 @@ module _ (limit at : ℕ) (k : Kept) where
   walk-tail (b ∷ x ∷ t) h e = rw e
 
   pub walk-whole : (r : List ℕ) → length r ≡ 1 → judgedOf limit r k .finding ≡ Ended
-      → walk limit r 0 at k ≡ ends (judgedOf limit r k .kept)
+      → walk limit r 0 at k ≡ ends (judgedOf limit r k .gathered)
   unfolding walk after
   walk-whole [] h e = absurd (omega arith)
   walk-whole (b ∷ []) h e = rw e
   walk-whole (b ∷ x ∷ t) h e = absurd (omega arith)
 
   pub walk-taken : (r : List ℕ) (n : ℕ) → 0 < length r → judgedOf limit r k .finding ≡ Taken n
-      → (1 ≤ n) × (n ≤ length r) × (walk limit r 0 at k ≡ walk limit (drop n r) 0 (at + n) (judgedOf limit r k .kept))
+      → (1 ≤ n) × (n ≤ length r) × (walk limit r 0 at k ≡ walk limit (drop n r) 0 (at + n) (judgedOf limit r k .gathered))
   unfolding walk after
   walk-taken [] n h e = absurd (not-suc-le-zero h)
   walk-taken (b ∷ t) n h e =
@@ -128,39 +128,39 @@ module _ (limit at : ℕ) (k : Kept) where
       let z = s .size in
       let m = bodyLength (kindOf b) in
       let q : at + 1 + m ≡ at + suc m = omega arith in
-      (omega arith, omega arith, rw (e, z, pass limit m t (at + 1) (judgedOf limit (b ∷ t) k .kept) w, q))
+      (omega arith, omega arith, rw (e, z, pass limit m t (at + 1) (judgedOf limit (b ∷ t) k .gathered) w, q))
 
 -- A part of a sheet that reaches to its end is all that follows the place.
 pub rest : (s : List ℕ) (at : ℕ) → take (length s - at) (drop at s) ≡ drop at s
 rest s at = take-all (length s - at) (drop at s) (rw (length-drop at s) (omega arith))
 
 -- The same at a place of the sheet s, where j is the judgement on the bytes from there on.
-module _ (limit : ℕ) (s : List ℕ) (at : ℕ) (k : Kept) (j : Judged) (h : at < length s)
+module _ (limit : ℕ) (s : List ℕ) (at : ℕ) (k : Gathered) (j : Judged) (h : at < length s)
     (judged : j ≡ judgedOf limit (drop at s) k) where
   long : length (drop at s) ≡ length s - at
   long = length-drop at s
 
-  pub read-faulty : (f : Fault) → j .finding ≡ Faulty f → walk limit (drop at s) 0 at k ≡ refusedAt f at
+  pub read-faulty : (f : SheetFault) → j .finding ≡ Faulty f → walk limit (drop at s) 0 at k ≡ refusedAt f at
   read-faulty f g = walk-faulty limit at k (drop at s) f (rw long (omega arith)) (rw judged at g)
 
   pub read-tail : j .finding ≡ Ended → at + 1 < length s → walk limit (drop at s) 0 at k ≡ refusedAt Tail (at + 1)
   read-tail g l = walk-tail limit at k (drop at s) (rw long (omega arith)) (rw judged at g)
 
-  pub read-whole : j .finding ≡ Ended → length s ≤ at + 1 → walk limit (drop at s) 0 at k ≡ ends (j .kept)
+  pub read-whole : j .finding ≡ Ended → length s ≤ at + 1 → walk limit (drop at s) 0 at k ≡ ends (j .gathered)
   read-whole g l =
       walk-whole limit at k (drop at s) (rw long (omega arith)) (rw judged at g)
-      ∙ ap (λ (x : Judged). ends (x .kept)) (sym judged)
+      ∙ ap (λ (x : Judged). ends (x .gathered)) (sym judged)
 
   pub read-taken : (n : ℕ) → j .finding ≡ Taken n
       → (1 ≤ n) × (at + n ≤ length s)
-      × (walk limit (drop at s) 0 at k ≡ walk limit (drop (at + n) s) 0 (at + n) (j .kept))
+      × (walk limit (drop at s) 0 at k ≡ walk limit (drop (at + n) s) 0 (at + n) (j .gathered))
   read-taken n g =
       let t = walk-taken limit at k (drop at s) n (rw long (omega arith)) (rw judged at g) in
       let l : n ≤ length s - at = rw long at (t .1) in
       (t .0, omega arith, rw (judged, ← drop-drop n at s) (t .2))
 
 -- where the bytes end
-pub read-cut : (limit : ℕ) (s : List ℕ) (at : ℕ) (k : Kept) → length s ≤ at
+pub read-cut : (limit : ℕ) (s : List ℕ) (at : ℕ) (k : Gathered) → length s ≤ at
     → walk limit (drop at s) 0 at k ≡ refusedAt Cut at
 unfolding walk
 read-cut limit s at k h = rw (drop-of-length-le s {i = at} h)

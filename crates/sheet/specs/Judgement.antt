@@ -31,17 +31,17 @@ use Rattle.sheet.specs.declared.Kind.the-variants.{
   EndRecord,
   NoRecord,
 }
-use Rattle.sheet.specs.declared.Fault.{Fault}
-use Rattle.sheet.specs.declared.Fault.the-variants.{Cut, Unknown, Order, Value, Many}
+use Rattle.sheet.specs.declared.SheetFault.{SheetFault}
+use Rattle.sheet.specs.declared.SheetFault.the-variants.{Cut, Unknown, Order, Value, Many}
 use Rattle.sheet.specs.declared.Finding.{Finding}
 use Rattle.sheet.specs.declared.Finding.the-variants.{Taken, Ended, Faulty}
-use Rattle.sheet.specs.declared.Opened.{Opened}
-use Rattle.sheet.specs.declared.Opened.the-variants.{Open, Shut}
-use Rattle.sheet.specs.declared.Kept.{Kept}
+use Rattle.sheet.specs.declared.Head.{Head}
+use Rattle.sheet.specs.declared.Head.the-variants.{Open, Shut}
+use Rattle.sheet.specs.declared.Gathered.{Gathered}
 use Rattle.sheet.specs.declared.Judged.{Judged}
 
 -- one more of its kind than there may be
-unfoldable pub tooMany : ℕ → Kind → Kept → Bool
+unfoldable pub tooMany : ℕ → Kind → Gathered → Bool
 tooMany limit FeatureRecord k = false
 tooMany limit SizeRecord k = false
 tooMany limit KeyRecord k = leb limit (k .marks .keys)
@@ -50,12 +50,12 @@ tooMany limit LockRecord k = leb lockLimit (k .terms .locks .count)
 tooMany limit EndRecord k = false
 tooMany limit NoRecord k = false
 
-abbrev pub shutIf : Bool → Fault → Opened → Opened
+abbrev pub shutIf : Bool → SheetFault → Head → Head
 shutIf true f o = Shut f
 shutIf false f o = o
 
 -- What a kind byte b and the number of bytes after it decide, in the paper's order: 31, 32, 34, 30.
-unfoldable pub openedOf : ℕ → ℕ → ℕ → Kept → Opened
+unfoldable pub openedOf : ℕ → ℕ → ℕ → Gathered → Head
 openedOf limit b left k =
     shutIf (isUnknown (kindOf b)) Unknown
     (shutIf (not (inOrder (k .marks .last) b)) Order
@@ -63,15 +63,15 @@ openedOf limit b left k =
     (shutIf (ltb left (bodyLength (kindOf b))) Cut
     Open)))
 
--- A record that is refused leaves what was kept; one that is taken takes its kind byte and its body.
-abbrev pub refused : Fault → Kept → Judged
-refused f k = record { finding = Faulty f; kept = k }
+-- A record that is refused leaves what was gathered; one that is taken takes its kind byte and its body.
+abbrev pub refused : SheetFault → Gathered → Judged
+refused f k = record { finding = Faulty f; gathered = k }
 
-abbrev pub taken : Kind → Kept → Judged
-taken q k = record { finding = Taken (recordLength q); kept = k }
+abbrev pub taken : Kind → Gathered → Judged
+taken q k = record { finding = Taken (recordLength q); gathered = k }
 
--- What is kept after a record of each kind.
-unfoldable pub withFeatures : Kept → List ℕ → Kept
+-- What is gathered after a record of each kind.
+unfoldable pub withFeatures : Gathered → List ℕ → Gathered
 withFeatures k b = record {
   marks = record {
     last = 1;
@@ -90,7 +90,7 @@ withFeatures k b = record {
   };
 }
 
-unfoldable pub withSizes : Kept → List ℕ → Kept
+unfoldable pub withSizes : Gathered → List ℕ → Gathered
 withSizes k b = record {
   marks = record {
     last = 2;
@@ -110,7 +110,7 @@ withSizes k b = record {
 }
 
 -- the key is counted, and stays where it stands (KeyTable); the next KeyID is above its own
-unfoldable pub withKey : Kept → List ℕ → Kept
+unfoldable pub withKey : Gathered → List ℕ → Gathered
 withKey k b = record {
   marks = record {
     last = 3;
@@ -125,7 +125,7 @@ withKey k b = record {
 }
 
 -- the profile goes to the place of its number; the next number is above its own
-unfoldable pub withProfile : Kept → List ℕ → Kept
+unfoldable pub withProfile : Gathered → List ℕ → Gathered
 withProfile k b = record {
   marks = record {
     last = 4;
@@ -145,7 +145,7 @@ withProfile k b = record {
 }
 
 -- the lock goes behind those before it; the next is held against its area and its end
-unfoldable pub withLock : Kept → List ℕ → Kept
+unfoldable pub withLock : Gathered → List ℕ → Gathered
 withLock k b = record {
   marks = record {
     last = 5;
@@ -169,10 +169,10 @@ withLock k b = record {
 
 -- A whole record of kind q with the body b. 33: a value against its rule; else it is taken. (A byte of no kind was
 -- refused before.)
-abbrev pub takenIf : Bool → Kind → Kept → Kept → Judged
+abbrev pub takenIf : Bool → Kind → Gathered → Gathered → Judged
 takenIf fits q k next = pick fits (taken q next) (refused Value k)
 
-unfoldable pub recordOf : Kind → List ℕ → Kept → Judged
+unfoldable pub recordOf : Kind → List ℕ → Gathered → Judged
 recordOf FeatureRecord b k = takenIf (featuresRule b) FeatureRecord k (withFeatures k b)
 recordOf SizeRecord b k = takenIf (sizesRule b) SizeRecord k (withSizes k b)
 recordOf KeyRecord b k = takenIf (keyRule (k .marks .id) b) KeyRecord k (withKey k b)
@@ -180,15 +180,15 @@ recordOf ProfileRecord b k =
     takenIf (profileRule (k .marks .number) (k .terms .sizes) b) ProfileRecord k (withProfile k b)
 recordOf LockRecord b k =
     takenIf (lockRule (k .marks .area) (k .marks .word) (k .terms .sizes) b) LockRecord k (withLock k b)
-recordOf EndRecord b k = record { finding = Ended; kept = k }
+recordOf EndRecord b k = record { finding = Ended; gathered = k }
 recordOf NoRecord b k = refused Unknown k
 
-abbrev pub onlyIf : Opened → Kept → Judged → Judged
+abbrev pub onlyIf : Head → Gathered → Judged → Judged
 onlyIf Open k j = j
 onlyIf (Shut f) k j = refused f k
 
 -- The record with which these bytes start. 30 also where the kind byte is missing.
-unfoldable pub judgedOf : ℕ → List ℕ → Kept → Judged
+unfoldable pub judgedOf : ℕ → List ℕ → Gathered → Judged
 judgedOf limit [] k = refused Cut k
 judgedOf limit (b ∷ t) k =
     onlyIf (openedOf limit b (length t) k) k (recordOf (kindOf b) (take (bodyLength (kindOf b)) t) k)
@@ -204,5 +204,5 @@ abbrev pub JudgedAs : Judged → Judged → Type 0
 JudgedAs r x = (r ≡ x) × (findingNumber (r .finding) ≡ findingNumber (x .finding))
 
 -- the number by which the record with which these bytes start is refused, and 0 where it is not
-unfoldable pub judgedNumber : ℕ → List ℕ → Kept → ℕ
+unfoldable pub judgedNumber : ℕ → List ℕ → Gathered → ℕ
 judgedNumber limit s k = findingNumber (judgedOf limit s k .finding)

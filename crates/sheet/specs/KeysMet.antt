@@ -4,7 +4,7 @@ use mathlib.Core.List.{List, [], _∷_, _++_}
 use lib.ListN.{take}
 use Rattle.sheet.specs.Kinds.{kindOf, bodyLength}
 use Rattle.sheet.specs.Records.{keyOf}
-use Rattle.sheet.specs.Setups.{nothingKept}
+use Rattle.sheet.specs.Setups.{nothingGathered}
 use Rattle.sheet.specs.Judgement.{judgedOf}
 use Rattle.sheet.specs.declared.Kind.{Kind}
 use Rattle.sheet.specs.declared.Kind.the-variants.{
@@ -19,7 +19,7 @@ use Rattle.sheet.specs.declared.Kind.the-variants.{
 use Rattle.sheet.specs.declared.Finding.{Finding}
 use Rattle.sheet.specs.declared.Finding.the-variants.{Taken, Ended, Faulty}
 use Rattle.sheet.specs.declared.Key.{Key}
-use Rattle.sheet.specs.declared.Kept.{Kept}
+use Rattle.sheet.specs.declared.Gathered.{Gathered}
 
 -- a record of kind 03 says a key, and no other does
 abbrev pub keySaid : Kind → List ℕ → List Key
@@ -38,13 +38,13 @@ metIn Ended said ks = []
 metIn (Faulty f) said ks = []
 
 -- the bytes are passed as in `walk`
-unfoldable pub metFrom : ℕ → List ℕ → ℕ → Kept → List Key
+unfoldable pub metFrom : ℕ → List ℕ → ℕ → Gathered → List Key
 metFrom limit [] body k = []
 metFrom limit (b ∷ t) (suc body) k = metFrom limit t body k
 metFrom limit (b ∷ t) zero k =
     let j = judgedOf limit (b ∷ t) k in
     let n = bodyLength (kindOf b) in
-    metIn (j .finding) (keySaid (kindOf b) (take n t)) (metFrom limit t n (j .kept))
+    metIn (j .finding) (keySaid (kindOf b) (take n t)) (metFrom limit t n (j .gathered))
 
 unfoldable pub keysMet : ℕ → List ℕ → List Key
-keysMet limit s = metFrom limit s 0 nothingKept
+keysMet limit s = metFrom limit s 0 nothingGathered

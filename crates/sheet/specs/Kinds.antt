@@ -13,8 +13,8 @@ use Rattle.sheet.specs.declared.Kind.the-variants.{
   EndRecord,
   NoRecord,
 }
-use Rattle.sheet.specs.declared.Fault.{Fault}
-use Rattle.sheet.specs.declared.Fault.the-variants.{Cut, Unknown, Order, Value, Many, Tail}
+use Rattle.sheet.specs.declared.SheetFault.{SheetFault}
+use Rattle.sheet.specs.declared.SheetFault.the-variants.{Cut, Unknown, Order, Value, Many, Tail}
 
 -- the kind of a record, by its first byte
 unfoldable pub kindOf : ℕ → Kind
@@ -63,7 +63,7 @@ inOrder last b =
     (both (leb 3 b) (leb last b)))
 
 -- the number of each refusal
-abbrev pub numberOf : Fault → ℕ
+abbrev pub numberOf : SheetFault → ℕ
 numberOf Cut = 30
 numberOf Unknown = 31
 numberOf Order = 32

@@ -1,5 +1,5 @@
 -- The limits of the scope paper, "The tag sheet". In specs/ each number stands here alone; the code has it once more,
--- as the constants KEYS, PROFILES, LOCKS and WORDS, which no proof admits at another value.
+-- as the constants KEY_LIMIT, PROFILE_LIMIT, LOCK_LIMIT and WORD_LIMIT, which no proof admits at another value.
 use Prim.Native.Nat.{ℕ, _+_, _*_}
 use Rattle.sheet.specs.Kinds.{recordLength, keysAt}
 use Rattle.sheet.specs.declared.Kind.the-variants.{KeyRecord, ProfileRecord, LockRecord, EndRecord}

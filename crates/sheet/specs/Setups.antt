@@ -15,7 +15,7 @@ use Rattle.sheet.specs.declared.Slot.{Slot}
 use Rattle.sheet.specs.declared.Locks.{Locks}
 use Rattle.sheet.specs.declared.Terms.{Terms}
 use Rattle.sheet.specs.declared.Marks.{Marks}
-use Rattle.sheet.specs.declared.Kept.{Kept}
+use Rattle.sheet.specs.declared.Gathered.{Gathered}
 
 -- The terms on which a tag serves, and its keys. In the code the terms go by value, and the keys stay in the bytes that
 -- hold them.
@@ -76,5 +76,5 @@ emptySetup = setupOf emptyTerms []
 unfoldable pub noMarks : Marks
 noMarks = record { last = 0; keys = 0; profiles = 0; id = 0; number = 0; area = 0; word = 0 }
 
-unfoldable pub nothingKept : Kept
-nothingKept = record { marks = noMarks; terms = emptyTerms }
+unfoldable pub nothingGathered : Gathered
+nothingGathered = record { marks = noMarks; terms = emptyTerms }

@@ -7,33 +7,33 @@ use lib.Dec.{leb}
 use Rattle.ground.specs.Choice.{pick}
 use Rattle.sheet.specs.Kinds.{kindOf, bodyLength, numberOf}
 use Rattle.sheet.specs.KeyTable.{keyTable}
-use Rattle.sheet.specs.Setups.{Setup, setupOf, emptyTerms, nothingKept}
+use Rattle.sheet.specs.Setups.{Setup, setupOf, emptyTerms, nothingGathered}
 use Rattle.sheet.specs.Judgement.{judgedOf}
-use Rattle.sheet.specs.declared.Fault.{Fault}
-use Rattle.sheet.specs.declared.Fault.the-variants.{Cut, Tail}
+use Rattle.sheet.specs.declared.SheetFault.{SheetFault}
+use Rattle.sheet.specs.declared.SheetFault.the-variants.{Cut, Tail}
 use Rattle.sheet.specs.declared.Finding.{Finding}
 use Rattle.sheet.specs.declared.Finding.the-variants.{Taken, Ended, Faulty}
-use Rattle.sheet.specs.declared.Verdict.{Verdict}
-use Rattle.sheet.specs.declared.Verdict.the-variants.{Whole, Refused}
+use Rattle.sheet.specs.declared.SheetVerdict.{SheetVerdict}
+use Rattle.sheet.specs.declared.SheetVerdict.the-variants.{Whole, Refused}
 use Rattle.sheet.specs.declared.Terms.{Terms}
-use Rattle.sheet.specs.declared.Kept.{Kept}
+use Rattle.sheet.specs.declared.Gathered.{Gathered}
 use Rattle.sheet.specs.declared.Reading.{Reading}
 
 -- A refused sheet gives no tag.
-abbrev pub refusedAt : Fault → ℕ → Reading
+abbrev pub refusedAt : SheetFault → ℕ → Reading
 refusedAt f at = record { verdict = Refused f at; terms = emptyTerms; keys = 0 }
 
 -- A whole sheet gives its terms, and the number of its key records.
 abbrev pub whole : Terms → ℕ → Reading
 whole t n = record { verdict = Whole; terms = t; keys = n }
 
--- where what was kept is all
-abbrev pub ends : Kept → Reading
+-- where what was gathered is all
+abbrev pub ends : Gathered → Reading
 ends k = whole (k .terms) (k .marks .keys)
 
 -- What follows from the finding on the record at a place, with the bytes t after its kind byte: the reading goes on
 -- behind it, or the sheet ends there (35 at the first byte that follows), or it is refused at that place.
-unfoldable pub after : Finding → Kept → ℕ → List ℕ → Reading → Reading
+unfoldable pub after : Finding → Gathered → ℕ → List ℕ → Reading → Reading
 after (Taken n) k at t r = r
 after Ended k at [] r = ends k
 after Ended k at (x ∷ t) r = refusedAt Tail (at + 1)
@@ -41,15 +41,15 @@ after (Faulty f) k at t r = refusedAt f at
 
 -- The bytes from a place on. They are passed one by one: `body` of them belong to the record that was judged last, and
 -- the next is a kind byte. So the walk falls with the bytes themselves, and needs no other bound.
-unfoldable pub walk : ℕ → List ℕ → ℕ → ℕ → Kept → Reading
+unfoldable pub walk : ℕ → List ℕ → ℕ → ℕ → Gathered → Reading
 walk limit [] body at k = refusedAt Cut at
 walk limit (b ∷ t) (suc body) at k = walk limit t body (at + 1) k
 walk limit (b ∷ t) zero at k =
     let j = judgedOf limit (b ∷ t) k in
-    after (j .finding) (j .kept) at t (walk limit t (bodyLength (kindOf b)) (at + 1) (j .kept))
+    after (j .finding) (j .gathered) at t (walk limit t (bodyLength (kindOf b)) (at + 1) (j .gathered))
 
 -- The same of the sheet s from a place on. Behind its end no kind byte stands: 30 at that place.
-abbrev pub readFrom : ℕ → List ℕ → ℕ → Kept → Reading
+abbrev pub readFrom : ℕ → List ℕ → ℕ → Gathered → Reading
 readFrom limit s at k = walk limit (drop at s) 0 at k
 
 -- The place n bytes further on, and no further than the sheet's end.
@@ -58,7 +58,7 @@ furtherOn s at n = pick (leb (at + n) (length s)) (at + n) (length s)
 
 -- What a reader finds in a sheet: its terms and the number of its key records, or the first refusal with its place.
 unfoldable pub readOf : ℕ → List ℕ → Reading
-readOf limit s = walk limit s 0 0 nothingKept
+readOf limit s = walk limit s 0 0 nothingGathered
 
 -- What a sheet says: its terms, and its key records, which stand together. A refused sheet says nothing.
 unfoldable pub saidOf : ℕ → List ℕ → Setup
@@ -68,11 +68,11 @@ abbrev pub Accepted : ℕ → List ℕ → Type 0
 Accepted limit s = readOf limit s .verdict ≡ Whole
 
 -- the number of a verdict and its place; a whole sheet has 0 for both
-abbrev pub verdictNumber : Verdict → ℕ
+abbrev pub verdictNumber : SheetVerdict → ℕ
 verdictNumber Whole = 0
 verdictNumber (Refused f at) = numberOf f
 
-abbrev pub verdictPlace : Verdict → ℕ
+abbrev pub verdictPlace : SheetVerdict → ℕ
 verdictPlace Whole = 0
 verdictPlace (Refused f at) = at
 

@@ -1,8 +1,8 @@
 // The terms before the first record.
 use crate::Features;
-use crate::LOCKS;
+use crate::LOCK_LIMIT;
 use crate::Locks;
-use crate::PROFILES;
+use crate::PROFILE_LIMIT;
 use crate::Sizes;
 use crate::Slot;
 use crate::Terms;
@@ -47,10 +47,10 @@ pub(crate) fn empty() -> Terms
             identity: 0,
             user: 0,
         },
-        profiles: [s; PROFILES],
+        profiles: [s; PROFILE_LIMIT],
         locks: Locks {
             count: 0,
-            table: [l; LOCKS],
+            table: [l; LOCK_LIMIT],
         },
     }
 }

@@ -1,10 +1,10 @@
 // The body of each kind of record: whether its rule holds, and what it says.
 use crate::Features;
 use crate::KEY_BODY;
-use crate::PROFILES;
+use crate::PROFILE_LIMIT;
 use crate::Sizes;
 use crate::Slot;
-use crate::WORDS;
+use crate::WORD_LIMIT;
 use memory::Area;
 use memory::Lock;
 use memory::Profile;
@@ -68,10 +68,10 @@ pub(crate) fn sizes_fit(b: &[u8]) -> bool
     requires { ⌜ length (now b) ≡ 4 ⌝ }
     ensures { λ r. ⌜ r ≡ sizesRule (now (b .entry)) ⌝ }
 {
-    if WORDS < word_at(b, 0) {
+    if WORD_LIMIT < word_at(b, 0) {
         return false;
     }
-    word_at(b, 2) <= WORDS
+    word_at(b, 2) <= WORD_LIMIT
 }
 
 /// What a body of record 02 says. A byte past its end counts as 0.
@@ -146,7 +146,7 @@ pub(crate) fn profile_fits(b: &[u8], number: u8, z: Sizes) -> bool
     if p < number {
         return false;
     }
-    if PROFILES <= p as usize {
+    if PROFILE_LIMIT <= p as usize {
         return false;
     }
     is_inside(z, b[1], word_at(b, 2), word_at(b, 4))

@@ -1,15 +1,15 @@
 // The kinds of records, and the four checks before a record's values.
 use crate::FEATURE_BODY;
-use crate::Fault;
+use crate::SheetFault;
 use crate::KEY_BODY;
-use crate::KEYS;
-use crate::Kept;
+use crate::KEY_LIMIT;
+use crate::Gathered;
 use crate::Kind;
 use crate::LOCK_BODY;
-use crate::LOCKS;
-use crate::Opened;
+use crate::LOCK_LIMIT;
+use crate::Head;
 use crate::PROFILE_BODY;
-use crate::PROFILES;
+use crate::PROFILE_LIMIT;
 use crate::SIZE_BODY;
 ghost use mathlib.Core.Path.{_≡_};
 ghost use Rattle.sheet.specs.Limits.{keyLimit};
@@ -83,40 +83,40 @@ fn in_order(last: u8, b: u8) -> bool
     last <= b
 }
 
-fn too_many(q: Kind, kept: Kept) -> bool
-    ensures { λ r. ⌜ r ≡ tooMany keyLimit q kept ⌝ }
+fn too_many(q: Kind, gathered: Gathered) -> bool
+    ensures { λ r. ⌜ r ≡ tooMany keyLimit q gathered ⌝ }
 {
-    let keys = kept.marks.keys;
-    let profiles = kept.marks.profiles;
-    let locks = kept.terms.locks.count;
+    let keys = gathered.marks.keys;
+    let profiles = gathered.marks.profiles;
+    let locks = gathered.terms.locks.count;
     match q {
         Kind::FeatureRecord => false,
         Kind::SizeRecord => false,
-        Kind::KeyRecord => KEYS <= keys,
-        Kind::ProfileRecord => PROFILES <= profiles,
-        Kind::LockRecord => LOCKS <= locks,
+        Kind::KeyRecord => KEY_LIMIT <= keys,
+        Kind::ProfileRecord => PROFILE_LIMIT <= profiles,
+        Kind::LockRecord => LOCK_LIMIT <= locks,
         Kind::EndRecord => false,
         Kind::NoRecord => false,
     }
 }
 
 // The four checks before the body's values, in the paper's order.
-pub(crate) fn opening(b: u8, left: usize, kept: Kept) -> Opened
-    ensures { λ r. ⌜ r ≡ openedOf keyLimit b left kept ⌝ }
+pub(crate) fn opening(b: u8, left: usize, gathered: Gathered) -> Head
+    ensures { λ r. ⌜ r ≡ openedOf keyLimit b left gathered ⌝ }
 {
     let q = kind_of(b);
     if is_unknown(q) {
-        return Opened::Shut(Fault::Unknown);
+        return Head::Shut(SheetFault::Unknown);
     }
-    let last = kept.marks.last;
+    let last = gathered.marks.last;
     if !in_order(last, b) {
-        return Opened::Shut(Fault::Order);
+        return Head::Shut(SheetFault::Order);
     }
-    if too_many(q, kept) {
-        return Opened::Shut(Fault::Many);
+    if too_many(q, gathered) {
+        return Head::Shut(SheetFault::Many);
     }
     if left < body_length(q) {
-        return Opened::Shut(Fault::Cut);
+        return Head::Shut(SheetFault::Cut);
     }
-    Opened::Open
+    Head::Open
 }

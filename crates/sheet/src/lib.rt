@@ -11,18 +11,18 @@ ghost use mathlib.Core.Path.{_≡_};
 ghost use Rattle.sheet.specs.Limits.{keyLimit};
 ghost use Rattle.sheet.specs.Kinds.{numberOf};
 ghost use Rattle.sheet.specs.KeyTable.{keyTable};
-ghost use Rattle.sheet.specs.Setups.{nothingKept};
+ghost use Rattle.sheet.specs.Setups.{nothingGathered};
 ghost use Rattle.sheet.specs.Judgement.{judgedOf, findingNumber, judgedNumber};
 ghost use Rattle.sheet.specs.Sheet.{refusedAt, readOf, verdictNumber, verdictPlace, readNumber, readPlace};
 
 // How many records there may be of the kinds 03, 04 and 05, and how many words an area may have.
-pub const KEYS: usize = 16;
+pub const KEY_LIMIT: usize = 16;
 
-pub const PROFILES: usize = 16;
+pub const PROFILE_LIMIT: usize = 16;
 
-pub const LOCKS: usize = 16;
+pub const LOCK_LIMIT: usize = 16;
 
-pub const WORDS: u16 = 1024;
+pub const WORD_LIMIT: u16 = 1024;
 
 // How many bytes follow the kind byte of a record of the kinds 01 to 05.
 pub const FEATURE_BODY: usize = 2;
@@ -50,7 +50,7 @@ pub const LOCK_RECORD: usize = 1 + LOCK_BODY;
 pub const KEYS_AT: usize = FEATURE_RECORD + SIZE_RECORD;
 
 // Why a sheet is refused.
-pub enum Fault {
+pub enum SheetFault {
     Cut,
     Unknown,
     Order,
@@ -108,7 +108,7 @@ pub struct Slot {
 // Record 05. The first `count` entries are used.
 pub struct Locks {
     pub count: usize,
-    pub table: [Lock; LOCKS],
+    pub table: [Lock; LOCK_LIMIT],
 }
 
 // The terms on which a tag serves: what a sheet says beside its keys, which stay in the sheet (`key_table`). An entry
@@ -116,7 +116,7 @@ pub struct Locks {
 pub struct Terms {
     pub features: Features,
     pub sizes: Sizes,
-    pub profiles: [Slot; PROFILES],
+    pub profiles: [Slot; PROFILE_LIMIT],
     pub locks: Locks,
 }
 
@@ -133,8 +133,8 @@ pub struct Marks {
     pub word: usize,
 }
 
-// What is kept of the records so far.
-pub struct Kept {
+// What is gathered of the records so far.
+pub struct Gathered {
     pub marks: Marks,
     pub terms: Terms,
 }
@@ -143,30 +143,30 @@ pub struct Kept {
 pub enum Finding {
     Taken(usize),
     Ended,
-    Faulty(Fault),
+    Faulty(SheetFault),
 }
 
 // What the kind byte and the number of bytes after it decide.
-pub enum Opened {
+pub enum Head {
     Open,
-    Shut(Fault),
+    Shut(SheetFault),
 }
 
-// The finding on a record, and what is kept after it.
+// The finding on a record, and what is gathered after it.
 pub struct Judged {
     pub finding: Finding,
-    pub kept: Kept,
+    pub gathered: Gathered,
 }
 
 // A whole sheet, or a refusal with its place.
-pub enum Verdict {
+pub enum SheetVerdict {
     Whole,
-    Refused(Fault, usize),
+    Refused(SheetFault, usize),
 }
 
 // The terms of a sheet and how many key records it has. A refused sheet has the empty terms, and none.
 pub struct Reading {
-    pub verdict: Verdict,
+    pub verdict: SheetVerdict,
     pub terms: Terms,
     pub keys: usize,
 }
@@ -174,27 +174,27 @@ pub struct Reading {
 /// The paper's number of a refusal.
 ///
 /// Ruled out: one number for all refusals; 33 and 34 exchanged.
-pub fn number(f: Fault) -> u8
+pub fn number(f: SheetFault) -> u8
     ensures { λ r. ⌜ r ≡ numberOf f ⌝ }
 {
     match f {
-        Fault::Cut => 30,
-        Fault::Unknown => 31,
-        Fault::Order => 32,
-        Fault::Value => 33,
-        Fault::Many => 34,
-        Fault::Tail => 35,
+        SheetFault::Cut => 30,
+        SheetFault::Unknown => 31,
+        SheetFault::Order => 32,
+        SheetFault::Value => 33,
+        SheetFault::Many => 34,
+        SheetFault::Tail => 35,
     }
 }
 
-/// What is kept before the first record.
+/// What is gathered before the first record.
 ///
 /// Ruled out: a start that takes 02 first; one that counts a key.
-pub fn start() -> Kept
-    ensures { λ r. ⌜ r ≡ nothingKept ⌝ }
+pub fn start() -> Gathered
+    ensures { λ r. ⌜ r ≡ nothingGathered ⌝ }
 {
     let terms = blank::empty();
-    Kept {
+    Gathered {
         marks: Marks {
             last: 0,
             keys: 0,
@@ -208,41 +208,41 @@ pub fn start() -> Kept
     }
 }
 
-/// The record with which these bytes start, judged against what was kept of those before it.
+/// The record with which these bytes start, judged against what was gathered of those before it.
 ///
 /// Ruled out: a judgement that calls a seventeenth key record 33 for its values; one that takes a record whose KeyID
 /// doesn't rise.
-pub fn judge(rest: &[u8], kept: Kept) -> Judged
-    ensures { λ r. ⌜ r ≡ judgedOf keyLimit (now (rest .entry)) kept ⌝ }
-    ensures { λ r. ⌜ findingNumber (r .finding) ≡ judgedNumber keyLimit (now (rest .entry)) kept ⌝ }
+pub fn judge(rest: &[u8], gathered: Gathered) -> Judged
+    ensures { λ r. ⌜ r ≡ judgedOf keyLimit (now (rest .entry)) gathered ⌝ }
+    ensures { λ r. ⌜ findingNumber (r .finding) ≡ judgedNumber keyLimit (now (rest .entry)) gathered ⌝ }
 {
     if rest.len() == 0 {
         return Judged {
-            finding: Finding::Faulty(Fault::Cut),
-            kept,
+            finding: Finding::Faulty(SheetFault::Cut),
+            gathered,
         };
     }
     let b = rest[0];
     let left = rest.len() - 1;
-    match kinds::opening(b, left, kept) {
-        Opened::Shut(f) => Judged {
+    match kinds::opening(b, left, gathered) {
+        Head::Shut(f) => Judged {
             finding: Finding::Faulty(f),
-            kept,
+            gathered,
         },
-        Opened::Open => {
+        Head::Open => {
             let q = kinds::kind_of(b);
             let e = 1 + kinds::body_length(q);
-            records::judge_body(q, &rest[1..e], kept)
+            records::judge_body(q, &rest[1..e], gathered)
         }
     }
 }
 
-fn refuse(f: Fault, at: usize) -> Reading
+fn refuse(f: SheetFault, at: usize) -> Reading
     ensures { λ r. ⌜ r ≡ refusedAt f at ⌝ }
 {
     let terms = blank::empty();
     Reading {
-        verdict: Verdict::Refused(f, at),
+        verdict: SheetVerdict::Refused(f, at),
         terms,
         keys: 0,
     }

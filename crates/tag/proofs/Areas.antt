@@ -17,10 +17,10 @@ use Rattle.frames.specs.declared.Kind.the-variants.{Tam1, Tam2, Iam1, Iam2, Iam
 use Rattle.frames.specs.Kinds.{kindOf}
 use Rattle.frames.specs.Messages.{iam3Of}
 use Rattle.sheet.specs.Setups.{Setup}
-use Rattle.offer.specs.declared.Fault.{Fault}
+use Rattle.offer.specs.declared.TagFault.{TagFault}
 use Rattle.entry.specs.declared.Session.{Session}
 use Rattle.tag.specs.States.{KeyedTag}
-use Rattle.offer.specs.declared.Fault.the-variants.{NotSupported}
+use Rattle.offer.specs.declared.TagFault.the-variants.{NotSupported}
 use Rattle.entry.specs.Sessions.{cleared}
 use Rattle.offer.specs.Records.{blockAsked}
 use Rattle.tag.specs.Answers.{Effect, Call, refused, replied, letIn, tam1Answer, tam2Answer, iam1Answer}
@@ -53,7 +53,7 @@ stored-apart area b bytes s i (inl e) = ap (λ (l : List ℕ). getD l i 0) (stor
 stored-apart area b bytes s i (inr o) = stored-outside area b bytes s i o
 
 module _ (c : Call) where
-  refusal-still : (f : Fault) (s : Session) → Still c (refused c f s)
+  refusal-still : (f : TagFault) (s : Session) → Still c (refused c f s)
   unfolding refused
   refusal-still f s = record { identity = refl; user = refl }
 

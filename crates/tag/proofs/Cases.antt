@@ -7,25 +7,25 @@ use Prim.Native.Nat.{ℕ}
 use lib.ListN.{length}
 use Rattle.ground.specs.Choice.{pick}
 use Rattle.frames.specs.Kinds.{kindOf}
-use Rattle.offer.specs.declared.Fault.{Fault}
-use Rattle.offer.specs.declared.Fault.the-variants.{OtherError, NotSupported, OutOfTurn}
+use Rattle.offer.specs.declared.TagFault.{TagFault}
+use Rattle.offer.specs.declared.TagFault.the-variants.{OtherError, NotSupported, OutOfTurn}
 use Rattle.tag.specs.States.{KeyedTag}
-use Rattle.offer.specs.declared.Verdict.{Verdict}
-use Rattle.offer.specs.declared.Verdict.the-variants.{Fine, Wrong}
+use Rattle.offer.specs.declared.Checked.{Checked}
+use Rattle.offer.specs.declared.Checked.the-variants.{Fine, Wrong}
 use Rattle.entry.specs.Sessions.{cleared}
 use Rattle.tag.specs.States.{inTurn}
 use Rattle.offer.specs.Checks.{judged}
 use Rattle.offer.specs.Records.{offered}
-use Rattle.offer.specs.Judged.{benchChecks}
-use Rattle.tag.specs.Answers.{Effect, Call, refused, ifFine, byKind, inOrder, ofMessage, ofBench, effectOf}
+use Rattle.offer.specs.Judged.{lendingChecks}
+use Rattle.tag.specs.Answers.{Effect, Call, refused, ifFine, byKind, inOrder, ofMessage, ofLending, effectOf}
 
-module _ (c : Call) (P : Effect → Type 0) (initial : (f : Fault) → P (refused c f cleared)) where
-  pub fine-case : (v : Verdict) (e : Effect) → P e → P (ifFine c v e)
+module _ (c : Call) (P : Effect → Type 0) (initial : (f : TagFault) → P (refused c f cleared)) where
+  pub fine-case : (v : Checked) (e : Effect) → P e → P (ifFine c v e)
   unfolding ifFine
   fine-case Fine e h = h
   fine-case (Wrong f) e h = initial f
 
-  pub fine-known : (v : Verdict) (e : Effect) → (v ≡ Fine → P e) → P (ifFine c v e)
+  pub fine-known : (v : Checked) (e : Effect) → (v ≡ Fine → P e) → P (ifFine c v e)
   unfolding ifFine
   fine-known Fine e h = h refl
   fine-known (Wrong f) e h = initial f
@@ -34,7 +34,7 @@ module _ (c : Call) (P : Effect → Type 0) (initial : (f : Fault) → P (refuse
   picked true x y h k = h refl
   picked false x y h k = k
 
-  module _ (tag : KeyedTag) (asItWas : (f : Fault) → P (refused c f (tag .session)))
+  module _ (tag : KeyedTag) (asItWas : (f : TagFault) → P (refused c f (tag .session)))
       (kinds : (first : ℕ) (rest : List ℕ)
       → c .message ≡ first ∷ rest → offered (tag .setup .features) (kindOf first) ≡ true
       → inTurn (tag .session .state) (kindOf first) ≡ true → P (byKind c (tag .setup) (tag .session) (kindOf first)))
@@ -49,7 +49,7 @@ module _ (c : Call) (P : Effect → Type 0) (initial : (f : Fault) → P (refuse
           (refused c OutOfTurn cleared) (λ t. kinds first rest e o t) (initial OutOfTurn))
           (initial NotSupported)
 
-      of-bench : (v : Verdict) → P (ofBench c (tag .setup) (tag .session) v)
+      of-bench : (v : Checked) → P (ofLending c (tag .setup) (tag .session) v)
       of-bench Fine = of-message (c .message) refl
       of-bench (Wrong f) = asItWas f
 
@@ -57,4 +57,4 @@ module _ (c : Call) (P : Effect → Type 0) (initial : (f : Fault) → P (refuse
       unfolding effectOf
       effect-case =
           of-bench (judged
-          (benchChecks (tag .setup .sizes) (length (c .draws)) (c .room) (length (c .identity)) (length (c .user))))
+          (lendingChecks (tag .setup .sizes) (length (c .draws)) (c .room) (length (c .identity)) (length (c .user))))

@@ -11,8 +11,8 @@ use Rattle.frames.specs.Kinds.{kindOf}
 use Rattle.frames.specs.Messages.{iam1Of, mam1Of}
 use Rattle.sheet.specs.declared.Key.{Key}
 use Rattle.sheet.specs.Setups.{Setup}
-use Rattle.offer.specs.declared.Fault.{Fault}
-use Rattle.offer.specs.declared.Fault.the-variants.{NotSupported}
+use Rattle.offer.specs.declared.TagFault.{TagFault}
+use Rattle.offer.specs.declared.TagFault.the-variants.{NotSupported}
 use Rattle.entry.specs.declared.Session.{Session}
 use Rattle.entry.specs.declared.State.{State}
 use Rattle.entry.specs.declared.State.the-variants.{Initial, IamInit, MamInit, IaOk}
@@ -62,7 +62,7 @@ module _ (setup : Setup) where
     abbrev Of : Effect → Type 0
     Of e = Holds (setup .keys) (e .session)
 
-    refused-holds : (f : Fault) → Of (refused c f cleared)
+    refused-holds : (f : TagFault) → Of (refused c f cleared)
     unfolding refused
     refused-holds f = cleared-holds
 

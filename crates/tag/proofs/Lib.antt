@@ -1,12 +1,12 @@
 pub mod Cases
 pub mod Reacting
 pub mod Sending
-pub mod Kept
+pub mod Unchanged
 pub mod Successors
 pub mod PaperNumbers
 pub mod Holding
 pub mod Areas
 pub mod Turning
-pub mod Fits
+pub mod Unique
 pub mod Played
 pub mod Iam1Layout

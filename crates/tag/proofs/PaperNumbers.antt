@@ -5,9 +5,9 @@ use Rattle.frames.specs.declared.Kind.{Kind}
 use Rattle.frames.specs.declared.Kind.the-variants.{Tam1, Tam2, Iam1, Iam2, Iam3, Mam1, Mam2, Unsupported}
 use Rattle.frames.specs.Kinds.{kindOf}
 use Rattle.sheet.specs.Setups.{Setup}
-use Rattle.offer.specs.declared.Fault.{Fault}
-use Rattle.offer.specs.declared.Fault.the-variants.{OtherError, NotSupported, MemoryOverrun, MemoryWriteError}
-use Rattle.offer.specs.declared.Fault.the-variants.{OutOfTurn, ProofWrong, BenchFault}
+use Rattle.offer.specs.declared.TagFault.{TagFault}
+use Rattle.offer.specs.declared.TagFault.the-variants.{OtherError, NotSupported, MemoryOverrun, MemoryWriteError}
+use Rattle.offer.specs.declared.TagFault.the-variants.{OutOfTurn, ProofWrong, BenchFault}
 use Rattle.entry.specs.declared.Session.{Session}
 use Rattle.tag.specs.States.{KeyedTag}
 use Rattle.entry.specs.Sessions.{cleared}
@@ -18,7 +18,7 @@ use Rattle.tag.specs.Answers.{iam2Answer, iam3Answer, mam1Answer, mam2An
 use Rattle.tag.proofs.Cases.{fine-case, effect-case}
 
 -- A row: what the tag holds afterwards, where it held `held`. (The numbers stand in `offer`.)
-abbrev ToInitial : Fault → Type 0
+abbrev ToInitial : TagFault → Type 0
 ToInitial f = (held : Session) → sessionAfter f held ≡ cleared
 
 pub other-error : ToInitial OtherError
@@ -47,7 +47,7 @@ abbrev Told : Effect → Type 0
 Told e = replyLength (e .outcome) ≡ length (e .reply)
 
 module _ (c : Call) where
-  refusal-told : (f : Fault) (s : Session) → Told (refused c f s)
+  refusal-told : (f : TagFault) (s : Session) → Told (refused c f s)
   unfolding refused
   refusal-told f s = refl
 

@@ -12,8 +12,8 @@ use denote.Array.{Array}
 use Rattle.field.proofs.Arrays.{array-length}
 use Rattle.modes.specs.Room.{over}
 use Rattle.frames.specs.Lengths.{replyRoom}
-use Rattle.offer.specs.declared.Verdict.{Verdict}
-use Rattle.offer.specs.declared.Verdict.the-variants.{Fine, Wrong}
+use Rattle.offer.specs.declared.Checked.{Checked}
+use Rattle.offer.specs.declared.Checked.the-variants.{Fine, Wrong}
 use Rattle.offer.specs.Outcomes.{replyLength, settled}
 use Rattle.tam.specs.declared.Given.{Given}
 use Rattle.tam.specs.Given.{Gives}
@@ -40,13 +40,13 @@ abbrev pub Sends : ℕ → List ℕ → List ℕ → List ℕ → Type 0
 Sends n reply room after = after ≡ over (take n reply) room
 
 -- TAM
-module _ (v : Verdict) (bytes : List ℕ) (g : Given) (h : Gives v bytes g) (long : length (g .reply) ≡ replyRoom) where
+module _ (v : Checked) (bytes : List ℕ) (g : Given) (h : Gives v bytes g) (long : length (g .reply) ≡ replyRoom) where
   pub given-fits : (room : List ℕ) → replyRoom ≤ length room → Fits (replyLength (g .outcome)) (g .reply) room
   given-fits room e =
       (told-fits v bytes (g .reply) replyRoom long (g .outcome) (h .outcome) (h .reply), omega (arith, long, e))
 
   -- nothing is held either way
-  nothing : (w : Verdict) → settled w cleared (λ f. cleared) ≡ cleared
+  nothing : (w : Checked) → settled w cleared (λ f. cleared) ≡ cleared
   nothing Fine = refl
   nothing (Wrong f) = refl
 
@@ -58,7 +58,7 @@ module _ (v : Verdict) (bytes : List ℕ) (g : Given) (h : Gives v bytes g) (lon
       (e ∙ (λ j. over (told-sent v bytes (g .reply) replyRoom long (g .outcome) (h .outcome) (h .reply) j) room))
 
 -- IAM1, MAM1
-module _ (v : Verdict) (bytes : List ℕ) (next : Session) (g : Challenged) (h : Challenges v bytes next g)
+module _ (v : Checked) (bytes : List ℕ) (next : Session) (g : Challenged) (h : Challenges v bytes next g)
     (long : length (g .reply) ≡ challengeRoom)
   where
     pub challenged-fits : (room : List ℕ) → replyRoom ≤ length room → Fits (replyLength (g .outcome)) (g .reply) room

@@ -11,8 +11,8 @@ use Rattle.frames.specs.Kinds.{kindOf}
 use Rattle.sheet.specs.Setups.{Setup}
 use Rattle.entry.specs.declared.State.{State}
 use Rattle.entry.specs.declared.State.the-variants.{Initial, IamInit, MamInit, IaOk}
-use Rattle.offer.specs.declared.Fault.{Fault}
-use Rattle.offer.specs.declared.Fault.the-variants.{NotSupported}
+use Rattle.offer.specs.declared.TagFault.{TagFault}
+use Rattle.offer.specs.declared.TagFault.the-variants.{NotSupported}
 use Rattle.entry.specs.declared.Session.{Session}
 use Rattle.offer.specs.declared.Outcome.{Outcome}
 use Rattle.offer.specs.declared.Outcome.the-variants.{Refused}
@@ -112,7 +112,7 @@ row MamInit Unsupported e = absurd (false≢true e)
 row IaOk Unsupported e = absurd (false≢true e)
 
 abbrev pub Accepted : Outcome → Type 0
-Accepted o = (f : Fault) → o ≡ Refused f → ⊥
+Accepted o = (f : TagFault) → o ≡ Refused f → ⊥
 
 -- What is known of an accepted message: the tag offers it, and Table A.1 has a row for it, whose next state is the
 -- tag's.
@@ -124,7 +124,7 @@ pub record Successor (c : Call) (tag : KeyedTag) (a : Answer) : Type 0 where
   pub row : tableA1 (tag .session .state) (kindOf first) ≡ a .tag .session .state ∷ []
 
 module _ (c : Call) where
-  refusal-not : (P : Effect → Type 0) (f : Fault) (s : Session) → Accepted (refused c f s .outcome) → P (refused c f s)
+  refusal-not : (P : Effect → Type 0) (f : TagFault) (s : Session) → Accepted (refused c f s .outcome) → P (refused c f s)
   unfolding refused
   refusal-not P f s h = absurd (h f refl)
 
@@ -186,7 +186,7 @@ unfolding poweredUp
 powered-up-rests setup = cleared-rests
 
 module _ (c : Call) where
-  refused-rests : (f : Fault) → Rested (refused c f cleared .session)
+  refused-rests : (f : TagFault) → Rested (refused c f cleared .session)
   unfolding refused
   refused-rests f = cleared-rests
 

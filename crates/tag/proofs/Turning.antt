@@ -10,26 +10,26 @@ use Rattle.sheet.specs.Setups.{Setup, setupOf}
 use Rattle.frames.specs.declared.Kind.{Kind}
 use Rattle.frames.specs.declared.Kind.the-variants.{Tam1, Tam2, Iam1, Iam2, Iam3, Mam1, Mam2, Unsupported}
 use Rattle.frames.specs.Kinds.{kindOf}
-use Rattle.offer.specs.declared.Fault.{Fault}
-use Rattle.offer.specs.declared.Fault.the-variants.{OtherError, NotSupported, OutOfTurn}
+use Rattle.offer.specs.declared.TagFault.{TagFault}
+use Rattle.offer.specs.declared.TagFault.the-variants.{OtherError, NotSupported, OutOfTurn}
 use Rattle.offer.specs.declared.Outcome.the-variants.{Refused}
 use Rattle.entry.specs.declared.Reacted.{Reacted}
 use Rattle.entry.specs.declared.Session.{Session}
 use Rattle.tag.specs.declared.Tag.{Tag}
 use Rattle.tag.specs.States.{keyed}
-use Rattle.offer.specs.declared.Verdict.{Verdict}
-use Rattle.offer.specs.declared.Verdict.the-variants.{Fine, Wrong}
+use Rattle.offer.specs.declared.Checked.{Checked}
+use Rattle.offer.specs.declared.Checked.the-variants.{Fine, Wrong}
 use Rattle.entry.specs.Sessions.{cleared}
 use Rattle.tag.specs.States.{inTurn}
 use Rattle.offer.specs.Outcomes.{numberGiven}
 use Rattle.offer.specs.Checks.{judged}
 use Rattle.offer.specs.Records.{offered}
-use Rattle.offer.specs.Judged.{benchChecks}
+use Rattle.offer.specs.Judged.{lendingChecks}
 use Rattle.tag.specs.Answers.{Effect, Call, refused, tam1Answer, tam2Answer, iam1Answer, iam2Answer, iam3Answer}
-use Rattle.tag.specs.Answers.{mam1Answer, mam2Answer, byKind, inOrder, ofMessage, ofBench, effectOf}
+use Rattle.tag.specs.Answers.{mam1Answer, mam2Answer, byKind, inOrder, ofMessage, ofLending, effectOf}
 use Rattle.tag.specs.Answers.{answerWith, answerOf}
-use Rattle.entry.specs.Given.{LetsIn, Writes, iam2Verdict, iam2Purpose, iam3Verdict, iam3Purpose, iam3Stored}
-use Rattle.entry.specs.Given.{mam2Verdict, mam2Purpose}
+use Rattle.entry.specs.Given.{LetsIn, Writes, iam2Checked, iam2Purpose, iam3Checked, iam3Purpose, iam3Stored}
+use Rattle.entry.specs.Given.{mam2Checked, mam2Purpose}
 use Rattle.entry.proofs.Giving.{Turned}
 use Rattle.tag.specs.Reactions.{lent, Reacts, ReactsIn, Steps}
 use Rattle.tag.proofs.Areas.{kind-still}
@@ -61,7 +61,7 @@ module _ (c : Call) (setup : Setup) (held : Session) (room : List ℕ) (r : Reac
     unfolding byKind
     is-iam1 = apart k Iam1 after (λ e. (let z : _≡_ {A = ℕ} 0 1 = cc in omega arith))
 
-    pub is-iam2 : k ≡ Iam2 → LetsIn (iam2Verdict (setup .keys) held (c .message))
+    pub is-iam2 : k ≡ Iam2 → LetsIn (iam2Checked (setup .keys) held (c .message))
         (iam2Purpose (setup .keys) held (c .message)) r
         → OfKind k room
     unfolding byKind iam2Answer
@@ -72,7 +72,7 @@ module _ (c : Call) (setup : Setup) (held : Session) (room : List ℕ) (r : Reac
     unfolding byKind
     is-mam1 = apart k Mam1 after (λ e. (let z : _≡_ {A = ℕ} 0 1 = cc in omega arith))
 
-    pub is-mam2 : k ≡ Mam2 → LetsIn (mam2Verdict (setup .keys) held (c .message))
+    pub is-mam2 : k ≡ Mam2 → LetsIn (mam2Checked (setup .keys) held (c .message))
         (mam2Purpose (setup .keys) held (c .message)) r
         → OfKind k room
     unfolding byKind mam2Answer
@@ -80,7 +80,7 @@ module _ (c : Call) (setup : Setup) (held : Session) (room : List ℕ) (r : Reac
         apart k Mam2 room (λ x. (let z : _≡_ {A = ℕ} 0 1 = cc in omega arith)) e (reacts-let-in c room r _ _ h)
 
     pub is-iam3 : (i u : List ℕ) → k ≡ Iam3
-        → Writes (iam3Verdict setup held (c .message)) (iam3Purpose setup held (c .message))
+        → Writes (iam3Checked setup held (c .message)) (iam3Purpose setup held (c .message))
         (iam3Stored setup held (c .message)) (c .identity) (c .user) r i u
         → ReactsIn (byKind c setup held k) room r room i u
     unfolding byKind iam3Answer
@@ -137,19 +137,19 @@ module _ (c : Call) (setup : Setup) (held : Session) (room : List ℕ) (r : Reac
       subst (λ (y : Kind). ReactsIn (inOrder c setup held y) room r after i u) e h
 
 -- The whole call.
-module _ (tag : Tag) (keys m draws room i u : List ℕ) (v : Verdict)
-    (w : v ≡ judged (benchChecks (tag .terms .sizes) (length draws) (length room) (length i) (length u))) where
+module _ (tag : Tag) (keys m draws room i u : List ℕ) (v : Checked)
+    (w : v ≡ judged (lendingChecks (tag .terms .sizes) (length draws) (length room) (length i) (length u))) where
   abbrev call : Call
   call = lent m draws room i u
 
   abbrev setup : Setup
   setup = setupOf (tag .terms) keys
 
-  pub bench-wrong : (f : Fault) → v ≡ Wrong f
+  pub bench-wrong : (f : TagFault) → v ≡ Wrong f
       → Steps (answerOf call (keyed tag keys)) room (record { outcome = Refused f; tag = tag }) room i u
   unfolding effectOf refused
   bench-wrong f x =
-      subst (λ (y : Verdict). Steps (answerWith setup (ofBench call setup (tag .session) y)) room
+      subst (λ (y : Checked). Steps (answerWith setup (ofLending call setup (tag .session) y)) room
       (record { outcome = Refused f; tag = tag }) room i u) (sym x ∙ w)
       (record { outcome = refl; number = refl; next = refl; reply = refl; identity = refl; user = refl })
 
@@ -161,7 +161,7 @@ module _ (tag : Tag) (keys m draws room i u : List ℕ) (v : Verdict)
   bench-fine q d after i′ u′ x e h =
       let k = subst (λ (l : List ℕ). ReactsIn (ofMessage (lent m l room i u) setup (tag .session) m) room q after
       i′ u′) e h in
-      subst (λ (y : Verdict). Steps (answerWith setup (ofBench call setup (tag .session) y)) room
+      subst (λ (y : Checked). Steps (answerWith setup (ofLending call setup (tag .session) y)) room
       (record { outcome = q .outcome; tag = record { terms = tag .terms; session = q .session } }) after i′ u′)
       (sym x ∙ w)
       (record {

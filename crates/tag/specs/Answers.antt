@@ -11,20 +11,20 @@ use Rattle.sheet.specs.Setups.{Setup}
 use Rattle.frames.specs.declared.Kind.{Kind}
 use Rattle.frames.specs.declared.Kind.the-variants.{Tam1, Tam2, Iam1, Iam2, Iam3, Mam1, Mam2, Unsupported}
 use Rattle.frames.specs.Kinds.{kindOf}
-use Rattle.offer.specs.declared.Fault.{Fault}
-use Rattle.offer.specs.declared.Fault.the-variants.{OtherError, NotSupported, OutOfTurn}
+use Rattle.offer.specs.declared.TagFault.{TagFault}
+use Rattle.offer.specs.declared.TagFault.the-variants.{OtherError, NotSupported, OutOfTurn}
 use Rattle.offer.specs.declared.Outcome.{Outcome}
 use Rattle.offer.specs.declared.Outcome.the-variants.{Replied, Entered, Refused}
-use Rattle.offer.specs.declared.Verdict.{Verdict}
-use Rattle.offer.specs.declared.Verdict.the-variants.{Fine, Wrong}
+use Rattle.offer.specs.declared.Checked.{Checked}
+use Rattle.offer.specs.declared.Checked.the-variants.{Fine, Wrong}
 use Rattle.offer.specs.Checks.{judged}
 use Rattle.offer.specs.Records.{offered}
-use Rattle.offer.specs.Judged.{benchChecks}
-use Rattle.tam.specs.Given.{tam1Verdict, tam1Sent, tam2Verdict, tam2Sent}
+use Rattle.offer.specs.Judged.{lendingChecks}
+use Rattle.tam.specs.Given.{tam1Checked, tam1Sent, tam2Checked, tam2Sent}
 use Rattle.entry.specs.declared.Session.{Session}
 use Rattle.entry.specs.Sessions.{cleared, entered}
-use Rattle.entry.specs.Given.{iam1Verdict, iam1Held, iam2Verdict, iam2Purpose, iam3Verdict, iam3Purpose, iam3Stored}
-use Rattle.entry.specs.Given.{mam1Verdict, mam1Sent, mam1Held, mam2Verdict, mam2Purpose}
+use Rattle.entry.specs.Given.{iam1Checked, iam1Held, iam2Checked, iam2Purpose, iam3Checked, iam3Purpose, iam3Stored}
+use Rattle.entry.specs.Given.{mam1Checked, mam1Sent, mam1Held, mam2Checked, mam2Purpose}
 use Rattle.tag.specs.States.{KeyedTag, holding, inTurn}
 
 -- What a call comes to: the outcome, the tag afterwards with its key table, the reply's bytes, and both areas.
@@ -63,7 +63,7 @@ pub record Call : Type 0 where
 
 module _ (c : Call) where
   -- A refusal sends nothing, writes no word, and leaves the tag in the session that is named.
-  unfoldable pub refused : Fault → Session → Effect
+  unfoldable pub refused : TagFault → Session → Effect
   refused f s = record { outcome = Refused f; session = s; reply = []; identity = c .identity; user = c .user }
 
   unfoldable pub replied : List ℕ → Session → Effect
@@ -86,46 +86,46 @@ module _ (c : Call) where
   }
 
   -- Numbers 1 to 6 end in Initial.
-  unfoldable pub ifFine : Verdict → Effect → Effect
+  unfoldable pub ifFine : Checked → Effect → Effect
   ifFine Fine e = e
   ifFine (Wrong f) e = refused f cleared
 
   module _ (keys : List Key) where
     -- TAM ends in Initial, whatever was held.
     unfoldable pub tam1Answer : Effect
-    tam1Answer = ifFine (tam1Verdict keys (c .message)) (replied (tam1Sent keys (c .message) (c .draws)) cleared)
+    tam1Answer = ifFine (tam1Checked keys (c .message)) (replied (tam1Sent keys (c .message) (c .draws)) cleared)
 
     -- The challenge is the draws themselves.
     unfoldable pub iam1Answer : Effect
-    iam1Answer = ifFine (iam1Verdict keys (c .message)) (replied (c .draws) (iam1Held (c .message) (c .draws)))
+    iam1Answer = ifFine (iam1Checked keys (c .message)) (replied (c .draws) (iam1Held (c .message) (c .draws)))
 
     unfoldable pub mam1Answer : Effect
     mam1Answer =
-        ifFine (mam1Verdict keys (c .message))
+        ifFine (mam1Checked keys (c .message))
         (replied (mam1Sent keys (c .message) (c .draws)) (mam1Held (c .message) (c .draws)))
 
     module _ (held : Session) where
       unfoldable pub iam2Answer : Effect
       iam2Answer =
-          ifFine (iam2Verdict keys held (c .message))
+          ifFine (iam2Checked keys held (c .message))
           (letIn (iam2Purpose keys held (c .message)) (c .identity) (c .user))
 
       unfoldable pub mam2Answer : Effect
       mam2Answer =
-          ifFine (mam2Verdict keys held (c .message))
+          ifFine (mam2Checked keys held (c .message))
           (letIn (mam2Purpose keys held (c .message)) (c .identity) (c .user))
 
   module _ (setup : Setup) where
     unfoldable pub tam2Answer : Effect
     tam2Answer =
-        ifFine (tam2Verdict setup (c .message))
+        ifFine (tam2Checked setup (c .message))
         (replied (tam2Sent setup (c .message) (c .draws) (c .identity) (c .user)) cleared)
 
     module _ (held : Session) where
       -- After everything was judged the words of the block are written, and no others.
       unfoldable pub iam3Answer : Effect
       iam3Answer =
-          ifFine (iam3Verdict setup held (c .message))
+          ifFine (iam3Checked setup held (c .message))
           (letIn (iam3Purpose setup held (c .message)) (iam3Stored setup held (c .message) Identity (c .identity))
           (iam3Stored setup held (c .message) User (c .user)))
 
@@ -151,14 +151,14 @@ module _ (c : Call) where
       ofMessage (first ∷ rest) = inOrder (kindOf first)
 
       -- Number 7 changes nothing at all.
-      abbrev pub ofBench : Verdict → Effect
-      ofBench Fine = ofMessage (c .message)
-      ofBench (Wrong f) = refused f held
+      abbrev pub ofLending : Checked → Effect
+      ofLending Fine = ofMessage (c .message)
+      ofLending (Wrong f) = refused f held
 
   unfoldable pub effectOf : KeyedTag → Effect
   effectOf tag =
-      ofBench (tag .setup) (tag .session)
-      (judged (benchChecks (tag .setup .sizes) (length (c .draws)) (c .room) (length (c .identity)) (length (c .user))))
+      ofLending (tag .setup) (tag .session)
+      (judged (lendingChecks (tag .setup .sizes) (length (c .draws)) (c .room) (length (c .identity)) (length (c .user))))
 
   -- The tag's answer.
   abbrev pub answerOf : KeyedTag → Answer

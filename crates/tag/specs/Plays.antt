@@ -32,9 +32,9 @@ pub record LeftWith (Told : Type 0) : Type 0 where
   pub user : List ℕ
 
 -- A run of calls. `Leaves` says what one leaves, of a tag and areas; `next` is the tag in what is told.
-module _ {Kept Told : Type 0} (Leaves : Kept → List ℕ → List ℕ → Doing → LeftWith Told → Type 0) (next : Told → Kept)
+module _ {Of Told : Type 0} (Leaves : Of → List ℕ → List ℕ → Doing → LeftWith Told → Type 0) (next : Told → Of)
   where
-    unfoldable pub OneByOne : Kept → List ℕ → List ℕ → List Doing → List (LeftWith Told) → Type 0
+    unfoldable pub OneByOne : Of → List ℕ → List ℕ → List Doing → List (LeftWith Told) → Type 0
     OneByOne tag identity user [] [] = Unit
     OneByOne tag identity user [] (x ∷ xs) = ⊥
     OneByOne tag identity user (d ∷ ds) [] = ⊥

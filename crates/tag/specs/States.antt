@@ -7,10 +7,10 @@ use Rattle.sheet.specs.declared.Terms.{Terms}
 use Rattle.sheet.specs.Setups.{Setup, setupOf, termsOf}
 use Rattle.frames.specs.declared.Kind.{Kind}
 use Rattle.frames.specs.declared.Kind.the-variants.{Tam1, Tam2, Iam1, Iam2, Iam3, Mam1, Mam2, Unsupported}
-use Rattle.offer.specs.declared.Fault.{Fault}
-use Rattle.offer.specs.declared.Fault.the-variants.{OtherError, NotSupported, MemoryOverrun, MemoryWriteError}
-use Rattle.offer.specs.declared.Fault.the-variants.{OutOfTurn}
-use Rattle.offer.specs.declared.Fault.the-variants.{ProofWrong, BenchFault}
+use Rattle.offer.specs.declared.TagFault.{TagFault}
+use Rattle.offer.specs.declared.TagFault.the-variants.{OtherError, NotSupported, MemoryOverrun, MemoryWriteError}
+use Rattle.offer.specs.declared.TagFault.the-variants.{OutOfTurn}
+use Rattle.offer.specs.declared.TagFault.the-variants.{ProofWrong, BenchFault}
 use Rattle.keytable.specs.Named.{hasKey}
 use Rattle.entry.specs.declared.State.{State}
 use Rattle.entry.specs.declared.State.the-variants.{Initial, IamInit, MamInit, IaOk}
@@ -78,7 +78,7 @@ keyFits keys MamInit keyid = hasKey keyid keys
 keyFits keys IaOk keyid = true
 
 -- What the tag holds after each refusal.
-abbrev pub sessionAfter : Fault → Session → Session
+abbrev pub sessionAfter : TagFault → Session → Session
 sessionAfter OtherError held = cleared
 sessionAfter NotSupported held = cleared
 sessionAfter MemoryOverrun held = cleared

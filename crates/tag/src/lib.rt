@@ -2,7 +2,7 @@
 use entry::Session;
 use entry::State;
 use offer::Outcome;
-use offer::Verdict;
+use offer::Checked;
 use sheet::Terms;
 ghost use mathlib.Core.Path.{_≡_};
 ghost use Rattle.sheet.specs.KeyTable.{keysIn};
@@ -100,8 +100,8 @@ pub fn step(
     let terms = tag.terms;
     let sizes = terms.sizes;
     let held = tag.session;
-    let verdict = offer::judged::bench(sizes, draws.len(), room.len(), identity.len(), user.len());
-    if let Verdict::Wrong(fault) = verdict {
+    let verdict = offer::judged::lending(sizes, draws.len(), room.len(), identity.len(), user.len());
+    if let Checked::Wrong(fault) = verdict {
         return Stepped {
             outcome: Outcome::Refused(fault),
             tag,

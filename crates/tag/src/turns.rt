@@ -6,7 +6,7 @@ use entry::Session;
 use entry::State;
 use entry::refused;
 use frames::Kind;
-use offer::Fault;
+use offer::TagFault;
 use offer::records;
 use sheet::Terms;
 ghost use mathlib.Core.Path.{_≡_};
@@ -98,7 +98,7 @@ fn by_kind(
             return entry::mam2(keys, held, m);
         }
         Kind::Unsupported => {
-            return refused(Fault::NotSupported);
+            return refused(TagFault::NotSupported);
         }
     }
 }
@@ -123,11 +123,11 @@ fn in_order(
 {
     let features = terms.features;
     if !records::offered(features, kind) {
-        return refused(Fault::NotSupported);
+        return refused(TagFault::NotSupported);
     }
     let state = held.state;
     if !in_turn(state, kind) {
-        return refused(Fault::OutOfTurn);
+        return refused(TagFault::OutOfTurn);
     }
     by_kind(kind, terms, keys, held, m, draws, room, identity, user)
 }
@@ -151,7 +151,7 @@ pub fn take(
         (now (room .entry)) r (now (room .exit)) (now (identity .exit)) (now (user .exit)) ⌝ }
 {
     if m.len() == 0 {
-        return refused(Fault::OtherError);
+        return refused(TagFault::OtherError);
     }
     let kind = frames::first::kind_of(m[0]);
     in_order(kind, terms, keys, held, m, draws, room, identity, user)

@@ -12,11 +12,11 @@ use lines::numbers::low_word;
 use lines::numbers::times;
 use lines::print;
 use sheet::Terms;
-use sheet::Verdict;
+use sheet::SheetVerdict;
 use tag::Tag;
 
 // The bytes of the longest key table.
-const KEY_TABLE: usize = sheet::KEYS * sheet::KEY_RECORD;
+const KEY_TABLE: usize = sheet::KEY_LIMIT * sheet::KEY_RECORD;
 
 // Room for a key table.
 pub fn key_room() -> [u8; KEY_TABLE] {
@@ -63,7 +63,7 @@ pub fn sheet(
     let verdict = reading.verdict;
     let terms = reading.terms;
     match verdict {
-        Verdict::Refused(fault, at) => {
+        SheetVerdict::Refused(fault, at) => {
             print::text(b"refused ");
             answer::decimal(sheet::number(fault) as u16);
             print::text(b" at ");
@@ -71,7 +71,7 @@ pub fn sheet(
             print::text(b"\n");
             return p;
         }
-        Verdict::Whole => {
+        SheetVerdict::Whole => {
             answer::ok();
             clear(identity);
             clear(user);

@@ -6,4 +6,4 @@ pub mod Tam2Asked
 pub mod Tam2Made
 pub mod Passed
 pub mod Giving
-pub mod Fits
+pub mod Unique

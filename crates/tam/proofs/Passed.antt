@@ -9,7 +9,7 @@ use Rattle.memory.specs.Address.{overruns}
 use Rattle.sheet.specs.Setups.{Setup}
 use Rattle.frames.specs.Messages.{tam2Of}
 use Rattle.frames.specs.Lengths.{tam2Length, lengthFits}
-use Rattle.offer.specs.declared.Verdict.the-variants.{Fine}
+use Rattle.offer.specs.declared.Checked.the-variants.{Fine}
 use Rattle.offer.specs.Checks.{judged}
 use Rattle.keytable.specs.Named.{hasKey, keyWith}
 use Rattle.offer.specs.Records.{modeSupported, slotNamed, blockAsked}

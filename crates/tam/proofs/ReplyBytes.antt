@@ -6,7 +6,7 @@ use Prim.Native.Nat.{ℕ, zero, suc, _+_, _-_, _≤_}
 use native.Mathlib.Omega.{arith}
 use lib.ListN.{length, take, replicate}
 use lib.Seq.{length-take-le}
-use Rattle.ground.specs.Bytes.{Bytes}
+use Rattle.ground.specs.Bytes.{Bytes, twoBytes}
 use Rattle.ground.specs.Choice.{pick}
 use Rattle.field.proofs.Block.{Block}
 use Rattle.modes.specs.Cbc.{cbcEncAes}
@@ -19,7 +19,7 @@ use Rattle.frames.specs.declared.Tam1.{Tam1}
 use Rattle.frames.specs.declared.Tam2.{Tam2}
 use Rattle.frames.specs.declared.Custom.{Custom}
 use Rattle.frames.specs.Blocks.{headerLength, blocksLength}
-use Rattle.frames.specs.Constants.{C-TAM1, C-TAM2-0, C-TAM2-1, C-TAM2-2, C-TAM2-3, tam2Constant, twoBytes}
+use Rattle.frames.specs.Constants.{C-TAM1, C-TAM2-0, C-TAM2-1, C-TAM2-2, C-TAM2-3, tam2Constant}
 use Rattle.frames.specs.Fields.{customFits}
 use Rattle.frames.specs.Header.{headerStart, headerOf}
 use Rattle.frames.specs.declared.ProtMode.{ProtMode}

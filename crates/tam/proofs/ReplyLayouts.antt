@@ -5,6 +5,7 @@ use mathlib.Core.Bool.{true, false}
 use mathlib.Core.List.{List, _++_, append-nil}
 use Prim.Native.Nat.{ℕ}
 use lib.ListN.{take}
+use Rattle.ground.specs.Bytes.{twoBytes}
 use Rattle.aes.specs.AesEnc.{aesEnc}
 use Rattle.modes.specs.Cbc.{cbcEncAes}
 use Rattle.modes.specs.Cmac.{cmac96}
@@ -13,7 +14,7 @@ use Rattle.frames.specs.declared.Custom.{Custom}
 use Rattle.frames.specs.declared.Tam1.{Tam1}
 use Rattle.frames.specs.declared.Tam2.{Tam2}
 use Rattle.frames.specs.Blocks.{blocksLength}
-use Rattle.frames.specs.Constants.{tam2Constant, byMode, twoBytes}
+use Rattle.frames.specs.Constants.{tam2Constant, byMode}
 use Rattle.frames.specs.Header.{headerOf}
 use Rattle.frames.specs.declared.ProtMode.{ProtMode}
 use Rattle.frames.specs.declared.ProtMode.the-variants.{Plaintext, Cbc, Cmac, CbcCmac}

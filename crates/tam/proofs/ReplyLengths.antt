@@ -5,6 +5,7 @@ use mathlib.Core.List.{List, [], _++_}
 use Prim.Native.Nat.{ℕ, _+_, _%_, _≤_}
 use native.Mathlib.Omega.{arith}
 use lib.ListN.{length, take, length-append}
+use Rattle.ground.specs.Bytes.{twoBytes}
 use Rattle.ground.specs.Choice.{pick}
 use Rattle.modes.specs.Cbc.{cbcEncAes}
 use Rattle.modes.specs.Cmac.{cmac96}
@@ -12,7 +13,7 @@ use Rattle.sheet.specs.declared.Key.{Key}
 use Rattle.frames.specs.declared.Tam1.{Tam1}
 use Rattle.frames.specs.declared.Tam2.{Tam2}
 use Rattle.frames.specs.Blocks.{dataLength, blocksLength}
-use Rattle.frames.specs.Constants.{tam2Constant, twoBytes}
+use Rattle.frames.specs.Constants.{tam2Constant}
 use Rattle.frames.specs.Lengths.{macLength, tam1ReplyLength, tam2MacAt, tam2ReplyLength}
 use Rattle.payload.specs.Data.{carriedData}
 use Rattle.frames.specs.declared.ProtMode.{ProtMode}

@@ -8,6 +8,7 @@ use borrow.Author.Tests.{eq-eqb}
 use lib.Dec.{eqb}
 use lib.ListN.{length, take, drop, replicate, length-append}
 use lib.Seq.{length-take-le}
+use Rattle.ground.specs.Bytes.{twoBytes}
 use Rattle.ground.specs.Choice.{pick, both}
 use Rattle.modes.specs.Cbc.{cbcEncAes}
 use Rattle.modes.specs.Cmac.{cmac96}
@@ -18,7 +19,7 @@ use Rattle.sheet.specs.declared.Key.{Key}
 use Rattle.frames.specs.declared.Custom.{Custom}
 use Rattle.frames.specs.declared.Tam2.{Tam2}
 use Rattle.frames.specs.Blocks.{dataLength, blocksLength}
-use Rattle.frames.specs.Constants.{tam2Constant, twoBytes}
+use Rattle.frames.specs.Constants.{tam2Constant}
 use Rattle.frames.specs.Fields.{customFits}
 use Rattle.frames.specs.Built.{Built}
 use Rattle.frames.specs.Lengths.{macLength, replyRoom, tam2ReplyLength}

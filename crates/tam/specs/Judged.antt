@@ -16,13 +16,13 @@ use Rattle.frames.specs.declared.Kind.the-variants.{Tam2}
 use Rattle.frames.specs.declared.Tam2.{Tam2 as Tam2Fields}
 use Rattle.frames.specs.Lengths.{lengthFits}
 use Rattle.frames.specs.Messages.{tam2Of}
-use Rattle.offer.specs.declared.Fault.{Fault}
-use Rattle.offer.specs.declared.Fault.the-variants.{OtherError, NotSupported, MemoryOverrun}
+use Rattle.offer.specs.declared.TagFault.{TagFault}
+use Rattle.offer.specs.declared.TagFault.the-variants.{OtherError, NotSupported, MemoryOverrun}
 use Rattle.keytable.specs.Named.{hasKey, keyWith}
 use Rattle.offer.specs.Records.{sizeOffered, revOffered, modeSupported, slotNamed, blockAsked}
 
 -- With the slot and the block that it names: profile, right, memory, ProtMode.
-abbrev pub tam2BlockChecks : Features → Key → Tam2Fields → Slot → Block → List (Check Fault)
+abbrev pub tam2BlockChecks : Features → Key → Tam2Fields → Slot → Block → List (Check TagFault)
 tam2BlockChecks features key f slot block =
     (slot .present else NotSupported)
     ∷ (permitted (key .mpi) (f .custom .profile) else NotSupported)
@@ -31,7 +31,7 @@ tam2BlockChecks features key f slot block =
     ∷ []
 
 -- BlockSize, Rev, RFU, key, and the block.
-abbrev pub tam2FieldChecks : Setup → Tam2Fields → List (Check Fault)
+abbrev pub tam2FieldChecks : Setup → Tam2Fields → List (Check TagFault)
 tam2FieldChecks setup f =
     (sizeOffered (setup .features) (f .custom .blocksize) else NotSupported)
     ∷ (revOffered (setup .features) (f .rev) else NotSupported)
@@ -41,5 +41,5 @@ tam2FieldChecks setup f =
     (slotNamed (setup .profiles) (f .custom .profile))
     (blockAsked (setup .profiles) (f .custom))
 
-unfoldable pub tam2Checks : Setup → List ℕ → List (Check Fault)
+unfoldable pub tam2Checks : Setup → List ℕ → List (Check TagFault)
 tam2Checks setup m = (lengthFits Tam2 m else OtherError) ∷ tam2FieldChecks setup (tam2Of m)

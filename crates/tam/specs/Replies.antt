@@ -3,13 +3,14 @@
 use Prim.Native.Nat.{ℕ}
 use mathlib.Core.List.{List, [], _++_}
 use lib.ListN.{take}
+use Rattle.ground.specs.Bytes.{twoBytes}
 use Rattle.ground.specs.Choice.{pick}
 use Rattle.aes.specs.AesEnc.{aesEnc}
 use Rattle.modes.specs.Cbc.{cbcEncAes}
 use Rattle.sheet.specs.declared.Key.{Key}
 use Rattle.frames.specs.declared.Tam1.{Tam1}
 use Rattle.frames.specs.declared.Tam2.{Tam2}
-use Rattle.frames.specs.Constants.{C-TAM1, tam2Constant, twoBytes}
+use Rattle.frames.specs.Constants.{C-TAM1, tam2Constant}
 use Rattle.payload.specs.Data.{carriedData}
 use Rattle.frames.specs.declared.ProtMode.{ProtMode}
 use Rattle.frames.specs.Modes.{encrypts, inMode, protModeOf}

@@ -4,8 +4,8 @@ use frames::Tam2;
 use frames::fields::tam2_of;
 use frames::sizes::length_fits;
 use memory::Block;
-use offer::Fault;
-use offer::Verdict;
+use offer::TagFault;
+use offer::Checked;
 use offer::records;
 use sheet::Features;
 use sheet::Key;
@@ -17,44 +17,44 @@ ghost use Rattle.offer.specs.Checks.{judged};
 ghost use Rattle.tam.specs.Judged.{tam2BlockChecks, tam2FieldChecks, tam2Checks};
 
 // TAM2, the end of its line: profile, right, memory, ProtMode.
-fn tam2_block(features: Features, key: Key, f: Tam2, slot: Slot, block: Block) -> Verdict
+fn tam2_block(features: Features, key: Key, f: Tam2, slot: Slot, block: Block) -> Checked
     ensures { λ r. ⌜ r ≡ judged (tam2BlockChecks features key f slot block) ⌝ }
 {
     if !slot.present {
-        return Verdict::Wrong(Fault::NotSupported);
+        return Checked::Wrong(TagFault::NotSupported);
     }
     if !memory::permits(key.mpi, f.custom.profile) {
-        return Verdict::Wrong(Fault::NotSupported);
+        return Checked::Wrong(TagFault::NotSupported);
     }
     let profile = slot.profile;
     if !memory::fits(profile, block) {
-        return Verdict::Wrong(Fault::MemoryOverrun);
+        return Checked::Wrong(TagFault::MemoryOverrun);
     }
     if records::mode_supported(features, key, f.protmode) {
-        return Verdict::Fine;
+        return Checked::Fine;
     }
-    Verdict::Wrong(Fault::NotSupported)
+    Checked::Wrong(TagFault::NotSupported)
 }
 
 // TAM2, all but the length: BlockSize, Rev, RFU, key, and the block.
-fn tam2_fields(terms: Terms, keys: &[u8], f: Tam2) -> Verdict
+fn tam2_fields(terms: Terms, keys: &[u8], f: Tam2) -> Checked
     ensures { λ r. ⌜ r ≡ judged (tam2FieldChecks (setupOf terms (now (keys .entry))) f) ⌝ }
 {
     let custom = f.custom;
     let size = custom.blocksize;
     let features = terms.features;
     if !records::size_offered(features, size) {
-        return Verdict::Wrong(Fault::NotSupported);
+        return Checked::Wrong(TagFault::NotSupported);
     }
     if !records::rev_offered(features, f.rev) {
-        return Verdict::Wrong(Fault::NotSupported);
+        return Checked::Wrong(TagFault::NotSupported);
     }
     if f.rfu != 0 {
-        return Verdict::Wrong(Fault::NotSupported);
+        return Checked::Wrong(TagFault::NotSupported);
     }
     let found = keytable::find(keys, f.keyid);
     if !found.present {
-        return Verdict::Wrong(Fault::NotSupported);
+        return Checked::Wrong(TagFault::NotSupported);
     }
     let key = found.key;
     let profiles = terms.profiles;
@@ -64,11 +64,11 @@ fn tam2_fields(terms: Terms, keys: &[u8], f: Tam2) -> Verdict
 
 // TAM2: length, BlockSize, Rev, RFU, key, profile, right, memory, ProtMode.
 // Ruled out: a ProtMode told before a block past its profile; a record that may not use the profile.
-pub fn tam2(terms: Terms, keys: &[u8], m: &[u8]) -> Verdict
+pub fn tam2(terms: Terms, keys: &[u8], m: &[u8]) -> Checked
     ensures { λ r. ⌜ r ≡ judged (tam2Checks (setupOf terms (now (keys .entry))) (now (m .entry))) ⌝ }
 {
     if !length_fits(Kind::Tam2, m) {
-        return Verdict::Wrong(Fault::OtherError);
+        return Checked::Wrong(TagFault::OtherError);
     }
     tam2_fields(terms, keys, tam2_of(m))
 }

@@ -4,9 +4,9 @@ use frames::Kind;
 use frames::fields::tam1_of;
 use frames::fields::tam2_of;
 use frames::sizes::REPLY_ROOM;
-use offer::Fault;
+use offer::TagFault;
 use offer::Outcome;
-use offer::Verdict;
+use offer::Checked;
 use offer::records;
 use sheet::Terms;
 ghost use mathlib.Core.Path.{_≡_};
@@ -14,7 +14,7 @@ ghost use lib.ListN.{replicate};
 ghost use Rattle.sheet.specs.KeyTable.{keysIn};
 ghost use Rattle.sheet.specs.Setups.{setupOf};
 ghost use Rattle.frames.specs.Lengths.{replyRoom};
-ghost use Rattle.tam.specs.Given.{Gives, tam1Verdict, tam1Sent, tam2Verdict, tam2Sent};
+ghost use Rattle.tam.specs.Given.{Gives, tam1Checked, tam1Sent, tam2Checked, tam2Sent};
 
 mod judged; // judged.rt: the checks of TAM2, in their order
 mod replies; // replies.rt: what the tag sends
@@ -26,7 +26,7 @@ pub struct Given {
 }
 
 // A refusal sends nothing.
-fn refused(fault: Fault) -> Given
+fn refused(fault: TagFault) -> Given
     ensures { λ r. ⌜ (r .outcome ≡ Outcome.Refused fault) × (r .reply ≡ replicate replyRoom 0) ⌝ }
 {
     Given {
@@ -39,12 +39,12 @@ fn refused(fault: Fault) -> Given
 ///
 /// Ruled out: one fixed reply; a reply of another length.
 pub fn tam1(keys: &[u8], message: &[u8], draws: [u8; 10]) -> Given
-    ensures { λ r. ⌜ Gives (tam1Verdict (keysIn (now (keys .entry))) (now (message .entry)))
+    ensures { λ r. ⌜ Gives (tam1Checked (keysIn (now (keys .entry))) (now (message .entry)))
         (tam1Sent (keysIn (now (keys .entry))) (now (message .entry)) draws) r ⌝ }
 {
     let f = tam1_of(message);
     let verdict = offer::judged::opening(keys, Kind::Tam1, f.rfu, f.keyid, message);
-    if let Verdict::Wrong(fault) = verdict {
+    if let Checked::Wrong(fault) = verdict {
         return refused(fault);
     }
     let found = keytable::find(keys, f.keyid);
@@ -69,12 +69,12 @@ pub fn tam2<'a>(
     identity: &'a [u8],
     user: &'a [u8],
 ) -> Given
-    ensures { λ r. ⌜ Gives (tam2Verdict (setupOf terms (now (keys .entry))) (now (message .entry)))
+    ensures { λ r. ⌜ Gives (tam2Checked (setupOf terms (now (keys .entry))) (now (message .entry)))
         (tam2Sent (setupOf terms (now (keys .entry))) (now (message .entry)) draws (now (identity .entry))
         (now (user .entry))) r ⌝ }
 {
     let verdict = judged::tam2(terms, keys, message);
-    if let Verdict::Wrong(fault) = verdict {
+    if let Checked::Wrong(fault) = verdict {
         return refused(fault);
     }
     let f = tam2_of(message);

@@ -6,7 +6,7 @@ pub mod Rooms
 pub mod Pairs
 pub mod Readings
 pub mod Decimals
-pub mod Fits
+pub mod Unique
 pub mod HexInverse
 pub mod DecimalInverse
 pub mod Said

@@ -3,7 +3,7 @@ use mathlib.Core.Bool.{Bool}
 use mathlib.Core.Path.{sym, ap}
 use Rattle.ground.specs.Choice.{pick}
 use Rattle.reader_build.specs.declared.Made.the-variants.{Message, Refused}
-use Rattle.reader.specs.declared.Fault.the-variants.{OwnMessage}
+use Rattle.reader.specs.declared.ReaderFault.the-variants.{OwnMessage}
 use Rattle.reader_build.proofs.answer.Statement.{statement}
 use Rattle.reader_build.proofs.answer.Tie as tie
 

@@ -9,7 +9,7 @@ use Rattle.sheet.proofs.judge.Tie as tie
 returns : tie.Need-returns
 returns c =
     let a = c .before .before .args in
-    judge-told keyLimit (a .rest .now) (a .kept) _ (judged-none keyLimit (a .rest .now) (a .kept) (c .if1 .taken))
+    judge-told keyLimit (a .rest .now) (a .gathered) _ (judged-none keyLimit (a .rest .now) (a .gathered) (c .if1 .taken))
 
 shared-slice-read-b : tie.Need-shared-slice-read-b
 shared-slice-read-b c = search needs
@@ -37,7 +37,7 @@ add-e c =
     let o = c .before .before .before .before in
     let i = o .before .before in
     let a = i .before .before .args in
-    let h = body-fits keyLimit (a .rest .now) (a .kept) _ _ _ (i .if1 .left) (o .opening .ensures)
+    let h = body-fits keyLimit (a .rest .now) (a .gathered) _ _ _ (i .if1 .left) (o .opening .ensures)
     (c .before .before .enum-told .given .1) (c .before .kind-of .ensures) (c .body-length .ensures) in
     omega arith
 
@@ -52,7 +52,7 @@ part-judge-body-end c =
     let o = c .before .before .before .before in
     let i = o .before .before in
     let a = i .before .before .args in
-    let h = body-fits keyLimit (a .rest .now) (a .kept) _ _ _ (i .if1 .left) (o .opening .ensures)
+    let h = body-fits keyLimit (a .rest .now) (a .gathered) _ _ _ (i .if1 .left) (o .opening .ensures)
     (c .before .before .enum-told .given .1) (c .before .kind-of .ensures) (c .body-length .ensures) in
     omega arith
 
@@ -63,9 +63,9 @@ judge-body-requires c κs =
     let i = o .before .before in
     let a = i .before .before .args in
     let opened = b .before .before .enum-told .given .1 in (
-      body-long keyLimit (a .rest .now) (a .kept) _ _ _ (i .if1 .left) (o .opening .ensures) opened
+      body-long keyLimit (a .rest .now) (a .gathered) _ _ _ (i .if1 .left) (o .opening .ensures) opened
           (b .before .kind-of .ensures) (b .body-length .ensures),
-      body-few keyLimit (a .rest .now) (a .kept) _ _ _ (i .if1 .left) (o .opening .ensures) opened
+      body-few keyLimit (a .rest .now) (a .gathered) _ _ _ (i .if1 .left) (o .opening .ensures) opened
           (b .before .kind-of .ensures) (b .body-length .ensures),
     )
 
@@ -74,8 +74,8 @@ returns-2 c =
     let o = c .before .before .before in
     let i = o .before .before in
     let a = i .before .before .args in
-    judge-told keyLimit (a .rest .now) (a .kept) _
-    (judged-shut keyLimit (a .rest .now) (a .kept) _ _ (i .if1 .left) (o .opening .ensures) (c .before .f .given .1))
+    judge-told keyLimit (a .rest .now) (a .gathered) _
+    (judged-shut keyLimit (a .rest .now) (a .gathered) _ _ (i .if1 .left) (o .opening .ensures) (c .before .f .given .1))
 
 returns-3 : tie.Need-returns-3
 returns-3 c =
@@ -83,8 +83,8 @@ returns-3 c =
     let o = b .before .before .before .before in
     let i = o .before .before in
     let a = i .before .before .args in
-    judge-told keyLimit (a .rest .now) (a .kept) _
-    (judged-open keyLimit (a .rest .now) (a .kept) _ _ _ _ (i .if1 .left) (o .opening .ensures)
+    judge-told keyLimit (a .rest .now) (a .gathered) _
+    (judged-open keyLimit (a .rest .now) (a .gathered) _ _ _ _ (i .if1 .left) (o .opening .ensures)
     (b .before .before .enum-told .given .1) (b .before .kind-of .ensures) (b .body-length .ensures)
     (c .judge-body .ensures))
 

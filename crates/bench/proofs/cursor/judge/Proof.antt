@@ -9,7 +9,7 @@ use denote.Triple.Spec.{tripleOf}
 use denote.Triple.Table.{entered, cited}
 use Rattle.sheet.specs.Limits.{keyLimit}
 use Rattle.sheet.specs.Judgement.{judgedOf, JudgedAs}
-use Rattle.sheet.specs.declared.Kept.{Kept}
+use Rattle.sheet.specs.declared.Gathered.{Gathered}
 use Rattle.sheet.specs.declared.Judged.{Judged}
 use Rattle.sheet.proofs.Judged as S
 use Rattle.sheet.proofs.Judged.Laws as S′
@@ -23,7 +23,7 @@ use Rattle.bench.proofs.cursor.judge as judge
 use Rattle.bench.proofs.cursor.judge.Statement as stated
 use Rattle.bench.proofs.cursor.judge.Code as code
 
-abbrev Found : RefT (List ℕ) → ℕ → Kept → Judged → Type 0
+abbrev Found : RefT (List ℕ) → ℕ → Gathered → Judged → Type 0
 Found s at k r = JudgedAs r (judgedOf keyLimit (drop at (now s)) k)
 
 pub judge-spec : {M : Type 1} → stated.statement M

@@ -38,13 +38,13 @@ use denote.Triple.Table.{entered, cited}
 use denote.Triple.Walked.{says, Stays, stay-none-slice, walkOf, goes-none-slice, Walks, ends-at, walked, walk-meets}
 use denote.Exit.{yes}
 use denote.Triple.Clauses.{ensured, lasts}
-use Rattle.sheet.specs.Setups.{nothingKept}
+use Rattle.sheet.specs.Setups.{nothingGathered}
 use Rattle.sheet.specs.Limits.{keyLimit}
 use Rattle.sheet.specs.Sheet.{readFrom, readOf, ReadAs}
-use Rattle.sheet.specs.declared.Kept.{Kept}
+use Rattle.sheet.specs.declared.Gathered.{Gathered}
 use Rattle.sheet.specs.declared.Reading.{Reading}
-use Rattle.sheet.proofs.Kept as K
-use Rattle.sheet.proofs.Kept.Laws as K′
+use Rattle.sheet.proofs.Gathered as K
+use Rattle.sheet.proofs.Gathered.Laws as K′
 use Rattle.sheet.proofs.Reading as S
 use Rattle.sheet.proofs.Reading.Laws as S′
 use Rattle.sheet.proofs.start as start
@@ -84,7 +84,7 @@ module _ {M : Type 1} (𝓤 : URA M) (H : Heap 𝓤) (A : Atoms 𝓤) (mem : Mem
   Rest = tripleOf 𝓤 H A rest.signature (rest.spec 𝓤 H A mem run)
 
 -- from the sheet's first byte on, with nothing kept: the whole sheet
-whole-sheet : (s : RefT (List ℕ)) (r : Cursor) (k : Kept) (t : Reading) → (r .sheet ≡ s) × (r .at ≡ 0) → k ≡ nothingKept
+whole-sheet : (s : RefT (List ℕ)) (r : Cursor) (k : Gathered) (t : Reading) → (r .sheet ≡ s) × (r .at ≡ 0) → k ≡ nothingGathered
     → ReadAs t (readFrom keyLimit (now (r .sheet)) (r .at) k) → ReadAs t (readOf keyLimit (now s))
 unfolding readOf
 whole-sheet s r k t e e₂ h =
@@ -134,15 +134,15 @@ module _ {M : Type 1} (𝓤 : URA M) (H : Heap 𝓤) (A : Atoms 𝓤) (W : Given
   abbrev to-start : Start 𝓤 H A mem run .Ghost
   to-start = ((tt, tt, tt, tt, tt), tt)
 
-  start-said : (k : Kept) → ent 𝓤 (ensured 𝓤 H A start.ended (start.clauses 𝓤 H A mem run) tt tt tt k)
-      (fact 𝓤 (k ≡ nothingKept))
-  start-said k = exE 𝓤 _ (λ ws. snd∗ 𝓤 (sem 𝓤 H A (lasts start.ended tt tt ws)) (fact 𝓤 (k ≡ nothingKept)))
+  start-said : (k : Gathered) → ent 𝓤 (ensured 𝓤 H A start.ended (start.clauses 𝓤 H A mem run) tt tt tt k)
+      (fact 𝓤 (k ≡ nothingGathered))
+  start-said k = exE 𝓤 _ (λ ws. snd∗ 𝓤 (sem 𝓤 H A (lasts start.ended tt tt ws)) (fact 𝓤 (k ≡ nothingGathered)))
 
   -- the call of `rest`, at the cursor r and what is kept, with the machine values u and w
-  abbrev to-rest : Cursor → Kept → Val → Val → Rest 𝓤 H A mem run .Ghost
+  abbrev to-rest : Cursor → Gathered → Val → Val → Rest 𝓤 H A mem run .Ghost
   to-rest r k u w = (((κ, tt), (q, tt), tt, (r, (k, tt)), (u ∷ [], (w ∷ [], tt))), tt)
 
-  goes-rest : (r : Cursor) (k : Kept) (u w : Val)
+  goes-rest : (r : Cursor) (k : Gathered) (u w : Val)
       → ent 𝓤 (⋆ 𝓤 H A (‵ (K.the-row .own k (w ∷ [])) ∷ ‵ (B (κ, tt) .own r (u ∷ [])) ∷ (‵ (flft κ q) ⊛ ‵ ftrue) ∷ []))
       (Rest 𝓤 H A mem run .pre (to-rest r k u w))
   goes-rest r k u w =
@@ -150,10 +150,10 @@ module _ {M : Type 1} (𝓤 : URA M) (H : Heap 𝓤) (A : Atoms 𝓤) (W : Given
       nothing ! $ move ! (1 ∷ 0 ∷ []) $ fjoin ! $ move ! (1 ∷ 0 ∷ []) $ fjoin ! $ move ! (1 ∷ 0 ∷ []) $ join ! $
       frame ! $ done !
 
-  abbrev Read : Cursor → Kept → Reading → Type 0
+  abbrev Read : Cursor → Gathered → Reading → Type 0
   Read r k t = ReadAs t (readFrom keyLimit (now (r .sheet)) (r .at) k)
 
-  rest-said : (r : Cursor) (k : Kept) (t : Reading)
+  rest-said : (r : Cursor) (k : Gathered) (t : Reading)
       → ent 𝓤 (ensured 𝓤 H A rest.ended (rest.clauses 𝓤 H A mem run) (κ, tt) (r, (k, tt)) tt t) (fact 𝓤 (Read r k t))
   rest-said r k t = exE 𝓤 _ (λ ws. snd∗ 𝓤 (sem 𝓤 H A (lasts rest.ended (κ, tt) (r, (k, tt)) ws)) (fact 𝓤 (Read r k t)))
 
@@ -191,11 +191,11 @@ module _ {M : Type 1} (𝓤 : URA M) (H : Heap 𝓤) (A : Atoms 𝓤) (W : Given
         nothing ! $ nothing ! $ use2 W (raw (Start 𝓤 H A mem run .pre to-start))
         (qed W (‵ ftrue ∷ ‵ ftrue ∷ []) ∵ join ! $ frame ! $ done !) $
         calls-at ! fm (Start 𝓤 H A mem run) known-start to-start (no-more !) (λ w.
-        use1 W (later (some (λ (k : Kept). (‵ ftrue ⊛ ‵ (K.the-row .own k (w ∷ [])))
+        use1 W (later (some (λ (k : Gathered). (‵ ftrue ⊛ ‵ (K.the-row .own k (w ∷ [])))
         ⊛ raw (ensured 𝓤 H A start.ended (start.clauses 𝓤 H A mem run) tt tt tt k)))) (id⊢ 𝓤 _) $ await ! tt $
         pick ! (λ k.
-        split ! $ move ! (1 ∷ []) $ use1 W (raw (fact 𝓤 (k ≡ nothingKept))) (start-said k) $
-        heard ! (k ≡ nothingKept) (λ e₂. split ! $ drop ! $
+        split ! $ move ! (1 ∷ []) $ use1 W (raw (fact 𝓤 (k ≡ nothingGathered))) (start-said k) $
+        heard ! (k ≡ nothingGathered) (λ e₂. split ! $ drop ! $
         -- [what is kept owns; what the cursor owns; the token; what the sheet owns; room for _3; …; _2; …]
         peeks ! K.the-row (Is K.the-row) (shows 𝓤 H A K.the-row) k (w ∷ []) (λ is₂.
         land ! (from ! (stop !)) (init ! 4 refl (LL.lawful K.the-type K′.the-laws 𝓤 H A W .typed k _ is₂ .0)) $

@@ -8,7 +8,7 @@ use denote.Triple.Spec.{tripleOf}
 use denote.Triple.Table.{entered, cited}
 use Rattle.sheet.specs.Limits.{keyLimit}
 use Rattle.sheet.specs.Sheet.{readFrom, ReadAs}
-use Rattle.sheet.specs.declared.Kept.{Kept}
+use Rattle.sheet.specs.declared.Gathered.{Gathered}
 use Rattle.sheet.specs.declared.Reading.{Reading}
 use Rattle.sheet.proofs.Reading as S
 use Rattle.sheet.proofs.Reading.Laws as S′
@@ -22,7 +22,7 @@ use Rattle.bench.proofs.cursor.rest as rest
 use Rattle.bench.proofs.cursor.rest.Statement as stated
 use Rattle.bench.proofs.cursor.rest.Code as code
 
-abbrev Found : RefT (List ℕ) → ℕ → Kept → Reading → Type 0
+abbrev Found : RefT (List ℕ) → ℕ → Gathered → Reading → Type 0
 Found s at k r = ReadAs r (readFrom keyLimit (now s) at k)
 
 pub rest-spec : {M : Type 1} → stated.statement M

@@ -1,6 +1,7 @@
 -- `frames::constants::tam2_constant` meets its contract.
 use mathlib.Core.Path.{ap, _∙_}
-use Rattle.frames.specs.Constants.{tam2Constant, twoBytes}
+use Rattle.ground.specs.Bytes.{twoBytes}
+use Rattle.frames.specs.Constants.{tam2Constant}
 use borrow.Author.Needs.{needs}
 use Rattle.frames.proofs.constants.tam2_constant.Statement.{statement}
 use Rattle.frames.proofs.constants.tam2_constant.Tie as tie

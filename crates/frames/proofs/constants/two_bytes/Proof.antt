@@ -1,7 +1,7 @@
 -- `frames::constants::two_bytes` meets its contract.
 use mathlib.Core.Path.{refl}
-use Rattle.frames.specs.Constants.{twoBytes}
 use borrow.Author.Needs.{needs}
+use Rattle.ground.specs.Bytes.{twoBytes}
 use Rattle.frames.proofs.constants.two_bytes.Statement.{statement}
 use Rattle.frames.proofs.constants.two_bytes.Tie as tie
 
@@ -12,7 +12,6 @@ cast-t5 : tie.Need-cast-t5
 cast-t5 c = search needs
 
 returns : tie.Need-returns
-unfolding twoBytes
 returns c = refl
 
 pub two-bytes-spec : {M : Type 1} → statement M

@@ -1,8 +1,9 @@
 -- `frames::fields::tam2_of` meets its contract.
 use mathlib.Core.Path.{ap, _∙_}
 use Prim.Native.Nat.{ℕ, _/_, _%_}
+use Rattle.ground.specs.Bytes.{flag}
 use Rattle.frames.specs.Messages.{tam2Of}
-use Rattle.frames.specs.Fields.{flag, sizeOf, selectCustom}
+use Rattle.frames.specs.Fields.{sizeOf, selectCustom}
 use borrow.Author.Needs.{needs}
 use Rattle.frames.proofs.fields.tam2_of.Statement.{statement}
 use Rattle.frames.proofs.fields.tam2_of.Tie as tie

@@ -14,7 +14,7 @@ returns : tie.Need-returns
 returns c =
     let k = c .before .before in
     let a = k .before .args in
-    shut-unknown keyLimit (a .b) (a .left) (a .kept) _ (k .kind-of .ensures) _ (c .before .is-unknown .ensures)
+    shut-unknown keyLimit (a .b) (a .left) (a .gathered) _ (k .kind-of .ensures) _ (c .before .is-unknown .ensures)
     (c .if1 .taken)
 
 in-order-requires : tie.Need-in-order-requires
@@ -25,7 +25,7 @@ returns-2 c =
     let u = c .before .before in
     let k = u .before .before in
     let a = k .before .args in
-    shut-order keyLimit (a .b) (a .left) (a .kept) _ (k .kind-of .ensures) _ (u .before .is-unknown .ensures)
+    shut-order keyLimit (a .b) (a .left) (a .gathered) _ (k .kind-of .ensures) _ (u .before .is-unknown .ensures)
     (u .if1 .left) _ (c .before .in-order .ensures) (c .if2 .taken)
 
 too-many-requires : tie.Need-too-many-requires
@@ -37,7 +37,7 @@ returns-3 c =
     let u = o .before .before in
     let k = u .before .before in
     let a = k .before .args in
-    shut-many keyLimit (a .b) (a .left) (a .kept) _ (k .kind-of .ensures) _ (u .before .is-unknown .ensures)
+    shut-many keyLimit (a .b) (a .left) (a .gathered) _ (k .kind-of .ensures) _ (u .before .is-unknown .ensures)
     (u .if1 .left) _ (o .before .in-order .ensures) (o .if2 .left) _ (c .before .too-many .ensures) (c .if3 .taken)
 
 body-length-requires : tie.Need-body-length-requires
@@ -50,7 +50,7 @@ returns-4 c =
     let u = o .before .before in
     let k = u .before .before in
     let a = k .before .args in
-    shut-cut keyLimit (a .b) (a .left) (a .kept) _ (k .kind-of .ensures) _ (u .before .is-unknown .ensures)
+    shut-cut keyLimit (a .b) (a .left) (a .gathered) _ (k .kind-of .ensures) _ (u .before .is-unknown .ensures)
     (u .if1 .left) _ (o .before .in-order .ensures) (o .if2 .left) _ (m .before .too-many .ensures) (m .if3 .left) _
     (c .before .body-length .ensures) (c .if4 .taken)
 
@@ -61,7 +61,7 @@ returns-5 c =
     let u = o .before .before in
     let k = u .before .before in
     let a = k .before .args in
-    opens keyLimit (a .b) (a .left) (a .kept) _ (k .kind-of .ensures) _ (u .before .is-unknown .ensures)
+    opens keyLimit (a .b) (a .left) (a .gathered) _ (k .kind-of .ensures) _ (u .before .is-unknown .ensures)
     (u .if1 .left) _ (o .before .in-order .ensures) (o .if2 .left) _ (m .before .too-many .ensures) (m .if3 .left) _
     (c .before .body-length .ensures) (c .if4 .left)
 

@@ -21,7 +21,7 @@ returns : tie.Need-returns
 returns c =
     let i = c .before .before in
     let a = i .before .before .args in
-    judged-as _ _ (judged-behind keyLimit (a .s .now) (a .at) (a .kept) _ (i .if1 .taken) (c .judge .ensures .0))
+    judged-as _ _ (judged-behind keyLimit (a .s .now) (a .at) (a .gathered) _ (i .if1 .taken) (c .judge .ensures .0))
 
 sub-judge-2 : tie.Need-sub-judge-2
 sub-judge-2 c = search needs
@@ -38,7 +38,7 @@ judge-requires-2 c κs = search needs
 returns-2 : tie.Need-returns-2
 returns-2 c =
     let a = c .before .before .before .before .args in
-    judged-as _ _ (judged-at keyLimit (a .s .now) (a .at) (a .kept) _ (c .judge2 .ensures .0))
+    judged-as _ _ (judged-at keyLimit (a .s .now) (a .at) (a .gathered) _ (c .judge2 .ensures .0))
 
 pub judge-at-spec : {M : Type 1} → statement M
 judge-at-spec =

@@ -11,10 +11,10 @@ use Rattle.sheet.proofs.places.read_from.Statement.{statement}
 use Rattle.sheet.proofs.places.read_from.Tie as tie
 
 abbrev Inv-loop : tie.InvT-loop
-Inv-loop s from at₀ kept₀ at kept = readFrom keyLimit s at kept ≡ readFrom keyLimit s at₀ kept₀
+Inv-loop s from at₀ kept₀ at gathered = readFrom keyLimit s at gathered ≡ readFrom keyLimit s at₀ kept₀
 
 abbrev μ-loop : tie.MeasureT-loop
-μ-loop s from at₀ kept₀ at kept = length s - at
+μ-loop s from at₀ kept₀ at gathered = length s - at
 
 loop-holds : tie.Need-loop-holds Inv-loop μ-loop
 loop-holds c = refl
@@ -35,7 +35,7 @@ returns c =
     let a = b .before .before .before .before .args in
     let t = b .before .loop-test .taken in
     let j = b .judge-at .ensures .0 in
-    let h = read-faulty keyLimit (a .s .now) (l .at) (l .kept) _ t j _ (c .before .before .f .given .1) in
+    let h = read-faulty keyLimit (a .s .now) (l .at) (l .gathered) _ t j _ (c .before .before .f .given .1) in
     read-as _ _ (c .refuse .ensures ∙ sym h ∙ l .inv)
 
 enum-told : tie.Need-enum-told Inv-loop μ-loop
@@ -58,7 +58,7 @@ returns-2 c =
     let t = b .before .loop-test .taken in
     let j = b .judge-at .ensures .0 in
     let e = c .before .before .enum-told .given .1 in
-    let h = read-tail keyLimit (a .s .now) (l .at) (l .kept) _ t j e (c .before .if1 .taken) in
+    let h = read-tail keyLimit (a .s .now) (l .at) (l .gathered) _ t j e (c .before .if1 .taken) in
     read-as _ _ (c .refuse2 .ensures ∙ sym h ∙ l .inv)
 
 returns-3 : tie.Need-returns-3 Inv-loop μ-loop
@@ -69,7 +69,7 @@ returns-3 c =
     let t = b .before .loop-test .taken in
     let j = b .judge-at .ensures .0 in
     let e = c .before .before .enum-told .given .1 in
-    let h = read-whole keyLimit (a .s .now) (l .at) (l .kept) _ t j e (c .before .if1 .left) in
+    let h = read-whole keyLimit (a .s .now) (l .at) (l .gathered) _ t j e (c .before .if1 .left) in
     read-as _ _ (sym h ∙ l .inv)
 
 enum-known-f-2 : tie.Need-enum-known-f-2 Inv-loop μ-loop
@@ -82,7 +82,7 @@ add-at c =
     let a = b .before .before .before .before .args in
     let t = b .before .loop-test .taken in
     let j = b .judge-at .ensures .0 in
-    let h = read-taken keyLimit (a .s .now) (l .at) (l .kept) _ t j _ (c .before .f2 .given .1) in
+    let h = read-taken keyLimit (a .s .now) (l .at) (l .gathered) _ t j _ (c .before .f2 .given .1) in
     omega arith
 
 loop-less : tie.Need-loop-less Inv-loop μ-loop
@@ -92,7 +92,7 @@ loop-less c =
     let a = b .before .before .before .before .args in
     let t = b .before .loop-test .taken in
     let j = b .judge-at .ensures .0 in
-    let h = read-taken keyLimit (a .s .now) (l .at) (l .kept) _ t j _ (c .before .f2 .given .1) in
+    let h = read-taken keyLimit (a .s .now) (l .at) (l .gathered) _ t j _ (c .before .f2 .given .1) in
     omega arith
 
 loop-again : tie.Need-loop-again Inv-loop μ-loop
@@ -102,7 +102,7 @@ loop-again c =
     let a = b .before .before .before .before .args in
     let t = b .before .loop-test .taken in
     let j = b .judge-at .ensures .0 in
-    let h = read-taken keyLimit (a .s .now) (l .at) (l .kept) _ t j _ (c .before .f2 .given .1) in
+    let h = read-taken keyLimit (a .s .now) (l .at) (l .gathered) _ t j _ (c .before .f2 .given .1) in
     sym (h .2) ∙ l .inv
 
 refuse-requires-3 : tie.Need-refuse-requires-3 Inv-loop μ-loop
@@ -112,7 +112,7 @@ returns-4 : tie.Need-returns-4 Inv-loop μ-loop
 returns-4 c =
     let a = c .before .before .before .before .args in
     let l = c .before .before .loop in
-    let h = read-cut keyLimit (a .s .now) (l .at) (l .kept) (c .before .loop-test .left) in
+    let h = read-cut keyLimit (a .s .now) (l .at) (l .gathered) (c .before .loop-test .left) in
     read-as _ _ (c .refuse3 .ensures ∙ sym h ∙ l .inv)
 
 pub read-from-spec : {M : Type 1} → statement M

@@ -4,7 +4,7 @@ use Prim.Native.Nat.{ℕ}
 use Rattle.ground.specs.OneAnswer.{OneAnswer, one}
 use Rattle.memory.specs.declared.Block.{Block}
 use Rattle.sheet.specs.declared.Slot.{Slot}
-use Rattle.offer.specs.declared.Verdict.{Verdict}
+use Rattle.offer.specs.declared.Checked.{Checked}
 use Rattle.offer.proofs.number.Reads as number
 use Rattle.offer.proofs.number.Kinds as number-kinds
 use Rattle.offer.proofs.reply_length.Reads as reply-length
@@ -23,8 +23,8 @@ use Rattle.offer.proofs.records.block_asked.Reads as block-asked
 use Rattle.offer.proofs.records.block_asked.Kinds as block-asked-kinds
 use Rattle.offer.proofs.records.words_asked.Reads as words-asked
 use Rattle.offer.proofs.records.words_asked.Kinds as words-asked-kinds
-use Rattle.offer.proofs.judged.bench.Reads as bench
-use Rattle.offer.proofs.judged.bench.Kinds as bench-kinds
+use Rattle.offer.proofs.judged.lending.Reads as lending
+use Rattle.offer.proofs.judged.lending.Kinds as lending-kinds
 use Rattle.offer.proofs.judged.opening.Reads as opening
 use Rattle.offer.proofs.judged.opening.Kinds as opening-kinds
 
@@ -56,8 +56,8 @@ block-asked-one κs a x y s t p q = one p q
 pub words-asked-one : OneAnswer 0 words-asked-kinds.ps words-asked-kinds.r words-asked.Post Block (λ κs r s. r)
 words-asked-one κs a x y s t p q = one p q
 
-pub bench-one : OneAnswer 0 bench-kinds.ps bench-kinds.r bench.Post Verdict (λ κs r s. r)
-bench-one κs a x y s t p q = one p q
+pub lending-one : OneAnswer 0 lending-kinds.ps lending-kinds.r lending.Post Checked (λ κs r s. r)
+lending-one κs a x y s t p q = one p q
 
-pub opening-one : OneAnswer 2 opening-kinds.ps opening-kinds.r opening.Post Verdict (λ κs r s. r)
+pub opening-one : OneAnswer 2 opening-kinds.ps opening-kinds.r opening.Post Checked (λ κs r s. r)
 opening-one κs a x y s t p q = one p q

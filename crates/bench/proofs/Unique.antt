@@ -11,7 +11,7 @@ use Rattle.tag.specs.declared.Stepped.{Stepped}
 use Rattle.tag.specs.States.{awake, keyed}
 use Rattle.tag.specs.Answers.{answerOf}
 use Rattle.tag.specs.Reactions.{lent, Steps}
-use Rattle.tag.proofs.Fits.{stepped}
+use Rattle.tag.proofs.Unique.{stepped}
 use Rattle.bench.specs.Kept.{left}
 use Rattle.bench.specs.OneWalked.{OneWalked}
 use Rattle.bench.proofs.power_up as power-up

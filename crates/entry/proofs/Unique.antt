@@ -4,7 +4,7 @@ use mathlib.Core.List.{List}
 use Prim.Native.Nat.{ℕ}
 use denote.Ref.{now}
 use Rattle.ground.specs.OneAnswer.{OneAnswer, one}
-use Rattle.offer.specs.declared.Verdict.{Verdict}
+use Rattle.offer.specs.declared.Checked.{Checked}
 use Rattle.entry.specs.declared.Session.{Session}
 use Rattle.entry.specs.declared.Reacted.{Reacted}
 use Rattle.entry.specs.declared.Challenged.{Challenged}
@@ -30,7 +30,7 @@ cleared-one κs a x y s t p q = one p q
 pub refused-one : OneAnswer 0 refused-kinds.ps refused-kinds.r refused.Post Reacted (λ κs r s. r)
 refused-one κs a x y s t p q = λ j. record { outcome = one (p .0) (q .0) j; session = one (p .1) (q .1) j }
 
-challenged-one : (v : Verdict) (bytes : List ℕ) (next : Session) (x y : Challenged) → Challenges v bytes next x
+challenged-one : (v : Checked) (bytes : List ℕ) (next : Session) (x y : Challenged) → Challenges v bytes next x
     → Challenges v bytes next y → x ≡ y
 challenged-one v bytes next x y p q = λ j. record {
   outcome = one (p .outcome) (q .outcome) j;
@@ -44,7 +44,7 @@ iam1-one κs a x y s t p q = challenged-one _ _ _ x y p q
 pub mam1-one : OneAnswer 2 mam1-kinds.ps mam1-kinds.r mam1.Post Challenged (λ κs r s. r)
 mam1-one κs a x y s t p q = challenged-one _ _ _ x y p q
 
-reacted-one : (v : Verdict) (purpose : ℕ) (x y : Reacted) → LetsIn v purpose x → LetsIn v purpose y → x ≡ y
+reacted-one : (v : Checked) (purpose : ℕ) (x y : Reacted) → LetsIn v purpose x → LetsIn v purpose y → x ≡ y
 reacted-one v purpose x y p q = λ j. record {
   outcome = one (p .outcome) (q .outcome) j;
   session = one (p .session) (q .session) j;

@@ -3,8 +3,8 @@ use mathlib.Core.Path.{_≡_, refl}
 use mathlib.Core.Bool.{Bool}
 use Prim.Native.Nat.{ℕ}
 use Rattle.ground.specs.OneAnswer.{OneAnswer, one}
-use Rattle.reader.specs.declared.Fault.the-variants.{ReplyLength, ChallengeWrong, MacWrong, HeaderWrong}
-use Rattle.reader.specs.declared.Fault.the-variants.{OwnMessage}
+use Rattle.reader.specs.declared.ReaderFault.the-variants.{ReplyLength, ChallengeWrong, MacWrong, HeaderWrong}
+use Rattle.reader.specs.declared.ReaderFault.the-variants.{OwnMessage}
 use Rattle.reader.specs.Numbers.{numberOf}
 use Rattle.reader.proofs.number.Reads as number
 use Rattle.reader.proofs.number.Kinds as number-kinds

@@ -6,7 +6,7 @@ use denote.Ref.{now}
 use Rattle.ground.specs.OneAnswer.{OneAnswer, one}
 use Rattle.sheet.specs.declared.Sizes.{Sizes}
 use Rattle.sheet.specs.declared.Terms.{Terms}
-use Rattle.sheet.specs.declared.Verdict.{Verdict}
+use Rattle.sheet.specs.declared.SheetVerdict.{SheetVerdict}
 use Rattle.entry.specs.declared.Session.{Session}
 use Rattle.image.proofs.session.Reads as session
 use Rattle.image.proofs.session.Kinds as session-kinds
@@ -41,5 +41,5 @@ is-tag-one κs a x y s t p q = one p q
 pub keep-one : OneAnswer 1 keep-kinds.ps keep-kinds.r keep.Post (List ℕ) (λ κs r s. now (s .0))
 keep-one κs a x y s t p q = one p q
 
-pub lay-one : OneAnswer 2 lay-kinds.ps lay-kinds.r lay.Post (Verdict × List ℕ) (λ κs r s. (r, now (s .1 .0)))
+pub lay-one : OneAnswer 2 lay-kinds.ps lay-kinds.r lay.Post (SheetVerdict × List ℕ) (λ κs r s. (r, now (s .1 .0)))
 lay-one κs a x y s t p q i = (one (p .verdict) (q .verdict) i, one (p .holds) (q .holds) i)

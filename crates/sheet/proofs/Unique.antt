@@ -6,7 +6,7 @@ use Rattle.memory.specs.declared.Lock.{Lock}
 use Rattle.sheet.specs.declared.Features.{Features}
 use Rattle.sheet.specs.declared.Sizes.{Sizes}
 use Rattle.sheet.specs.declared.Slot.{Slot}
-use Rattle.sheet.specs.declared.Kept.{Kept}
+use Rattle.sheet.specs.declared.Gathered.{Gathered}
 use Rattle.sheet.specs.declared.Judged.{Judged}
 use Rattle.sheet.specs.declared.Reading.{Reading}
 use Rattle.ground.specs.OneAnswer.{OneAnswer, one}
@@ -38,7 +38,7 @@ use Rattle.sheet.proofs.bodies.lock_of.Kinds as lock-of-kinds
 pub number-one : OneAnswer 0 number-kinds.ps number-kinds.r number.Post ℕ (λ κs r s. r)
 number-one κs a x y s t p q = one p q
 
-pub start-one : OneAnswer 0 start-kinds.ps start-kinds.r start.Post Kept (λ κs r s. r)
+pub start-one : OneAnswer 0 start-kinds.ps start-kinds.r start.Post Gathered (λ κs r s. r)
 start-one κs a x y s t p q = one p q
 
 pub judge-one : OneAnswer 1 judge-kinds.ps judge-kinds.r judge.Post Judged (λ κs r s. r)
