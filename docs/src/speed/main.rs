@@ -3,7 +3,7 @@
 //! What is compared is measured in turn, round after round, and the best round of each counts, so that a busy moment of
 //! the machine hits all alike and then drops out. Each pair must give the same bytes first.
 //!
-//!     docs/src/bench/run
+//!     docs/src/speed/run
 
 mod aes;
 mod blocks;

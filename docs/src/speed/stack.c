@@ -1,5 +1,5 @@
 /* How deep calls of the static library go: each is made on a stack of its own that was painted before, and what is no
- * longer painted was used. docs/src/bench/stack builds and runs it. The figures are of the machine that it runs on. */
+ * longer painted was used. docs/src/speed/stack builds and runs it. The figures are of the machine that it runs on. */
 #define _POSIX_C_SOURCE 200809L
 #include "roualint.h"
 #include <pthread.h>
