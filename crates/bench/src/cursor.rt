@@ -1,7 +1,7 @@
 // A cursor that keeps the sheet and its place. What stands at a place is said once, of slice and number, in
 // sheet::places.
-use sheet::Judged;
 use sheet::Gathered;
+use sheet::Judged;
 use sheet::Reading;
 use sheet::places;
 ghost use mathlib.Core.Path.{_≡_};

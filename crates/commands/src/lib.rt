@@ -1,12 +1,11 @@
 // The bench's commands: which one a line is, and what is kept from one to the next.
-mod explain; // explain.rt: what each number means
-
 use console::fields;
 use console::words::word;
 use lines::print;
 use payload::same;
 use reader_commands::Keyring;
 use tag_commands::Place;
+use texts::explain;
 
 // What is kept from one command to the next, of each half. The bytes of the key table and of both areas stand beside
 // it.

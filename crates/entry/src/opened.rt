@@ -150,15 +150,7 @@ fn write(block: Block, c: Custom, p: &[u8], identity: &mut [u8], user: &mut [u8]
 // Everything of an IAM3 that a key proves, after its fields were judged: b is its first block opened, p its data in the
 // clear.
 // Ruled out: a MAC that is not asked for in ProtModes 2 and 3, and a header that may name other words than the message.
-fn proved(
-    key: Key,
-    held: Session,
-    mode: ProtMode,
-    f: Iam3,
-    m: &[u8],
-    b: [u8; 16],
-    p: &[u8],
-) -> bool
+fn proved(key: Key, held: Session, mode: ProtMode, f: Iam3, m: &[u8], b: [u8; 16], p: &[u8]) -> bool
     requires { ⌜ (iam3HeadLength + blocksLength (f .custom .blocksize) true (f .custom .blockcount) ≤ length (now m))
         × (b ≡ aesEnc (key .enc) (sentBlock (now m)))
         × (now p ≡ openedIn key mode f (now m)) ⌝ }

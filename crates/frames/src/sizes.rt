@@ -26,8 +26,11 @@ ghost use Rattle.frames.specs.Lengths.{
 // The scope paper's rooms: for any reply, for any message, and for header and data of nine blocks; and the most data
 // that a message asks for (9.2).
 pub const REPLY_ROOM: usize = 172;
+
 pub const MESSAGE_ROOM: usize = 176;
+
 pub const DATA_ROOM: usize = 144;
+
 pub const DATA_MOST: usize = 128;
 
 // H (9.2). Ruled out: 8 for 16-bit blocks, and H counted in bits.

@@ -1,16 +1,16 @@
 // A tag in the memory of its caller: an image of bytes that is taken apart by copying (specs/Image.antt).
 use entry::Session;
 use sheet::FEATURE_BODY;
-use sheet::KEY_RECORD;
 use sheet::KEY_LIMIT;
+use sheet::KEY_RECORD;
 use sheet::LOCK_BODY;
 use sheet::LOCK_LIMIT;
 use sheet::PROFILE_BODY;
 use sheet::PROFILE_LIMIT;
 use sheet::SIZE_BODY;
+use sheet::SheetVerdict;
 use sheet::Sizes;
 use sheet::Terms;
-use sheet::SheetVerdict;
 ghost use mathlib.Core.Path.{_≡_};
 ghost use Rattle.image.specs.Image.{kept, sessionIn, termsIn, tableIn, isTag};
 ghost use Rattle.image.specs.Kept.{Laid};

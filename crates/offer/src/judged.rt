@@ -1,6 +1,6 @@
 // Checks in their order: the first that does not hold decides. Number 7, and the line that TAM1, IAM1 and MAM1 share.
-use super::TagFault;
 use super::Checked;
+use super::TagFault;
 use frames::Kind;
 use frames::sizes::length_fits;
 use sheet::Sizes;

@@ -28,8 +28,8 @@ use frames::sizes::MESSAGE_ROOM;
 use frames::sizes::blocks_length;
 use frames::sizes::data_length;
 use payload::carried_into;
-use reader::ReaderFault;
 use reader::Keys;
+use reader::ReaderFault;
 use reader::own::mode_fits;
 use sent::iam3_whole;
 use sent::response;
@@ -249,7 +249,15 @@ pub fn iam3(
     match prot_mode(protmode) {
         ProtModeField::Mode(mode) => {
             return iam3_in_mode(
-                keys, custom, protmode, mode, purpose, irnd, tchallenge, words, room,
+                keys,
+                custom,
+                protmode,
+                mode,
+                purpose,
+                irnd,
+                tchallenge,
+                words,
+                room,
             );
         }
         ProtModeField::NoMode => {

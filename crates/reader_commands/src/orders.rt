@@ -11,8 +11,8 @@ use lines::numbers::sum;
 use memory::BlockSize;
 use memory::Offset;
 use payload::same;
-use reader::ReaderFault;
 use reader::Keys;
+use reader::ReaderFault;
 use reader_build::Made;
 
 pub fn kind_of(name: &[u8]) -> Kind {

@@ -14,8 +14,8 @@ use frames::modes::prot_mode;
 use frames::sizes::DATA_ROOM;
 use frames::sizes::blocks_length;
 use frames::sizes::tam2_reply_length;
-use reader::ReaderFault;
 use reader::Keys;
+use reader::ReaderFault;
 ghost use mathlib.Core.Path.{_≡_};
 ghost use mathlib.Core.Bool.{true};
 ghost use Prim.Native.Nat.{_+_, _≤_};
@@ -47,13 +47,7 @@ fn judge_data(mode: ProtMode, f: Tam2, p: &[u8], room: &mut [u8]) -> Judgement
 }
 
 // The data are opened, and judged.
-fn open_and_judge(
-    keys: Keys,
-    mode: ProtMode,
-    f: Tam2,
-    reply: &[u8],
-    room: &mut [u8],
-) -> Judgement
+fn open_and_judge(keys: Keys, mode: ProtMode, f: Tam2, reply: &[u8], room: &mut [u8]) -> Judgement
     requires { ⌜ (customFits (f .custom) ≡ true)
         × (authLength + blocksLength (f .custom .blocksize) (f .rev) (f .custom .blockcount) ≤ length (now reply))
         × (dataRoom ≤ length (now room)) ⌝ }
@@ -69,13 +63,7 @@ fn open_and_judge(
 }
 
 // TAM2 in its mode.
-fn tam2_in_mode(
-    keys: Keys,
-    mode: ProtMode,
-    f: Tam2,
-    reply: &[u8],
-    room: &mut [u8],
-) -> Judgement
+fn tam2_in_mode(keys: Keys, mode: ProtMode, f: Tam2, reply: &[u8], room: &mut [u8]) -> Judgement
     requires { ⌜ (customFits (f .custom) ≡ true) × (dataRoom ≤ length (now room)) ⌝ }
     ensures { λ r. ⌜ Judges (tam2InMode keys f (now (reply .entry)) mode) (now (room .entry)) r (now (room .exit)) ⌝ }
 {

@@ -1,16 +1,16 @@
 // The kinds of records, and the four checks before a record's values.
 use crate::FEATURE_BODY;
-use crate::SheetFault;
+use crate::Gathered;
+use crate::Head;
 use crate::KEY_BODY;
 use crate::KEY_LIMIT;
-use crate::Gathered;
 use crate::Kind;
 use crate::LOCK_BODY;
 use crate::LOCK_LIMIT;
-use crate::Head;
 use crate::PROFILE_BODY;
 use crate::PROFILE_LIMIT;
 use crate::SIZE_BODY;
+use crate::SheetFault;
 ghost use mathlib.Core.Path.{_≡_};
 ghost use Rattle.sheet.specs.Limits.{keyLimit};
 ghost use Rattle.sheet.specs.Kinds.{kindOf, isUnknown, bodyLength, inOrder};

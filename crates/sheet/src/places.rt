@@ -1,9 +1,9 @@
 // A sheet from a place on: the record that stands there, the place behind it, and what the rest says.
-use crate::SheetFault;
 use crate::Finding;
-use crate::Judged;
 use crate::Gathered;
+use crate::Judged;
 use crate::Reading;
+use crate::SheetFault;
 use crate::SheetVerdict;
 ghost use mathlib.Core.Path.{_≡_};
 ghost use lib.ListN.{drop};

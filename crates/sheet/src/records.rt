@@ -1,14 +1,14 @@
 // A record of each kind, whole and in order: refused for its values, or taken into what is gathered.
 use crate::FEATURE_RECORD;
-use crate::SheetFault;
 use crate::Finding;
+use crate::Gathered;
 use crate::Judged;
 use crate::KEY_RECORD;
-use crate::Gathered;
 use crate::Kind;
 use crate::LOCK_RECORD;
 use crate::PROFILE_RECORD;
 use crate::SIZE_RECORD;
+use crate::SheetFault;
 use crate::bodies;
 ghost use mathlib.Core.Path.{_≡_};
 ghost use mathlib.Core.Bool.{false};

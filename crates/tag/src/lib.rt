@@ -1,8 +1,8 @@
 // The soft tag of ISO/IEC 29167-10: one message in, a reply or a number out.
 use entry::Session;
 use entry::State;
-use offer::Outcome;
 use offer::Checked;
+use offer::Outcome;
 use sheet::Terms;
 ghost use mathlib.Core.Path.{_≡_};
 ghost use Rattle.sheet.specs.KeyTable.{keysIn};
@@ -100,7 +100,13 @@ pub fn step(
     let terms = tag.terms;
     let sizes = terms.sizes;
     let held = tag.session;
-    let verdict = offer::judged::lending(sizes, draws.len(), room.len(), identity.len(), user.len());
+    let verdict = offer::judged::lending(
+        sizes,
+        draws.len(),
+        room.len(),
+        identity.len(),
+        user.len(),
+    );
     if let Checked::Wrong(fault) = verdict {
         return Stepped {
             outcome: Outcome::Refused(fault),

@@ -11,8 +11,8 @@ use frames::sizes::REPLY_ROOM;
 use lines::numbers::low_word;
 use lines::numbers::times;
 use lines::print;
-use sheet::Terms;
 use sheet::SheetVerdict;
+use sheet::Terms;
 use tag::Tag;
 
 // The bytes of the longest key table.

@@ -28,9 +28,11 @@ iam3-in-mode-requires : tie.Need-iam3-in-mode-requires
 iam3-in-mode-requires c κs =
     let c2 = c .before .before in
     let c4 = c2 .before .before in
-    let c6 = c4 .before .before in
-    (c6 .before .if1 .left, sym (c4 .prot-mode .ensures) ∙ c2 .mode .given .1,
-    yes (c6 .iam3-fits .ensures) (c4 .before .if2 .left))
+    let c6 = c4 .before .before in (
+      c6 .before .if1 .left,
+      sym (c4 .prot-mode .ensures) ∙ c2 .mode .given .1,
+      yes (c6 .iam3-fits .ensures) (c4 .before .if2 .left),
+    )
 
 same-length : tie.Need-same-length
 same-length c = search needs

@@ -55,10 +55,10 @@ iam3-whole-requires c κs =
     let a = t .before .before .before .before .before .before in
     let b = t .before .before .carried-into .ensures in (
       fields-fit (a .args .keys) (a .args .custom) (a .args .protmode) (a .args .purpose) (a .args .words .now)
-    _ _ _ refl (a .pre .2) b
+          _ _ _ refl (a .pre .2) b
           (not-false _ (t .if1 .left)),
       data-long (a .args .keys) (a .args .custom) (a .args .protmode) (a .args .purpose) (a .args .words .now)
-    _ _ _ refl (a .pre .2) b
+          _ _ _ refl (a .pre .2) b
           (not-false _ (t .if1 .left)) _ (l .blocks-length .ensures) ∙ l .blocks-length .ensures,
       a .pre .0,
     )

@@ -54,7 +54,7 @@ add-mac-behind c =
     let a =
     c .before .before .before .before .before .before .before .before .before .before .before .before .before .before
     .before in
-    record { fits = omega (arith, blocks-fit (a .args .m .rev) (a .args .m .custom) (a .pre .0), n .ensures); }
+    record { fits = omega (arith, blocks-fit (a .args .m .rev) (a .args .m .custom) (a .pre .0), n .ensures) }
 
 mac-behind-requires : tie.Need-mac-behind-requires
 mac-behind-requires c κs = search needs

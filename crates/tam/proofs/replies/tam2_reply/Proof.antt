@@ -31,9 +31,11 @@ returns c =
     let c7 = c5 .before .before in
     let a = c7 .before .before .before .args in
     let same = sym (tam2-named (a .key) (a .m) (a .words .now) (a .draws) _
-    (sym (c7 .prot-mode .ensures) ∙ c5 .mode .given .1)) in
-    (c2 .tam2-in-mode .ensures .0 ∙ ap length same, c2 .tam2-in-mode .ensures .1
-    ∙ ap (λ (l : List ℕ). over l (a .room .now)) same)
+    (sym (c7 .prot-mode .ensures) ∙ c5 .mode .given .1)) in (
+      c2 .tam2-in-mode .ensures .0 ∙ ap length same,
+      c2 .tam2-in-mode .ensures .1
+          ∙ ap (λ (l : List ℕ). over l (a .room .now)) same,
+    )
 
 returns-2 : tie.Need-returns-2
 returns-2 c =
