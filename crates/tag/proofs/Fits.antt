@@ -12,6 +12,8 @@ use Rattle.tag.specs.Answers.{Answer}
 use Rattle.tag.specs.Reactions.{Steps}
 use Rattle.tag.proofs.power_up.Reads as power-up
 use Rattle.tag.proofs.power_up.Kinds as power-up-kinds
+use Rattle.tag.proofs.at_rest.Reads as at-rest
+use Rattle.tag.proofs.at_rest.Kinds as at-rest-kinds
 use Rattle.tag.proofs.key_held.Reads as key-held
 use Rattle.tag.proofs.key_held.Kinds as key-held-kinds
 use Rattle.tag.proofs.step.Reads as step
@@ -19,6 +21,9 @@ use Rattle.tag.proofs.step.Kinds as step-kinds
 
 pub power-up-one : OneAnswer 0 power-up-kinds.ps power-up-kinds.r power-up.Post Tag (λ κs r s. r)
 power-up-one κs a x y s t p q = one p q
+
+pub at-rest-one : OneAnswer 0 at-rest-kinds.ps at-rest-kinds.r at-rest.Post Bool (λ κs r s. r)
+at-rest-one κs a x y s t p q = one p q
 
 pub key-held-one : OneAnswer 1 key-held-kinds.ps key-held-kinds.r key-held.Post Bool (λ κs r s. r)
 key-held-one κs a x y s t p q = one p q

@@ -5,10 +5,9 @@ use offer::Outcome;
 use offer::Verdict;
 use sheet::Terms;
 ghost use mathlib.Core.Path.{_≡_};
-ghost use lib.ListN.{length};
 ghost use Rattle.sheet.specs.KeyTable.{keysIn};
 ghost use Rattle.keytable.specs.Named.{hasKey};
-ghost use Rattle.tag.specs.States.{awake, keyed, keyFits};
+ghost use Rattle.tag.specs.States.{awake, keyed, atRest, keyFits};
 ghost use Rattle.tag.specs.Answers.{answerOf};
 ghost use Rattle.tag.specs.Reactions.{lent, Steps};
 
@@ -64,14 +63,18 @@ pub fn key_held(session: Session, keys: &[u8]) -> bool
     }
 }
 
-// The ten draws.
-fn ten(draws: &[u8]) -> [u8; 10]
-    requires { ⌜ length (now draws) ≡ 10 ⌝ }
-    ensures { λ r. ⌜ r ≡ now (draws .entry) ⌝ }
+/// Does no challenge wait for its answer in this state (Table A.1)?
+///
+/// Ruled out: MAM-Init taken for a state at rest; IA-OK taken for one in which a challenge waits.
+pub fn at_rest(state: State) -> bool
+    ensures { λ r. ⌜ r ≡ atRest state ⌝ }
 {
-    let mut r = [0u8; 10];
-    bytes::copy(draws, &mut r);
-    r
+    match state {
+        State::Initial => true,
+        State::IamInit => false,
+        State::MamInit => false,
+        State::IaOk => true,
+    }
 }
 
 /// One message: the tag by value; its key table, message, draws, reply room and both areas lent. The outcome and the
@@ -104,7 +107,8 @@ pub fn step(
             tag,
         };
     }
-    let reacted = turns::take(terms, keys, held, message, ten(draws), room, identity, user);
+    let drawn = octets::ten(draws, 0);
+    let reacted = turns::take(terms, keys, held, message, drawn, room, identity, user);
     let outcome = reacted.outcome;
     let session = reacted.session;
     Stepped {

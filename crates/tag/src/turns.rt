@@ -1,4 +1,5 @@
 // A message before its kind counts: is it there, is it offered, is it in its turn (Annex A)?
+use super::at_rest;
 use super::kinds;
 use entry::Reacted;
 use entry::Session;
@@ -13,20 +14,9 @@ ghost use Prim.Native.Nat.{_≤_};
 ghost use lib.ListN.{length};
 ghost use Rattle.frames.specs.Lengths.{replyRoom};
 ghost use Rattle.sheet.specs.Setups.{setupOf};
-ghost use Rattle.tag.specs.States.{atRest, afterIam1, afterMam1, inTurn};
+ghost use Rattle.tag.specs.States.{afterIam1, afterMam1, inTurn};
 ghost use Rattle.tag.specs.Answers.{byKind, inOrder, ofMessage};
 ghost use Rattle.tag.specs.Reactions.{lent, ReactsIn};
-
-fn at_rest(state: State) -> bool
-    ensures { λ r. ⌜ r ≡ atRest state ⌝ }
-{
-    match state {
-        State::Initial => true,
-        State::IamInit => false, // a challenge waits for its answer
-        State::MamInit => false,
-        State::IaOk => true,
-    }
-}
 
 fn after_iam1(state: State) -> bool
     ensures { λ r. ⌜ r ≡ afterIam1 state ⌝ }

@@ -1,5 +1,6 @@
 -- `tag::step` meets its contract.
 use mathlib.Core.Path.{sym, _∙_}
+use Rattle.octets.proofs.Parts.{whole}
 use Rattle.offer.proofs.Passed.{bench-draws, bench-room}
 use Rattle.tag.proofs.Turning.{bench-wrong, bench-fine}
 use borrow.Author.Needs.{needs}
@@ -26,11 +27,7 @@ enum-told : tie.Need-enum-told
 enum-told c = search needs
 
 ten-requires : tie.Need-ten-requires
-ten-requires c κs =
-    let c2 = c .before .before in
-    let c10 = c2 .before .before .before .before .before .before .before .before in
-    let a = c10 .before .before .args in
-    bench-draws (a .tag .terms .sizes) _ _ _ _ (sym (c2 .bench .ensures) ∙ c .enum-told .given .1)
+ten-requires c κs = search needs
 
 take-requires : tie.Need-take-requires
 take-requires c κs =
@@ -57,9 +54,11 @@ returns-2 c =
     let c14 = c12 .before .before in
     let c22 = c14 .before .before .before .before .before .before .before .before in
     let a = c22 .before .before .args in
+    let draws = bench-draws (a .tag .terms .sizes) _ _ _ _ (sym (c14 .bench .ensures) ∙ c12 .enum-told .given .1) in
     bench-fine (a .tag) (a .keys .now) (a .message .now) (a .draws .now) (a .room .now) (a .identity .now)
     (a .user .now) _
-    (c14 .bench .ensures) _ _ _ _ _ (c12 .enum-told .given .1) (c11 .ten .ensures) (c7 .take .ensures)
+    (c14 .bench .ensures) _ _ _ _ _ (c12 .enum-told .given .1) (c11 .ten .ensures ∙ whole (a .draws .now) 10 draws)
+    (c7 .take .ensures)
 
 pub step-spec : {M : Type 1} → statement M
 step-spec =

@@ -1,7 +1,7 @@
--- `read::at_rest` meets its contract.
+-- `tag::at_rest` meets its contract.
 use Rattle.tag.specs.States.{atRest}
-use Rattle.image.proofs.read.at_rest.Statement.{statement}
-use Rattle.image.proofs.read.at_rest.Tie as tie
+use Rattle.tag.proofs.at_rest.Statement.{statement}
+use Rattle.tag.proofs.at_rest.Tie as tie
 
 enum-told : tie.Need-enum-told
 enum-told c = c .match .keys1
