@@ -2,8 +2,8 @@
 use frames::Tam2;
 use frames::sizes::blocks_length;
 use frames::sizes::tam2_mac_at;
+use octets::same;
 use payload::encrypts;
-use payload::same;
 use reader::Keys;
 ghost use mathlib.Core.Path.{_≡_};
 ghost use Prim.Native.Nat.{_+_, _≤_};
