@@ -4,8 +4,8 @@ use mathlib.Core.Bool.{true, false}
 use mathlib.Core.List.{List, [], _∷_}
 use lib.ListN.{replicate}
 use Prim.Native.Nat.{ℕ}
-use Rattle.frames.specs.Fields.{bytesFrom}
-use Rattle.payload.specs.Alike.{same}
+use Rattle.octets.specs.Parts.{bytesFrom}
+use Rattle.octets.specs.Alike.{allZero}
 use Rattle.sheet.specs.KeyTable.{recordsIn, keysIn}
 use Rattle.sheet.specs.Limits.{keyLimit, profileLimit, lockLimit}
 use Rattle.sheet.specs.Setups.{emptyTerms, noFeatures, noSlot, noLock}
@@ -26,7 +26,7 @@ unfolding imageOf cleared emptyTerms noFeatures noSlot noLock featuresBody sizes
 zeros-image = refl
 
 pub zeros-tag : isTag zeros ≡ true
-unfolding isTag sessionIn tableIn bytesFrom rests atRest keyFits same lockLimit keyLimit
+unfolding isTag sessionIn tableIn bytesFrom rests atRest keyFits allZero lockLimit keyLimit
 zeros-tag = refl
 
 -- a fifth state; a KeyID that is held in Initial; a challenge that waits where no record has its KeyID
@@ -35,7 +35,7 @@ unfolding isTag
 fifth-state = refl
 
 pub held-at-rest : isTag (0 ∷ 1 ∷ replicate 791 0) ≡ false
-unfolding isTag sessionIn tableIn bytesFrom rests atRest keyFits same lockLimit keyLimit
+unfolding isTag sessionIn tableIn bytesFrom rests atRest keyFits allZero lockLimit keyLimit
 held-at-rest = refl
 
 pub no-record : isTag (1 ∷ replicate 792 0) ≡ false

@@ -11,8 +11,8 @@ use lib.Seq.{take-at, drop-at, drop-drop, getD-drop}
 use Rattle.ground.specs.Choice.{both}
 use Rattle.ground.specs.Bytes.{byteAt, wordAt, twoBytes}
 use Rattle.modes.specs.Room.{over}
-use Rattle.frames.specs.Fields.{bytesFrom}
-use Rattle.frames.proofs.Places.{bytes-drop, front}
+use Rattle.octets.specs.Parts.{bytesFrom}
+use Rattle.octets.proofs.Parts.{bytes-drop, front}
 use Rattle.sheet.specs.declared.Slot.{Slot}
 use Rattle.sheet.specs.declared.Terms.{Terms}
 use Rattle.sheet.specs.Limits.{keyLimit, profileLimit, lockLimit}

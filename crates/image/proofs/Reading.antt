@@ -5,13 +5,13 @@ use mathlib.Core.List.{List}
 use Prim.Native.Nat.{ℕ, _+_, _*_, _-_, _<_, _≤_}
 use native.Mathlib.Omega.{arith}
 use borrow.Author.Tests.{le-leb, lt-leb, le-ltb, lt-ltb, not-true, not-false}
-use lib.ListN.{length, take, drop, replicate, length-drop}
+use lib.ListN.{length, take, drop, length-drop}
 use lib.Seq.{take-all}
 use Rattle.ground.specs.Choice.{both, implies}
 use Rattle.ground.specs.Bytes.{byteAt, wordAt}
-use Rattle.frames.specs.Fields.{bytesFrom}
-use Rattle.frames.proofs.Places.{bytes-drop, bytes-taken}
-use Rattle.payload.specs.Alike.{same}
+use Rattle.octets.specs.Parts.{bytesFrom}
+use Rattle.octets.specs.Alike.{allZero}
+use Rattle.octets.proofs.Parts.{bytes-within}
 use Rattle.sheet.specs.Limits.{keyLimit, lockLimit}
 use Rattle.sheet.specs.KeyTable.{keysIn}
 use Rattle.entry.specs.declared.State.{State}
@@ -39,9 +39,7 @@ module _ (image : List ℕ) (long : length image ≡ 793) where
 
   pub held-there : take 15 (drop 1 image) ≡ heldBytes (sessionIn image)
   unfolding sessionIn bytesFrom
-  held-there =
-      let l = length-drop 1 image in
-      sym (bytes-taken (drop 1 image) 15 (omega arith)) ∙ bytes-drop image 15 1
+  held-there = sym (bytes-within image 15 1 (omega arith))
 
   module _ (q : State) (b : Bool) (e : q ≡ stateOf (byteAt image 0)) (f : b ≡ atRest q) where
     state-there : b ≡ atRest (sessionIn image .state)
@@ -51,17 +49,14 @@ module _ (image : List ℕ) (long : length image ≡ 793) where
     pub waits : not b ≡ true → true ≡ rests (sessionIn image)
     unfolding rests
     waits h =
-        sym (ap (λ (x : Bool). implies x (same (heldBytes (sessionIn image)) (replicate 15 0)))
-        (sym state-there ∙ not-true b h))
+        sym (ap (λ (x : Bool). implies x (allZero (heldBytes (sessionIn image)))) (sym state-there ∙ not-true b h))
 
-    pub held-same : not b ≡ false → (r : Bool) → r ≡ same (take 15 (drop 1 image)) (replicate 15 0)
-        → r ≡ rests (sessionIn image)
+    pub held-zeros : not b ≡ false → (r : Bool) → r ≡ allZero (take 15 (drop 1 image)) → r ≡ rests (sessionIn image)
     unfolding rests
-    held-same h r g =
+    held-zeros h r g =
         g
-        ∙ ap (λ (x : List ℕ). same x (replicate 15 0)) held-there
-        ∙ sym (ap (λ (x : Bool). implies x (same (heldBytes (sessionIn image)) (replicate 15 0)))
-        (sym state-there ∙ not-false b h))
+        ∙ ap allZero held-there
+        ∙ sym (ap (λ (x : Bool). implies x (allZero (heldBytes (sessionIn image)))) (sym state-there ∙ not-false b h))
 
 -- ---- the tests of a tag's bytes, one after the other
 

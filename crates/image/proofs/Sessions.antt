@@ -5,13 +5,13 @@ use Prim.Native.Nat.{ℕ, _-_}
 use lib.Dec.{eqb}
 use borrow.Author.Tests.{eqb-true}
 use lib.ListN.{length, length-drop}
+use Rattle.octets.specs.Parts.{bytesFrom}
+use Rattle.octets.specs.Alike.{allZero}
+use Rattle.octets.proofs.Parts.{bytes-length}
 use Rattle.frames.specs.declared.Kind.{Kind}
 use Rattle.frames.specs.declared.Kind.the-variants.{Tam1, Tam2, Iam1, Iam2, Iam3, Mam1, Mam2, Unsupported}
-use Rattle.frames.specs.Fields.{bytesFrom}
 use Rattle.frames.specs.Kinds.{kindOf}
 use Rattle.frames.specs.Messages.{mam1Of}
-use Rattle.frames.proofs.Places.{bytes-length}
-use Rattle.payload.specs.Alike.{same}
 use Rattle.offer.specs.declared.TagFault.{TagFault}
 use Rattle.offer.specs.declared.TagFault.the-variants.{NotSupported, BenchFault}
 use Rattle.offer.specs.declared.Checked.{Checked}
@@ -26,11 +26,11 @@ use Rattle.image.specs.Image.{rests}
 use Rattle.image.specs.Kept.{Fits}
 
 pub cleared-fits : Fits cleared
-unfolding cleared rests atRest same
+unfolding cleared rests atRest allZero
 cleared-fits = record { tchallenge = refl; ichallenge = refl; rest = refl }
 
 entered-fits : Fits entered
-unfolding entered rests atRest same
+unfolding entered rests atRest allZero
 entered-fits = record { tchallenge = refl; ichallenge = refl; rest = refl }
 
 module _ (c : Call) where

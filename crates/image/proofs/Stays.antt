@@ -1,22 +1,23 @@
 -- The session that is read from a tag's image is written back into the same bytes; and at rest those bytes are known.
 use mathlib.Core.Path.{_≡_, refl, sym, ap, ap₂, _∙_}
 use mathlib.Core.Bool.{true}
-use mathlib.Core.List.{List, [], _∷_, _++_}
+use mathlib.Core.List.{List, _∷_, _++_}
 use Prim.Native.Nat.{ℕ, zero, suc, _≤_, _<_}
 use native.Mathlib.Omega.{arith}
-use borrow.Author.Tests.{ltb-true, eqb-true}
-use lib.Dec.{eqb, leb, ltb}
+use borrow.Author.Tests.{ltb-true}
+use lib.Dec.{leb, ltb}
 use lib.ListN.{length, take, drop, replicate, take-append-drop}
 use lib.Seq.{length-take-le}
 use Rattle.ground.specs.Choice.{both, implies}
 use Rattle.ground.specs.Bytes.{byteAt, wordAt}
+use Rattle.ground.proofs.Choice.{both-true}
 use Rattle.modes.specs.Room.{over}
-use Rattle.frames.specs.Fields.{bytesFrom}
-use Rattle.frames.proofs.Places.{bytes-taken}
-use Rattle.payload.specs.Alike.{same}
+use Rattle.octets.specs.Parts.{bytesFrom}
+use Rattle.octets.specs.Alike.{allZero}
+use Rattle.octets.proofs.Parts.{bytes-taken}
+use Rattle.octets.proofs.AllZero.{zeros-only}
 use Rattle.sheet.specs.KeyTable.{keysIn}
 use Rattle.sheet.specs.Limits.{keyLimit, lockLimit}
-use Rattle.sheet.proofs.Rules.{both-true}
 use Rattle.tag.specs.States.{atRest, keyFits}
 use Rattle.image.specs.Image.{
   stateNumber,
@@ -36,15 +37,6 @@ number-back (suc zero) h = refl
 number-back (suc (suc zero)) h = refl
 number-back (suc (suc (suc zero))) h = refl
 number-back (suc (suc (suc (suc n)))) h = absurd (omega arith)
-
-same-is : (a b : List ℕ) → same a b ≡ true → a ≡ b
-unfolding same
-same-is [] [] e = refl
-same-is [] (y ∷ b) e = let z : _≡_ {A = ℕ} 0 1 = cc in absurd (omega arith)
-same-is (x ∷ a) [] e = let z : _≡_ {A = ℕ} 0 1 = cc in absurd (omega arith)
-same-is (x ∷ a) (y ∷ b) e =
-    let h = both-true (eqb x y) (same a b) e in
-    ap₂ _∷_ (eqb-true x y (h .0)) (same-is a b (h .1))
 
 module _ (image : List ℕ) (long : 16 ≤ length image) (e : isTag image ≡ true) where
   state-fits : byteAt image 0 < 4
@@ -75,15 +67,14 @@ module _ (image : List ℕ) (long : 16 ≤ length image) (e : isTag image ≡ tr
 
   -- in Initial nothing is held
   pub nothing-held : byteAt image 0 ≡ 0 → take 16 image ≡ replicate 16 0
-  unfolding rests sessionIn atRest
+  unfolding rests sessionIn atRest bytesFrom
   nothing-held z =
-      let r : same (heldBytes (sessionIn image)) (replicate 15 0) ≡ true =
-      ap (λ (n : ℕ). implies (atRest (stateOf n)) (same (heldBytes (sessionIn image)) (replicate 15 0))) (sym z)
-      ∙ at-rest in
+      let r : allZero (heldBytes (sessionIn image)) ≡ true =
+      ap (λ (n : ℕ). implies (atRest (stateOf n)) (allZero (heldBytes (sessionIn image)))) (sym z) ∙ at-rest in
       sym bytes-back
       ∙ ap₂ {C = List ℕ} (λ (n : ℕ) (l : List ℕ). n ∷ l)
       (ap (λ (n : ℕ). stateNumber (stateOf n)) z)
-      (same-is (heldBytes (sessionIn image)) (replicate 15 0) r)
+      (zeros-only (heldBytes (sessionIn image)) r)
 
 -- Two tags in Initial that say the same from place 16 on are the same bytes.
 pub initial-same : (a b : List ℕ) → 16 ≤ length a → 16 ≤ length b → isTag a ≡ true → isTag b ≡ true

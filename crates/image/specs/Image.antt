@@ -7,8 +7,8 @@ use lib.ListN.{take, drop, replicate}
 use Rattle.ground.specs.Choice.{pick, both, implies}
 use Rattle.ground.specs.Bytes.{byteAt, wordAt, twoBytes, bitOf, flag}
 use Rattle.modes.specs.Room.{over}
-use Rattle.frames.specs.Fields.{bytesFrom}
-use Rattle.payload.specs.Alike.{same}
+use Rattle.octets.specs.Parts.{bytesFrom}
+use Rattle.octets.specs.Alike.{allZero}
 use Rattle.sheet.specs.declared.Kind.the-variants.{FeatureRecord, SizeRecord, ProfileRecord, LockRecord}
 use Rattle.sheet.specs.declared.Slot.{Slot}
 use Rattle.sheet.specs.declared.Terms.{Terms}
@@ -127,7 +127,7 @@ keyedIn image = keyed (tagIn image) (tableIn image)
 
 -- in Initial and IA-OK nothing is held
 abbrev pub nothingHeld : Session → Bool
-nothingHeld s = same (heldBytes s) (replicate 15 0)
+nothingHeld s = allZero (heldBytes s)
 
 unfoldable pub rests : Session → Bool
 rests s = implies (atRest (s .state)) (nothingHeld s)

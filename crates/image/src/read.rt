@@ -13,41 +13,26 @@ use memory::Area;
 use memory::Lock;
 use memory::Profile;
 use memory::Word;
-use sheet::FEATURE_BODY;
-use sheet::Features;
-use sheet::KEY_LIMIT;
+use octets::word_at;
 use sheet::KEY_RECORD;
 use sheet::LOCK_BODY;
 use sheet::LOCK_LIMIT;
 use sheet::Locks;
 use sheet::PROFILE_BODY;
 use sheet::PROFILE_LIMIT;
-use sheet::SIZE_BODY;
 use sheet::Sizes;
 use sheet::Slot;
 use sheet::Terms;
+use sheet::bodies::features_of;
+use sheet::bodies::lock_of;
+use sheet::bodies::sizes_of;
+use sheet::bodies::slot_of;
 ghost use mathlib.Core.Path.{_≡_};
-ghost use Prim.Native.Nat.{_+_, _<_};
 ghost use lib.ListN.{length, drop};
-ghost use Rattle.ground.specs.Bytes.{wordAt};
 ghost use Rattle.sheet.specs.Limits.{profileLimit, lockLimit};
-ghost use Rattle.sheet.specs.Records.{featuresOf, sizesOf, areaOf, lockOf};
-ghost use Rattle.tag.specs.States.{atRest};
+ghost use Rattle.sheet.specs.Records.{lockOf};
 ghost use Rattle.image.specs.Places.{imageLength, profilesAt, locksAt};
 ghost use Rattle.image.specs.Image.{stateOf, sessionIn, slotIn, saidIn, termsIn, tableIn, rests, isTag};
-
-fn wide(x: u8) -> u16
-    ensures { λ r. ⌜ (r ≡ x) × (r < 256) ⌝ }
-{
-    x as u16
-}
-
-fn word_at(b: &[u8], i: usize) -> u16
-    requires { ⌜ i + 1 < length (now b) ⌝ }
-    ensures { λ r. ⌜ r ≡ wordAt (now (b .entry)) i ⌝ }
-{
-    wide(b[i]) * 256 + wide(b[i + 1])
-}
 
 // The state of a number; of one that no state has, the last.
 fn state_of(n: u8) -> State
@@ -70,18 +55,7 @@ pub fn session(image: &[u8]) -> Session
     ensures { λ r. ⌜ r ≡ sessionIn (now (image .entry)) ⌝ }
 {
     let keyid = image[1];
-    let tchallenge = [
-        image[2],
-        image[3],
-        image[4],
-        image[5],
-        image[6],
-        image[7],
-        image[8],
-        image[9],
-        image[10],
-        image[11],
-    ];
+    let tchallenge = octets::ten(image, 2);
     let ichallenge = [image[12], image[13], image[14], image[15]];
     let state = state_of(image[0]);
     Session {
@@ -92,36 +66,6 @@ pub fn session(image: &[u8]) -> Session
     }
 }
 
-fn features_of(b: &[u8]) -> Features
-    requires { ⌜ length (now b) ≡ 2 ⌝ }
-    ensures { λ r. ⌜ r ≡ featuresOf (now (b .entry)) ⌝ }
-{
-    let f = b[0];
-    let m = b[1];
-    Features {
-        blocksize1: f / 1 % 2 == 1,
-        rev0: f / 2 % 2 == 1,
-        rev1: f / 4 % 2 == 1,
-        iam: f / 8 % 2 == 1,
-        iam3: f / 16 % 2 == 1,
-        mam: f / 32 % 2 == 1,
-        mode0: m / 1 % 2 == 1,
-        mode1: m / 2 % 2 == 1,
-        mode2: m / 4 % 2 == 1,
-        mode3: m / 8 % 2 == 1,
-    }
-}
-
-fn sizes_of(b: &[u8]) -> Sizes
-    requires { ⌜ length (now b) ≡ 4 ⌝ }
-    ensures { λ r. ⌜ r ≡ sizesOf (now (b .entry)) ⌝ }
-{
-    Sizes {
-        identity: word_at(b, 0),
-        user: word_at(b, 2),
-    }
-}
-
 pub fn sizes(image: &[u8]) -> Sizes
     requires { ⌜ length (now image) ≡ imageLength ⌝ }
     ensures { λ r. ⌜ r ≡ termsIn (now (image .entry)) .sizes ⌝ }
@@ -129,27 +73,12 @@ pub fn sizes(image: &[u8]) -> Sizes
     sizes_of(&image[SIZES_AT..PROFILES_AT])
 }
 
-fn area_of(a: u8) -> Area
-    ensures { λ r. ⌜ r ≡ areaOf a ⌝ }
-{
-    if a == 1 {
-        return Area::User;
-    }
-    Area::Identity
-}
-
 fn slot_in(b: &[u8]) -> Slot
     requires { ⌜ length (now b) ≡ 6 ⌝ }
     ensures { λ r. ⌜ r ≡ slotIn (now (b .entry)) ⌝ }
 {
-    let area = area_of(b[1]);
-    let base = word_at(b, 2);
-    let words = word_at(b, 4);
-    let profile = Profile {
-        area,
-        base: Word(base),
-        words,
-    };
+    let said = slot_of(b);
+    let profile = said.profile;
     Slot {
         present: b[0] == 1,
         profile,
@@ -177,20 +106,6 @@ fn profiles(image: &[u8]) -> [Slot; PROFILE_LIMIT]
         i += 1;
     }
     slots
-}
-
-fn lock_of(b: &[u8]) -> Lock
-    requires { ⌜ length (now b) ≡ 5 ⌝ }
-    ensures { λ r. ⌜ r ≡ lockOf (now (b .entry)) ⌝ }
-{
-    let area = area_of(b[0]);
-    let first = word_at(b, 1);
-    let words = word_at(b, 3);
-    Lock {
-        area,
-        first: Word(first),
-        words,
-    }
 }
 
 fn locks(image: &[u8]) -> [Lock; LOCK_LIMIT]
@@ -241,28 +156,15 @@ pub fn key_table(image: &[u8]) -> &[u8]
     &image[KEYS_AT..end]
 }
 
-// No challenge waits for its answer.
-fn at_rest(state: State) -> bool
-    ensures { λ r. ⌜ r ≡ atRest state ⌝ }
-{
-    match state {
-        State::Initial => true,
-        State::IamInit => false,
-        State::MamInit => false,
-        State::IaOk => true,
-    }
-}
-
 // Is nothing held where no challenge waits?
 fn rests(image: &[u8]) -> bool
     requires { ⌜ length (now image) ≡ imageLength ⌝ }
     ensures { λ r. ⌜ r ≡ rests (sessionIn (now (image .entry))) ⌝ }
 {
-    if !at_rest(state_of(image[0])) {
+    if !tag::at_rest(state_of(image[0])) {
         return true;
     }
-    let nothing = [0u8; 15];
-    payload::same(&image[1..16], &nothing)
+    octets::zeros(&image[1..16])
 }
 
 pub fn is_tag(image: &[u8]) -> bool

@@ -7,7 +7,7 @@ use native.Mathlib.Omega.{arith}
 use lib.ListN.{length, getD, take, drop, length-drop}
 use lib.Seq.{take-all}
 use Rattle.ground.specs.Choice.{both}
-use Rattle.payload.specs.Alike.{same}
+use Rattle.octets.specs.Alike.{same}
 use Rattle.payload.proofs.Bytes.{listed}
 use Rattle.reader_judge.specs.Opened.{blockFits, challengeIn}
 

@@ -10,7 +10,7 @@ use Rattle.modes_inverse.specs.CbcInv.{cbcDecAesInv}
 use Rattle.frames.specs.declared.Tam2.{Tam2}
 use Rattle.frames.specs.Blocks.{blocksLength}
 use Rattle.frames.specs.Lengths.{authLength}
-use Rattle.payload.specs.Alike.{same}
+use Rattle.octets.specs.Alike.{same}
 use Rattle.frames.specs.declared.ProtMode.{ProtMode}
 use Rattle.frames.specs.Modes.{encrypts}
 use Rattle.reader.specs.declared.Keys.{Keys}

@@ -38,18 +38,7 @@ pub fn iam1(reply: &[u8]) -> Judgement
     if reply.len() != 10 {
         return refused(ReaderFault::ReplyLength);
     }
-    issues([
-        reply[0],
-        reply[1],
-        reply[2],
-        reply[3],
-        reply[4],
-        reply[5],
-        reply[6],
-        reply[7],
-        reply[8],
-        reply[9],
-    ])
+    issues(octets::ten(reply, 0))
 }
 
 /// MAM1 (9.6.4): length, then constant and challenge. Ruled out: the challenge out of the clear part alone; another

@@ -4,7 +4,7 @@ use frames::Tam2;
 use frames::modes::encrypts;
 use frames::sizes::blocks_length;
 use frames::sizes::tam2_mac_at;
-use payload::same;
+use octets::same;
 use reader::Keys;
 ghost use mathlib.Core.Path.{_≡_};
 ghost use Prim.Native.Nat.{_+_, _≤_};

@@ -65,7 +65,7 @@ pub fn key_held(session: Session, keys: &[u8]) -> bool
 
 /// Does no challenge wait for its answer in this state (Table A.1)?
 ///
-/// Ruled out: MAM-Init, in which one waits; IA-OK taken for a state in which one waits.
+/// Ruled out: MAM-Init taken for a state at rest; IA-OK taken for one in which a challenge waits.
 pub fn at_rest(state: State) -> bool
     ensures { λ r. ⌜ r ≡ atRest state ⌝ }
 {
@@ -113,16 +113,8 @@ pub fn step(
             tag,
         };
     }
-    let reacted = turns::take(
-        terms,
-        keys,
-        held,
-        message,
-        octets::ten(draws, 0),
-        room,
-        identity,
-        user,
-    );
+    let drawn = octets::ten(draws, 0);
+    let reacted = turns::take(terms, keys, held, message, drawn, room, identity, user);
     let outcome = reacted.outcome;
     let session = reacted.session;
     Stepped {

@@ -1,5 +1,5 @@
 -- `read::rests` meets its contract.
-use Rattle.image.proofs.Reading.{waits, held-same}
+use Rattle.image.proofs.Reading.{waits, held-zeros}
 use borrow.Author.Needs.{needs}
 use Rattle.image.proofs.read.rests.Statement.{statement}
 use Rattle.image.proofs.read.rests.Tie as tie
@@ -19,27 +19,24 @@ returns c =
     waits (a .args .image .now) (a .pre) _ _ (c .before .before .state-of .ensures) (c .before .at-rest .ensures)
     (c .if1 .taken)
 
-sub-same : tie.Need-sub-same
-sub-same c = search needs
+sub-zeros : tie.Need-sub-zeros
+sub-zeros c = search needs
 
-part-same-start : tie.Need-part-same-start
-part-same-start c = search needs
+part-zeros-start : tie.Need-part-zeros-start
+part-zeros-start c = search needs
 
-part-same-end : tie.Need-part-same-end
-part-same-end c = search needs
+part-zeros-end : tie.Need-part-zeros-end
+part-zeros-end c = search needs
 
-slice-aggregate-same : tie.Need-slice-aggregate-same
-slice-aggregate-same c = search needs
-
-same-requires : tie.Need-same-requires
-same-requires c κs = search needs
+zeros-requires : tie.Need-zeros-requires
+zeros-requires c κs = search needs
 
 returns-2 : tie.Need-returns-2
 returns-2 c =
-    let i = c .before .before .before in
+    let i = c .before .before in
     let a = i .before .before .before .before .before in
-    held-same (a .args .image .now) (a .pre) _ _ (i .before .before .state-of .ensures) (i .before .at-rest .ensures)
-    (i .if1 .left) _ (c .same .ensures)
+    held-zeros (a .args .image .now) (a .pre) _ _ (i .before .before .state-of .ensures) (i .before .at-rest .ensures)
+    (i .if1 .left) _ (c .zeros .ensures)
 
 pub rests-spec : {M : Type 1} → statement M
 rests-spec =
@@ -49,9 +46,8 @@ rests-spec =
     state-of-requires
     at-rest-requires
     returns
-    sub-same
-    part-same-start
-    part-same-end
-    slice-aggregate-same
-    same-requires
+    sub-zeros
+    part-zeros-start
+    part-zeros-end
+    zeros-requires
     returns-2)
