@@ -29,10 +29,10 @@ use Rattle.frames.specs.declared.ProtModeField.the-variants.{Mode}
 use Rattle.frames.specs.Modes.{encrypts, hasMac, inMode, protModeOf}
 use Rattle.frames.specs.Lengths.{tam2MacAt}
 use Rattle.frames.proofs.Bounds.{by-mode-le}
-use Rattle.payload.specs.Alike.{same}
+use Rattle.octets.specs.Alike.{same}
 use Rattle.payload.specs.Data.{carriedData}
 use Rattle.payload.specs.Protected.{withMac, macFits}
-use Rattle.payload.proofs.Alike.{same-self}
+use Rattle.octets.proofs.Alike.{same-self}
 use Rattle.payload.proofs.Data.{carried-long}
 use Rattle.payload.proofs.Lengths.{blocks-whole}
 use Rattle.payload.proofs.Recovered.{header-carried, words-carried, filler-carried}

@@ -25,9 +25,9 @@ use Rattle.frames.specs.Modes.{encrypts, hasMac}
 use Rattle.frames.specs.Lengths.{macLength}
 use Rattle.frames.specs.Messages.{iam3Head}
 use Rattle.frames.proofs.Shape.{iam3-head}
-use Rattle.payload.specs.Alike.{same}
+use Rattle.octets.specs.Alike.{same}
 use Rattle.payload.specs.Protected.{withMac, macFits}
-use Rattle.payload.proofs.Alike.{same-self}
+use Rattle.octets.proofs.Alike.{same-self}
 use Rattle.payload.proofs.Lengths.{blocks-whole, mac-long}
 use Rattle.entry.specs.Opened.{sentBlock, sentData, sentMac, openedIn, sentMacFits}
 use Rattle.reader.specs.declared.Keys.{Keys}

@@ -18,10 +18,11 @@ use Rattle.memory.specs.Address.{blockSizeBit, stepOf, addressOf, lastWord, pro
 use Rattle.memory.specs.Areas.{areaOf, within, partOf, windowOf}
 use Rattle.memory.specs.Rights.{permitted}
 use Rattle.sheet.specs.declared.Key.{Key}
+use Rattle.octets.specs.Parts.{bytesFrom}
 use Rattle.frames.specs.Asked.{blockAsked as wordsAsked}
 use Rattle.frames.specs.Blocks.{blockBytes, dataLength, headerLength, headerPart, carried, dOf, blocksLength}
 use Rattle.frames.specs.Constants.{byMode, tam2Constant}
-use Rattle.frames.specs.Fields.{bytesFrom, sizeOf, selectCustom}
+use Rattle.frames.specs.Fields.{sizeOf, selectCustom}
 use Rattle.frames.specs.Header.{headerStart, headerOf}
 use Rattle.frames.specs.Kinds.{kindOf, tamKind}
 use Rattle.frames.specs.Lengths.{lengthFits}
