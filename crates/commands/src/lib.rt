@@ -2,7 +2,7 @@
 use console::fields;
 use console::words::word;
 use lines::print;
-use payload::same;
+use octets::same;
 use reader_commands::Keyring;
 use tag_commands::Place;
 use texts::explain;
