@@ -13,13 +13,13 @@ pub fn aes(line: &[u8]) {
         print::text(b"error: word missing\n");
         return;
     }
-    if payload::same(form, b"enc") {
+    if octets::same(form, b"enc") {
         if fields::read(line, 2, b"kk", 0) {
             answer::out(&aes::encrypt(sixteen(line, 2), sixteen(line, 3)));
         }
         return;
     }
-    if payload::same(form, b"dec") {
+    if octets::same(form, b"dec") {
         if fields::read(line, 2, b"kk", 0) {
             answer::out(&aes_inverse::decrypt(sixteen(line, 2), sixteen(line, 3)));
         }
@@ -38,16 +38,16 @@ enum Form {
 }
 
 fn form_of(name: &[u8]) -> Form {
-    if payload::same(name, b"enc_aes") {
+    if octets::same(name, b"enc_aes") {
         return Form::EncAes;
     }
-    if payload::same(name, b"dec_aes") {
+    if octets::same(name, b"dec_aes") {
         return Form::DecAes;
     }
-    if payload::same(name, b"enc_aes_inv") {
+    if octets::same(name, b"enc_aes_inv") {
         return Form::EncAesInv;
     }
-    if payload::same(name, b"dec_aes_inv") {
+    if octets::same(name, b"dec_aes_inv") {
         return Form::DecAesInv;
     }
     Form::NoForm

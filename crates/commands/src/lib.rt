@@ -4,7 +4,7 @@ mod explain; // explain.rt: what each number means
 use console::fields;
 use console::words::word;
 use lines::print;
-use payload::same;
+use octets::same;
 use reader_commands::Keyring;
 use tag_commands::Place;
 

@@ -79,7 +79,7 @@ fn sixteen_read(field: &[u8]) -> bool {
 }
 
 fn mac_read(field: &[u8]) -> bool {
-    if payload::same(field, b"-") {
+    if octets::same(field, b"-") {
         return true;
     }
     sixteen_read(field)
@@ -106,7 +106,7 @@ fn room_read(field: &[u8]) -> bool {
 }
 
 fn draws_read(field: &[u8]) -> bool {
-    if payload::same(field, b"*") {
+    if octets::same(field, b"*") {
         return true;
     }
     bytes_read(field)

@@ -41,7 +41,7 @@ pub fn keys(k: Keyring, line: &[u8]) -> Keyring {
         held: true,
         keys: Keys {
             enc: fields::sixteen(line, 1),
-            mac: !payload::same(word(line, 2), b"-"),
+            mac: !octets::same(word(line, 2), b"-"),
             mackey: fields::sixteen(line, 2),
         },
     }

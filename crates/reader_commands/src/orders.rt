@@ -10,7 +10,7 @@ use frames::Kind;
 use lines::numbers::sum;
 use memory::BlockSize;
 use memory::Offset;
-use payload::same;
+use octets::same;
 use reader::Fault;
 use reader::Keys;
 use reader_build::Made;

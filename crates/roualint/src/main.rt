@@ -16,7 +16,7 @@ fn begun(arguments: usize, first: &[u8]) {
         return;
     }
     if arguments == 2 {
-        if payload::same(first, b"demo") {
+        if octets::same(first, b"demo") {
             demo::played();
             return;
         }

@@ -187,7 +187,7 @@ fn random(line: &[u8]) -> bool {
     if count(line) < 3 {
         return true;
     }
-    payload::same(word(line, 2), b"*")
+    octets::same(word(line, 2), b"*")
 }
 
 fn sent(
