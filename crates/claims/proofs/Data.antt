@@ -25,10 +25,10 @@ use Rattle.frames.specs.Constants.{C-TAM2-0, C-TAM2-1, C-TAM2-2, C-TAM2-3, tam2
 use Rattle.frames.specs.Fields.{customFits}
 use Rattle.frames.specs.Lengths.{hasMac, tam2MacAt}
 use Rattle.frames.proofs.Bounds.{by-mode-le}
-use Rattle.payload.specs.Alike.{same}
+use Rattle.octets.specs.Alike.{same}
 use Rattle.payload.specs.Data.{carriedData}
 use Rattle.payload.specs.Protected.{encrypts, withMac, macFits}
-use Rattle.payload.proofs.Alike.{same-self}
+use Rattle.octets.proofs.Alike.{same-self}
 use Rattle.payload.proofs.Data.{carried-long}
 use Rattle.payload.proofs.Lengths.{blocks-whole}
 use Rattle.payload.proofs.Recovered.{header-carried, words-carried, filler-carried}

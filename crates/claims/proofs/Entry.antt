@@ -12,7 +12,7 @@ use Rattle.aes.specs.AesEnc.{aesEnc}
 use Rattle.frames.specs.declared.Iam2.{Iam2}
 use Rattle.frames.specs.declared.Mam2.{Mam2}
 use Rattle.frames.specs.declared.Kind.the-variants.{Iam2 as Iam2Kind, Mam2 as Mam2Kind}
-use Rattle.frames.specs.Fields.{byte}
+use Rattle.ground.specs.Bytes.{byteAt}
 use Rattle.frames.specs.Kinds.{kindOf}
 use Rattle.frames.specs.Constants.{C-IAM2, C-MAM2}
 use Rattle.frames.specs.Lengths.{lengthFits}
@@ -119,7 +119,7 @@ iam2-enters c tag keys purpose irnd w knows t m fit e =
           sent keys key C-IAM2 purpose irnd (tag .session .tchallenge) knows small m t;
     }) n (omega arith) in
     in-turn c tag Iam2Kind w (let l : length (c .message) ≡ 17 = ap length e ∙ shape .0 in omega (arith, l))
-    (ap (λ (l : List ℕ). kindOf (byte l 0)) e ∙ shape .1)
+    (ap (λ (l : List ℕ). kindOf (byteAt l 0)) e ∙ shape .1)
     ∙ iam2-let-in c (tag .setup) (tag .session) keys purpose irnd knows t m fit e
 
 pub mam2-enters : Mam2Enters
@@ -136,5 +136,5 @@ mam2-enters c tag keys purpose ichallenge w knows t i own fit e =
     }) n (omega arith)
     in
     in-turn c tag Mam2Kind w (let l : length (c .message) ≡ 17 = ap length e ∙ shape .0 in omega (arith, l))
-    (ap (λ (l : List ℕ). kindOf (byte l 0)) e ∙ shape .1)
+    (ap (λ (l : List ℕ). kindOf (byteAt l 0)) e ∙ shape .1)
     ∙ mam2-let-in c (tag .setup) (tag .session) keys purpose ichallenge knows t i own fit e

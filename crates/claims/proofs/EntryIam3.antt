@@ -6,7 +6,7 @@ use mathlib.Core.List.{List, _++_}
 use Prim.Native.Nat.{ℕ, _+_, _<_}
 use native.Mathlib.Omega.{arith}
 use lib.ListN.{length, length-append}
-use Rattle.ground.specs.Bytes.{Bytes}
+use Rattle.ground.specs.Bytes.{Bytes, byteAt}
 use Rattle.ground.specs.Choice.{both}
 use Rattle.aes.specs.AesEnc.{aesEnc}
 use Rattle.memory.specs.declared.Area.the-variants.{Identity, User}
@@ -16,7 +16,7 @@ use Rattle.frames.specs.declared.Iam3.{Iam3}
 use Rattle.frames.specs.declared.Kind.the-variants.{Iam3 as Iam3K}
 use Rattle.frames.specs.Blocks.{dataLength, blocksLength}
 use Rattle.frames.specs.Constants.{C-IAM3-0, C-IAM3-1, C-IAM3-2, C-IAM3-3, iam3Constant}
-use Rattle.frames.specs.Fields.{byte, customFits}
+use Rattle.frames.specs.Fields.{customFits}
 use Rattle.frames.specs.Kinds.{kindOf}
 use Rattle.frames.specs.Lengths.{lengthFits}
 use Rattle.frames.specs.Messages.{iam3Of, iam3Head}
@@ -144,5 +144,5 @@ iam3-enters c tag keys custom protmode purpose irnd words w knows t m b fit may 
     let form = e ∙ as-head keys custom protmode a p n bl in
     let l : length (c .message) ≡ length (iam3Head f) + length r = ap length form ∙ length-append (iam3Head f) r in
     in-turn c tag Iam3K w (omega (arith, l, iam3-head f n))
-    (ap (λ (x : List ℕ). kindOf (byte x 0)) form ∙ iam3-begins f n r (omega arith))
+    (ap (λ (x : List ℕ). kindOf (byteAt x 0)) form ∙ iam3-begins f n r (omega arith))
     ∙ iam3-let-in c (tag .setup) (tag .session) keys custom protmode purpose irnd words knows t m b fit may e

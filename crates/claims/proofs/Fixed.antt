@@ -8,7 +8,7 @@ use borrow.Author.Tests.{eqb-true}
 use lib.Dec.{eqb}
 use lib.ListN.{length, take, drop, length-drop, take-append-drop}
 use lib.Seq.{take-add, take-at, drop-at, drop-drop, take-all, length-take-le}
-use Rattle.ground.specs.Bytes.{Bytes}
+use Rattle.ground.specs.Bytes.{Bytes, byteAt}
 use Rattle.ground.specs.Choice.{pick, both, implies}
 use Rattle.ground.specs.Checks.{judgedTo}
 use Rattle.aes.specs.AesEnc.{aesEnc}
@@ -28,15 +28,14 @@ use Rattle.frames.specs.declared.Tam2.{Tam2 as Tam2Fields}
 use Rattle.frames.specs.declared.Mam1.{Mam1 as Mam1Fields}
 use Rattle.frames.specs.Blocks.{blocksLength}
 use Rattle.frames.specs.Constants.{C-TAM1, C-MAM1, tam2Constant, twoBytes}
-use Rattle.frames.specs.Fields.{byte}
 use Rattle.frames.specs.Kinds.{kindOf}
 use Rattle.frames.specs.Lengths.{hasMac, macLength, iam1ReplyLength, tam2MacAt, tam2ReplyLength}
 use Rattle.frames.specs.Messages.{tam1Of, tam2Of, mam1Of}
 use Rattle.frames.proofs.Range.{both-left, both-right}
-use Rattle.payload.specs.Alike.{same}
+use Rattle.octets.specs.Alike.{same}
 use Rattle.payload.specs.Data.{carriedData, wordsIn}
 use Rattle.payload.specs.Protected.{encrypts, withMac, macFits}
-use Rattle.payload.proofs.Alike.{same-equal}
+use Rattle.octets.proofs.Alike.{same-equal}
 use Rattle.payload.proofs.Lengths.{blocks-whole}
 use Rattle.payload.proofs.Recovered.{carried-only}
 use Rattle.tam.specs.Replies.{tamBlock, tam1Reply, tam2Body, tam2Reply}
@@ -293,7 +292,7 @@ fixed-twice keys key m reply other room share he hr ho e same-found same-trnd =
     let e′ : judgementOf keys m other room .verdict ≡ Accepted = sym (ap (λ (x : Finding). x .verdict) same-found)
     ∙ e in
     fixed keys key m reply room share he hr e
-    ∙ ap (λ (x : Finding). remade key m (trndIn keys reply) x (kindOf (byte m 0))) same-found
-    ∙ remade-same key m (trndIn keys reply) (trndIn keys other) (judgementOf keys m other room) (kindOf (byte m 0))
+    ∙ ap (λ (x : Finding). remade key m (trndIn keys reply) x (kindOf (byteAt m 0))) same-found
+    ∙ remade-same key m (trndIn keys reply) (trndIn keys other) (judgementOf keys m other room) (kindOf (byteAt m 0))
     same-trnd
     ∙ sym (fixed keys key m other room share he ho e′)

@@ -23,9 +23,9 @@ use Rattle.frames.specs.Fields.{selectBytes}
 use Rattle.frames.specs.Lengths.{hasMac, macLength}
 use Rattle.frames.specs.Messages.{iam3Head}
 use Rattle.frames.proofs.Shape.{iam3-head}
-use Rattle.payload.specs.Alike.{same}
+use Rattle.octets.specs.Alike.{same}
 use Rattle.payload.specs.Protected.{encrypts, withMac, macFits}
-use Rattle.payload.proofs.Alike.{same-self}
+use Rattle.octets.proofs.Alike.{same-self}
 use Rattle.payload.proofs.Lengths.{blocks-whole, mac-long}
 use Rattle.entry.specs.Opened.{sentBlock, sentData, sentMac, openedData, sentMacFits}
 use Rattle.reader.specs.declared.Keys.{Keys}

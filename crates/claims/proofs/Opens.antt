@@ -20,8 +20,8 @@ use Rattle.sheet.specs.declared.Key.{Key}
 use Rattle.frames.specs.declared.Tam1.{Tam1}
 use Rattle.frames.specs.declared.Mam1.{Mam1}
 use Rattle.frames.specs.Constants.{C-TAM1, C-MAM1, twoBytes}
-use Rattle.payload.specs.Alike.{same}
-use Rattle.payload.proofs.Alike.{same-self}
+use Rattle.octets.specs.Alike.{same}
+use Rattle.octets.proofs.Alike.{same-self}
 use Rattle.payload.proofs.Lengths.{enc-sixteen}
 use Rattle.tam.specs.Replies.{tamBlock, tam1Reply}
 use Rattle.entry.specs.Replies.{mam1Reply}

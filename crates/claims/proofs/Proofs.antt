@@ -13,9 +13,9 @@ use Rattle.aes.specs.AesEnc.{aesEnc}
 use Rattle.sheet.specs.declared.Key.{Key}
 use Rattle.frames.specs.Constants.{withPurpose}
 use Rattle.entry.specs.declared.Session.{Session}
-use Rattle.payload.specs.Alike.{same}
+use Rattle.octets.specs.Alike.{same}
 use Rattle.entry.specs.Opened.{constantIn, purposeIn, middleIn, challengeIn, purposeAllowed, iamProof}
-use Rattle.payload.proofs.Alike.{same-self}
+use Rattle.octets.proofs.Alike.{same-self}
 use Rattle.reader.specs.declared.Keys.{Keys}
 use Rattle.reader_build.specs.Builds.{purposeFits, response}
 use Rattle.reader_build.proofs.Responses.{constant-bytes, constant-two, response-block, response-opened}

@@ -13,14 +13,13 @@ use Rattle.frames.proofs.Range.{both-left, both-right}
 use lib.ListN.{length, take, replicate}
 use Rattle.modes.specs.Room.{over}
 use Rattle.sheet.specs.Limits.{keyLimit, profileLimit}
-use Rattle.ground.specs.Bytes.{Bytes as SheetBytes, Bytes}
+use Rattle.ground.specs.Bytes.{Bytes as SheetBytes, Bytes, byteAt}
 use Rattle.ground.proofs.Bytes.{bytes-none, bytes-cons}
 use Rattle.sheet.specs.declared.Reading.{Reading}
 use Rattle.sheet.specs.KeyTable.{keysIn, recordsIn}
 use Rattle.sheet.specs.Records.{keyOf}
 use Rattle.sheet.specs.Within.{Within}
 use Rattle.sheet.proofs.Sheets.{accepted}
-use Rattle.frames.specs.Fields.{byte}
 use Rattle.frames.specs.Kinds.{kindOf, iamKind}
 use Rattle.frames.specs.Lengths.{lengthFits}
 use Rattle.frames.specs.Messages.{iam1Of}
@@ -110,7 +109,7 @@ called = record { outcome = refl; number = refl; next = refl; reply = refl; iden
 -- what the step left, as far as it says, goes to the judge, who finds what is due
 pub challenge-recovered : (room : List ℕ) → 144 ≡ length room
     → (let found = judgementOf keys iam1 (take 10 (over (drawn 0) (replicate 172 0))) (length room) in
-    Judges (due call tag (answerOf call tag) (kindOf (byte iam1 0))) room (saidOf found) (over (found .bytes) room))
+    Judges (due call tag (answerOf call tag) (kindOf (byteAt iam1 0))) room (saidOf found) (over (found .bytes) room))
 challenge-recovered room e =
     recovery-code table bench [] user (brings iam1 0) (answered 0) keys room _ _ called fit shares (omega arith) tt
     (record { says = refl; number = refl; holds = refl })
@@ -121,6 +120,6 @@ unfolding judgementOf ofKind judge.byKind iam1Finding judgedTo ownFits fieldsFit
 taken = refl
 
 pub reply-fixed : drawn 0 ≡ remade key iam1 (trndIn keys (drawn 0)) (judgementOf keys iam1 (drawn 0) 144)
-    (kindOf (byte iam1 0))
+    (kindOf (byteAt iam1 0))
 reply-fixed = fixed keys key iam1 (drawn 0) 144 (record { enc = refl; mac = refl; mackey = refl }) (zeros 16) (zeros 10)
     taken

@@ -15,7 +15,7 @@ use Rattle.sheet.specs.declared.Key.{Key}
 use Rattle.sheet.specs.Setups.{Setup}
 use Rattle.frames.specs.declared.Kind.{Kind}
 use Rattle.frames.specs.declared.Kind.the-variants.{Tam1, Tam2, Iam1, Iam2, Iam3, Mam1, Mam2, Unsupported}
-use Rattle.frames.specs.Fields.{byte}
+use Rattle.ground.specs.Bytes.{byteAt}
 use Rattle.frames.specs.Kinds.{kindOf}
 use Rattle.frames.specs.Lengths.{hasMac, lengthFits}
 use Rattle.frames.specs.Messages.{tam1Of, tam2Of, iam1Of, iam3Of, mam1Of}
@@ -110,7 +110,7 @@ module _ (c : Call) (tag : KeyedTag) (keys : Keys) (room : ℕ) (fit : Fit c tag
       bytes = fit .draws;
     }
 
-    module _ (k : Kind) (e : k ≡ kindOf (byte (c .message) 0))
+    module _ (k : Kind) (e : k ≡ kindOf (byteAt (c .message) 0))
         (s : Shares keys (keyWith (keyidUsed tag (c .message) k) (tag .setup .keys))) where
       judges : (reply : List ℕ) (found : Finding) → lengthFits k (c .message) ≡ true
           → fieldsFit keys k (c .message) ≡ true → findingOf keys (c .message) reply k ≡ found
@@ -132,7 +132,7 @@ module _ (c : Call) (tag : KeyedTag) (keys : Keys) (room : ℕ) (fit : Fit c tag
     abbrev Keyed : Kind → Type 0
     Keyed k = Shares keys (keyWith (keyidUsed tag (c .message) k) (tag .setup .keys))
 
-    tam1-claim : Tam1 ≡ kindOf (byte (c .message) 0) → Keyed Tam1 → Claim Tam1 (tam1Answer c (tag .setup .keys))
+    tam1-claim : Tam1 ≡ kindOf (byteAt (c .message) 0) → Keyed Tam1 → Claim Tam1 (tam1Answer c (tag .setup .keys))
     unfolding tam1Answer replied due findingOf fieldsFit keyidUsed
     tam1-claim e s =
         let f = tam1Of (c .message) in
@@ -141,14 +141,14 @@ module _ (c : Call) (tag : KeyedTag) (keys : Keys) (room : ℕ) (fit : Fit c tag
         (tam1-found keys (keyWith (f .keyid) (tag .setup .keys)) (s .enc) (fit .enc) (c .draws) ten f
         (tam1-challenge (c .message) (fit .message))) h)
 
-    iam1-claim : Iam1 ≡ kindOf (byte (c .message) 0) → Keyed Iam1 → Claim Iam1 (iam1Answer c (tag .setup .keys))
+    iam1-claim : Iam1 ≡ kindOf (byteAt (c .message) 0) → Keyed Iam1 → Claim Iam1 (iam1Answer c (tag .setup .keys))
     unfolding iam1Answer replied due findingOf fieldsFit keyidUsed
     iam1-claim e s =
         let f = iam1Of (c .message) in
         fine Iam1 _ _ (λ h t. opens-with Iam1 e s (f .rfu) (f .keyid) (c .draws) (issues (c .draws)) refl
         (iam1-found (c .draws) (ten .ten)) h)
 
-    mam1-claim : Mam1 ≡ kindOf (byte (c .message) 0) → Keyed Mam1 → Claim Mam1 (mam1Answer c (tag .setup .keys))
+    mam1-claim : Mam1 ≡ kindOf (byteAt (c .message) 0) → Keyed Mam1 → Claim Mam1 (mam1Answer c (tag .setup .keys))
     unfolding mam1Answer replied due findingOf fieldsFit keyidUsed
     mam1-claim e s =
         let f = mam1Of (c .message) in
@@ -157,19 +157,19 @@ module _ (c : Call) (tag : KeyedTag) (keys : Keys) (room : ℕ) (fit : Fit c tag
         (mam1-found keys (keyWith (f .keyid) (tag .setup .keys)) (s .enc) (fit .enc) (c .draws) ten f
         (mam1-challenge (c .message) (fit .message))) h)
 
-    iam2-claim : Iam2 ≡ kindOf (byte (c .message) 0) → Keyed Iam2
+    iam2-claim : Iam2 ≡ kindOf (byteAt (c .message) 0) → Keyed Iam2
         → Claim Iam2 (iam2Answer c (tag .setup .keys) (tag .session))
     unfolding iam2Answer iam2Checks letIn due findingOf fieldsFit
     iam2-claim e s = fine Iam2 _ _ (λ h t. judges Iam2 e s [] nothingMore (first-holds _ _ h)
         (first-holds _ _ (others-hold _ _ h)) empty-found)
 
-    mam2-claim : Mam2 ≡ kindOf (byte (c .message) 0) → Keyed Mam2
+    mam2-claim : Mam2 ≡ kindOf (byteAt (c .message) 0) → Keyed Mam2
         → Claim Mam2 (mam2Answer c (tag .setup .keys) (tag .session))
     unfolding mam2Answer mam2Checks letIn due findingOf fieldsFit
     mam2-claim e s = fine Mam2 _ _ (λ h t. judges Mam2 e s [] nothingMore (first-holds _ _ h)
         (first-holds _ _ (others-hold _ _ h)) empty-found)
 
-    iam3-claim : Iam3 ≡ kindOf (byte (c .message) 0) → Keyed Iam3
+    iam3-claim : Iam3 ≡ kindOf (byteAt (c .message) 0) → Keyed Iam3
         → Claim Iam3 (iam3Answer c (tag .setup) (tag .session))
     unfolding iam3Answer iam3Checks letIn due findingOf fieldsFit keyidUsed
     iam3-claim e s =
@@ -197,7 +197,7 @@ module _ (c : Call) (tag : KeyedTag) (keys : Keys) (room : ℕ) (fit : Fit c tag
       tam2-slot = first-holds _ _ (others-hold _ _ (others-hold _ _
           (others-hold _ _ (others-hold _ _ (others-hold _ _ h)))))
 
-    tam2-claim : Tam2 ≡ kindOf (byte (c .message) 0) → Keyed Tam2 → Claim Tam2 (tam2Answer c (tag .setup))
+    tam2-claim : Tam2 ≡ kindOf (byteAt (c .message) 0) → Keyed Tam2 → Claim Tam2 (tam2Answer c (tag .setup))
     unfolding tam2Answer replied due findingOf keyidUsed
     tam2-claim e s =
         let f = tam2Of (c .message) in
@@ -213,7 +213,7 @@ module _ (c : Call) (tag : KeyedTag) (keys : Keys) (room : ℕ) (fit : Fit c tag
 
     -- ---- every kind, in its order
 
-    kinds : (k : Kind) → k ≡ kindOf (byte (c .message) 0) → Keyed k → Claim k (byKind c (tag .setup) (tag .session) k)
+    kinds : (k : Kind) → k ≡ kindOf (byteAt (c .message) 0) → Keyed k → Claim k (byKind c (tag .setup) (tag .session) k)
     unfolding byKind refused
     kinds Tam1 e s = tam1-claim e s
     kinds Tam2 e s = tam2-claim e s
@@ -224,7 +224,7 @@ module _ (c : Call) (tag : KeyedTag) (keys : Keys) (room : ℕ) (fit : Fit c tag
     kinds Mam2 e s = mam2-claim e s
     kinds Unsupported e s = λ t. absurd t
 
-    in-order : (k : Kind) → k ≡ kindOf (byte (c .message) 0) → Keyed k
+    in-order : (k : Kind) → k ≡ kindOf (byteAt (c .message) 0) → Keyed k
         → Claim k (inOrder c (tag .setup) (tag .session) k)
     unfolding inOrder refused
     in-order k e s =
@@ -233,7 +233,7 @@ module _ (c : Call) (tag : KeyedTag) (keys : Keys) (room : ℕ) (fit : Fit c tag
         (refused c OutOfTurn cleared) (kinds k e s) (λ t. absurd t)) (λ t. absurd t)
 
   abbrev kind : Kind
-  kind = kindOf (byte (c .message) 0)
+  kind = kindOf (byteAt (c .message) 0)
 
   module _ (s : Shares keys (keyWith (keyidUsed tag (c .message) kind) (tag .setup .keys))) where
     of-message : judged (benchChecks (tag .setup .sizes) (length (c .draws)) (c .room) (length (c .identity))
@@ -242,7 +242,7 @@ module _ (c : Call) (tag : KeyedTag) (keys : Keys) (room : ℕ) (fit : Fit c tag
     unfolding ofMessage refused
     of-message bench [] e = λ t. absurd t
     of-message bench (x ∷ l) e =
-        let first : kind ≡ kindOf x = ap (λ (m : List ℕ). kindOf (byte m 0)) e in
+        let first : kind ≡ kindOf x = ap (λ (m : List ℕ). kindOf (byteAt m 0)) e in
         let some : length (c .message) ≡ 0 → ⊥ = λ z. (let n = sym (ap length e) ∙ z in omega arith) in
         subst (λ (k : Kind). Claim kind (inOrder c (tag .setup) (tag .session) k)) first
         (in-order bench some kind refl s)

@@ -11,7 +11,7 @@ use Rattle.memory.specs.Areas.{windowOf}
 use Rattle.sheet.specs.Setups.{Setup}
 use Rattle.frames.specs.declared.Kind.{Kind}
 use Rattle.frames.specs.declared.Kind.the-variants.{Tam1, Tam2, Iam1, Iam2, Iam3, Mam1, Mam2, Unsupported}
-use Rattle.frames.specs.Fields.{byte}
+use Rattle.ground.specs.Bytes.{byteAt}
 use Rattle.frames.specs.Kinds.{kindOf}
 use Rattle.frames.specs.Messages.{tam1Of, tam2Of, mam1Of}
 use Rattle.offer.specs.declared.Fault.{Fault}
@@ -98,7 +98,7 @@ module _ (c : Call) where
     kind-long Unsupported = refusal-long _ cleared NotSupported
 
     message-long : (m : List ℕ) → c .message ≡ m
-        → Long (layoutLength (kindOf (byte m 0)) (c .message)) (ofMessage c setup held m)
+        → Long (layoutLength (kindOf (byteAt m 0)) (c .message)) (ofMessage c setup held m)
     unfolding ofMessage inOrder
     message-long [] e = refusal-long _ cleared OtherError
     message-long (first ∷ rest) e =
@@ -113,14 +113,14 @@ module _ (c : Call) where
     verdict = judged (benchChecks (tag .setup .sizes) (length (c .draws)) (c .room) (length (c .identity))
         (length (c .user)))
 
-    bench-long : (v : Verdict) → verdict ≡ v → Long (layoutLength (kindOf (byte (c .message) 0)) (c .message))
+    bench-long : (v : Verdict) → verdict ≡ v → Long (layoutLength (kindOf (byteAt (c .message) 0)) (c .message))
         (ofBench c (tag .setup) (tag .session) v)
     unfolding benchChecks
     bench-long Fine e = message-long (tag .setup) (tag .session) (eqb-true (length (c .draws)) 10 (first-holds _ _ e))
         (c .message) refl
     bench-long (Wrong f) e = refusal-long _ (tag .session) f
 
-    answer-long : Long (layoutLength (kindOf (byte (c .message) 0)) (c .message)) (answerOf c tag)
+    answer-long : Long (layoutLength (kindOf (byteAt (c .message) 0)) (c .message)) (answerOf c tag)
     unfolding answerOf
     answer-long = bench-long verdict refl
 

@@ -20,7 +20,8 @@ use Rattle.sheet.specs.declared.Key.{Key}
 use Rattle.frames.specs.Asked.{blockAsked as wordsAsked}
 use Rattle.frames.specs.Blocks.{blockBytes, dataLength, headerLength, headerPart, carried, dOf, blocksLength}
 use Rattle.frames.specs.Constants.{twoBytes, byMode, tam2Constant}
-use Rattle.frames.specs.Fields.{bytesFrom, sizeOf, selectCustom}
+use Rattle.octets.specs.Parts.{bytesFrom}
+use Rattle.frames.specs.Fields.{sizeOf, selectCustom}
 use Rattle.frames.specs.Header.{headerStart, headerOf}
 use Rattle.frames.specs.Kinds.{kindOf, tamKind}
 use Rattle.frames.specs.Lengths.{lengthFits, hasMac}

@@ -15,7 +15,7 @@ use Rattle.sheet.specs.declared.Key.{Key}
 use Rattle.sheet.specs.Setups.{Setup}
 use Rattle.frames.specs.declared.Kind.{Kind}
 use Rattle.frames.specs.declared.Kind.the-variants.{Tam1, Tam2, Iam1, Iam2, Iam3, Mam1, Mam2, Unsupported}
-use Rattle.frames.specs.Fields.{byte}
+use Rattle.ground.specs.Bytes.{byteAt}
 use Rattle.frames.specs.Kinds.{kindOf}
 use Rattle.frames.specs.Lengths.{lengthFits}
 use Rattle.frames.specs.Messages.{tam1Of, tam2Of, iam1Of, iam2Of, iam3Of, mam1Of, mam2Of}
@@ -123,12 +123,12 @@ carries-long Unsupported m h e = absurd (false≢true h)
 
 -- a message of two bytes or more names the record of its second
 pub names-second : (m rest : List ℕ) (first : ℕ) (k : Kind) → m ≡ first ∷ rest → kindOf first ≡ k
-    → carriesKeyid k ≡ true → lengthFits k m ≡ true → namedBy m (byte m 1) ≡ true
+    → carriesKeyid k ≡ true → lengthFits k m ≡ true → namedBy m (byteAt m 1) ≡ true
 unfolding namedBy
-names-second m rest first k e f h l = subst (λ (z : List ℕ). namedBy z (byte z 1) ≡ true) (sym e)
+names-second m rest first k e f h l = subst (λ (z : List ℕ). namedBy z (byteAt z 1) ≡ true) (sym e)
     (second rest (subst (λ (z : List ℕ). 2 ≤ length z) e (carries-long k m h l)))
   where
-    second : (r : List ℕ) → 2 ≤ length (first ∷ r) → namedBy (first ∷ r) (byte (first ∷ r) 1) ≡ true
+    second : (r : List ℕ) → 2 ≤ length (first ∷ r) → namedBy (first ∷ r) (byteAt (first ∷ r) 1) ≡ true
     second [] z = absurd (let w : ⊥ = omega arith in w)
     second (x ∷ r) z = rw (f, h) (eq-eqb x x refl)
 
@@ -251,30 +251,30 @@ module _ (named : ℕ → Bool) (s t : Setup) (alike : SetupsAlike named s t) (x
 
   module _ (first : ℕ) (rest : List ℕ) (e : m ≡ first ∷ rest) where
     second-named : (k : Kind) → kindOf first ≡ k → carriesKeyid k ≡ true → lengthFits k m ≡ true
-        → named (byte m 1) ≡ true
-    second-named k f h l = mine (byte m 1) (names-second m rest first k e f h l)
+        → named (byteAt m 1) ≡ true
+    second-named k f h l = mine (byteAt m 1) (names-second m rest first k e f h l)
 
     tam1-step : kindOf first ≡ Tam1 → Step (tam1Answer c (s .keys)) (tam1Answer d (t .keys))
     unfolding tam1Answer tam1Of carriesKeyid
     tam1-step f =
-        fine-alike _ _ _ _ (opening-alike named s t alike m Tam1 (tam1Of m .rfu) (byte m 1))
+        fine-alike _ _ _ _ (opening-alike named s t alike m Tam1 (tam1Of m .rfu) (byteAt m 1))
         (λ h.
         let n = second-named Tam1 f refl (opening-length Tam1 _ _ (s .keys) m h) in
-        reply-alike _ _ cleared (ap (λ (k : Key). tam1Reply k (tam1Of m) (sent .draws)) (whole (byte m 1) n))
+        reply-alike _ _ cleared (ap (λ (k : Key). tam1Reply k (tam1Of m) (sent .draws)) (whole (byteAt m 1) n))
         (cleared-named named))
 
     mam1-step : kindOf first ≡ Mam1 → Step (mam1Answer c (s .keys)) (mam1Answer d (t .keys))
     unfolding mam1Answer mam1Of carriesKeyid
     mam1-step f =
-        fine-alike _ _ _ _ (opening-alike named s t alike m Mam1 (mam1Of m .rfu) (byte m 1))
+        fine-alike _ _ _ _ (opening-alike named s t alike m Mam1 (mam1Of m .rfu) (byteAt m 1))
         (λ h.
         let n = second-named Mam1 f refl (opening-length Mam1 _ _ (s .keys) m h) in
-        reply-alike _ _ _ (ap (λ (k : Key). mam1Reply k (mam1Of m) (sent .draws)) (whole (byte m 1) n)) (λ z. n))
+        reply-alike _ _ _ (ap (λ (k : Key). mam1Reply k (mam1Of m) (sent .draws)) (whole (byteAt m 1) n)) (λ z. n))
 
     iam1-step : kindOf first ≡ Iam1 → Step (iam1Answer c (s .keys)) (iam1Answer d (t .keys))
     unfolding iam1Answer iam1Of carriesKeyid
     iam1-step f =
-        fine-alike _ _ _ _ (opening-alike named s t alike m Iam1 (iam1Of m .rfu) (byte m 1))
+        fine-alike _ _ _ _ (opening-alike named s t alike m Iam1 (iam1Of m .rfu) (byteAt m 1))
         (λ h. reply-alike _ _ _ refl (λ z. second-named Iam1 f refl (opening-length Iam1 _ _ (s .keys) m h)))
 
     tam2-named : kindOf first ≡ Tam2 → judged (tam2Checks s m) ≡ Fine → named (tam2Of m .keyid) ≡ true

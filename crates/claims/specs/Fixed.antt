@@ -5,11 +5,10 @@ use mathlib.Core.Bool.{Bool, true, false}
 use mathlib.Core.List.{List, []}
 use Prim.Native.Nat.{ℕ}
 use lib.ListN.{take, drop}
-use Rattle.ground.specs.Bytes.{Bytes}
+use Rattle.ground.specs.Bytes.{Bytes, byteAt}
 use Rattle.sheet.specs.declared.Key.{Key}
 use Rattle.frames.specs.declared.Kind.{Kind}
 use Rattle.frames.specs.declared.Kind.the-variants.{Tam1, Tam2, Iam1, Iam2, Iam3, Mam1, Mam2, Unsupported}
-use Rattle.frames.specs.Fields.{byte}
 use Rattle.frames.specs.Kinds.{kindOf}
 use Rattle.frames.specs.Messages.{tam1Of, tam2Of, mam1Of}
 use Rattle.tam.specs.Replies.{tam1Reply, tam2Reply}
@@ -45,7 +44,7 @@ Fixed =
     → Bytes (keys .enc)
     → Bytes reply
     → judgementOf keys m reply room .verdict ≡ Accepted
-    → reply ≡ remade key m (trndIn keys reply) (judgementOf keys m reply room) (kindOf (byte m 0))
+    → reply ≡ remade key m (trndIn keys reply) (judgementOf keys m reply room) (kindOf (byteAt m 0))
 
 -- The kinds whose replies carry random bytes that the judge does not hand out.
 unfoldable pub hasTrnd : Kind → Bool
@@ -69,5 +68,5 @@ FixedTwice =
     → Bytes other
     → judgementOf keys m reply room .verdict ≡ Accepted
     → judgementOf keys m reply room ≡ judgementOf keys m other room
-    → (hasTrnd (kindOf (byte m 0)) ≡ true → trndIn keys reply ≡ trndIn keys other)
+    → (hasTrnd (kindOf (byteAt m 0)) ≡ true → trndIn keys reply ≡ trndIn keys other)
     → reply ≡ other

@@ -6,14 +6,13 @@ use Prim.Native.Nat.{ℕ, _≤_}
 use mathlib.Core.Path.{_≡_}
 use mathlib.Core.List.{List}
 use lib.ListN.{length, take}
-use Rattle.ground.specs.Bytes.{Bytes}
+use Rattle.ground.specs.Bytes.{Bytes, byteAt}
 use Rattle.memory.specs.Areas.{windowOf}
 use Rattle.sheet.specs.declared.Key.{Key}
 use Rattle.sheet.specs.Limits.{keyLimit}
 use Rattle.sheet.specs.Within.{Within}
 use Rattle.frames.specs.declared.Kind.{Kind}
 use Rattle.frames.specs.declared.Kind.the-variants.{Tam1, Tam2, Iam1, Iam2, Iam3, Mam1, Mam2, Unsupported}
-use Rattle.frames.specs.Fields.{byte}
 use Rattle.frames.specs.Kinds.{kindOf}
 use Rattle.frames.specs.Messages.{tam1Of, tam2Of, iam1Of, mam1Of}
 use Rattle.tag.specs.declared.Tag.{Tag}
@@ -50,7 +49,7 @@ keyidUsed tag m Mam2 = tag .session .keyid
 keyidUsed tag m Unsupported = 0
 
 abbrev pub keyUsed : KeyedTag → List ℕ → Key
-keyUsed tag m = keyWith (keyidUsed tag m (kindOf (byte m 0))) (tag .setup .keys)
+keyUsed tag m = keyWith (keyidUsed tag m (kindOf (byteAt m 0))) (tag .setup .keys)
 
 -- The reader has the keys of a record.
 pub record Shares (keys : Keys) (key : Key) : Type 0 where
@@ -84,7 +83,7 @@ Recovery =
     (c : Call) (tag : KeyedTag) (keys : Keys) (room : ℕ) → Fit c tag keys → Shares keys (keyUsed tag (c .message))
     → dataRoom ≤ room → Taken (answerOf c tag .outcome)
     → judgementOf keys (c .message) (answerOf c tag .reply) room ≡ due c tag (answerOf c tag)
-    (kindOf (byte (c .message) 0))
+    (kindOf (byteAt (c .message) 0))
 
 -- The same of the code: what `tag::step` left in the room, as far as `tag::reply_length` says, given to the judge.
 abbrev pub RecoveryCode : Type 0
@@ -99,4 +98,4 @@ RecoveryCode =
     → Judges (judgementOf keys (b .message) (take (replyLength (x .stepped .outcome)) (x .room)) (length room)) room r
     after
     → (let c = lent (b .message) (b .draws) (b .room) identity user in
-    Judges (due c (keyed tag table) (answerOf c (keyed tag table)) (kindOf (byte (b .message) 0))) room r after)
+    Judges (due c (keyed tag table) (answerOf c (keyed tag table)) (kindOf (byteAt (b .message) 0))) room r after)

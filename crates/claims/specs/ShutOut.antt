@@ -7,7 +7,7 @@ use Prim.Native.Nat.{ℕ}
 use lib.ListN.{length, take, drop}
 use Rattle.frames.specs.declared.Kind.{Kind}
 use Rattle.frames.specs.declared.Kind.the-variants.{Tam1, Tam2, Iam1, Iam2, Iam3, Mam1, Mam2, Unsupported}
-use Rattle.frames.specs.Fields.{byte}
+use Rattle.ground.specs.Bytes.{byteAt}
 use Rattle.frames.specs.Kinds.{kindOf}
 use Rattle.frames.specs.Lengths.{tam1ReplyLength, tam2ReplyLength, iam1ReplyLength, mam1ReplyLength, emptyReplyLength}
 use Rattle.frames.specs.Messages.{tam2Of}
@@ -99,4 +99,4 @@ LengthFixed =
     (table : List ℕ) (tag : Tag) (identity user : List ℕ) (b : Brought) (x : Left) (n : ℕ)
     → Called table tag identity user b x
     → x .stepped .outcome ≡ Replied n
-    → n ≡ layoutLength (kindOf (byte (b .message) 0)) (b .message)
+    → n ≡ layoutLength (kindOf (byteAt (b .message) 0)) (b .message)
