@@ -15,7 +15,8 @@ use Rattle.sheet.specs.declared.Kind.the-variants.{FeatureRecord, SizeRecord, K
 use Rattle.sheet.specs.declared.Kind.the-variants.{EndRecord, NoRecord}
 use Rattle.sheet.specs.declared.Gathered.{Gathered}
 use Rattle.sheet.specs.Kinds.{kindOf, bodyLength}
-use Rattle.sheet.specs.Records.{allZero, keyRule, keyOf}
+use Rattle.octets.specs.Alike.{allZero}
+use Rattle.sheet.specs.Records.{keyRule, keyOf}
 use Rattle.sheet.specs.Judgement.{openedOf, takenIf, withKey, recordOf, onlyIf, judgedOf}
 use Rattle.sheet.specs.KeysMet.{keySaid}
 use Rattle.claims.specs.Silence.{RecordAlike, RecordsAlike}
