@@ -3,7 +3,6 @@ use mathlib.Core.Path.{_≡_, refl, sym, ap, _∙_}
 use Prim.Native.Nat.{ℕ, _/_, _<_}
 use native.Mathlib.Omega.{arith}
 use lib.ListN.{getD}
-use Rattle.ground.specs.Bytes.{bit}
 use Rattle.field.specs.Field.{inverse}
 use Rattle.field.specs.Sbox.{sbox, sboxTable, affine, affineBit, fromBits}
 use Rattle.field.specs.Block.{tabulated}

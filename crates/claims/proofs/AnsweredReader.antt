@@ -19,7 +19,8 @@ use Rattle.frames.specs.Kinds.{kindOf}
 use Rattle.frames.specs.Messages.{tam2Of}
 use Rattle.frames.specs.Modes.{inMode, protModeOf}
 use Rattle.reader.specs.declared.ReaderFault.{ReaderFault}
-use Rattle.reader.specs.declared.ReaderFault.the-variants.{ReplyLength, ChallengeWrong, MacWrong, HeaderWrong, OwnMessage}
+use Rattle.reader.specs.declared.ReaderFault.the-variants.{ReplyLength, ChallengeWrong, MacWrong, HeaderWrong}
+use Rattle.reader.specs.declared.ReaderFault.the-variants.{OwnMessage}
 use Rattle.reader_judge.specs.declared.Judgement.{Judgement}
 use Rattle.reader.specs.declared.Keys.{Keys}
 use Rattle.reader_build.specs.declared.Made.the-variants.{Message, Refused as NotMade}
@@ -88,7 +89,8 @@ module _ (keys : Keys) (m reply : List ℕ) where
   kind-quiet : (k : Kind) → Quiet (byKind keys m reply k)
   unfolding byKind tam1Finding tam2Finding iam1Finding emptyFinding mam1Finding
   kind-quiet Tam1 = judged-quiet _ _ nothing-quiet
-  kind-quiet Tam2 = moded-quiet (protModeOf (tam2Of m .protmode)) (tam2InMode keys (tam2Of m) reply) (refused OwnMessage)
+  kind-quiet Tam2 = moded-quiet (protModeOf (tam2Of m .protmode)) (tam2InMode keys (tam2Of m) reply)
+      (refused OwnMessage)
       (in-mode-quiet keys (tam2Of m) reply) (refused-quiet OwnMessage)
   kind-quiet Iam1 = judged-quiet _ _ (issues-quiet _)
   kind-quiet Iam2 = judged-quiet _ _ nothing-quiet

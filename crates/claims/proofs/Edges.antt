@@ -3,7 +3,6 @@ use mathlib.Core.Path.{_≡_, refl, ap}
 use mathlib.Core.List.{List, [], _∷_}
 use Prim.Native.Nat.{ℕ}
 use lib.ListN.{replicate}
-use Rattle.ground.specs.Bytes.{bit}
 use Rattle.field.specs.Field.{times, inverse, productOfSquares, polynomialProduct, remainder}
 use Rattle.field.specs.Sbox.{sbox, affine, affineBit, fromBits}
 use Rattle.field.specs.Block.{xor}

@@ -129,7 +129,8 @@ unfolding iam3Fits modeFits readerServes protModeOf hasMac purposeFits dataFits 
 fits = refl
 
 writable : Writable setup (keyWith 0 (setup .keys)) custom 0
-unfolding setup terms modeSupported modeServed modeOffered protModeOf hasMac keyWith slotNamed permitted sizeOffered overruns lastWord
+unfolding setup terms modeSupported modeServed modeOffered protModeOf hasMac keyWith slotNamed permitted sizeOffered
+    overruns lastWord
     profileEnd blockAsked wordsAsked addressOf stepOf someLocked meetsAny keyLimit profileLimit lockLimit
 writable = record { mode = refl; present = refl; right = refl; size = refl; inside = refl; unlocked = refl }
 

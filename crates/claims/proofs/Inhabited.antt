@@ -25,7 +25,7 @@ use Rattle.ground.specs.Checks.{judgedTo}
 use Rattle.offer.specs.Judged.{lendingChecks}
 use Rattle.tag.specs.Answers.{effectOf, ofMessage, refused}
 use Rattle.tag.specs.States.{awake}
-use Rattle.tag.specs.Plays.{Brought, Doing, Step, Wake, Left, Called, woken}
+use Rattle.tag.specs.Plays.{Brought, Step, Wake, Left, Called, woken}
 use Rattle.reader.specs.declared.ReaderFault.the-variants.{OwnMessage}
 use Rattle.reader.specs.declared.Keys.{Keys}
 use Rattle.reader_build.specs.declared.Made.the-variants.{Refused as NotMade}
@@ -70,7 +70,8 @@ pub sheet-refused : FromTo 30 35 (sheet.numberOf Cut) × (readOf keyLimit [] .te
     × (readOf keyLimit [] .keys ≡ 0)
 sheet-refused = sheet-answers [] Cut 0 (ap (λ (r : Reading). r .verdict) (example-12 keyLimit))
 
-pub record-refused : FromTo 30 35 (sheet.numberOf Cut) × (judgedOf keyLimit [] nothingGathered .gathered ≡ nothingGathered)
+pub record-refused : FromTo 30 35 (sheet.numberOf Cut) × (judgedOf keyLimit [] nothingGathered .gathered ≡
+    nothingGathered)
 unfolding judgedOf
 record-refused = record-answers [] nothingGathered Cut refl
 

@@ -60,7 +60,8 @@ module _ (named : ℕ → Bool) where
       let judged = judged-alike named keyLimit b u v k (alike-length u v n more) h in
       let i = judgedOf keyLimit (b ∷ u) k in
       let rest = walk-alike u v n (at + 1) (i .gathered) more in
-      let onwards : Judged → Reading = λ j. after (j .finding) (j .gathered) at v (walk keyLimit v n (at + 1) (j .gathered)) in
+      let onwards : Judged → Reading = λ j. after (j .finding) (j .gathered) at v
+      (walk keyLimit v n (at + 1) (j .gathered)) in
       ap (after (i .finding) (i .gathered) at u) rest
       ∙ after-alike u v n at (i .gathered) (walk keyLimit v n (at + 1) (i .gathered)) more (i .finding)
       ∙ ap onwards judged ∙ ap (λ (z : ℕ). walk keyLimit (z ∷ v) zero at k) e

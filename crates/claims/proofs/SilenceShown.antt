@@ -6,7 +6,7 @@ use mathlib.Core.List.{List, [], _∷_, _++_, append-cancel-left, append-cancel-
 use Prim.Native.Nat.{ℕ, zero, suc, _/_, _%_}
 use native.Mathlib.Omega.{arith}
 use lib.ListN.{length, getD, replicate}
-use Rattle.ground.specs.Bytes.{twoBytes, bit}
+use Rattle.ground.specs.Bytes.{twoBytes}
 use Rattle.field.specs.Block.{xor}
 use Rattle.field.specs.Field.{times, remainder, polynomialProduct, productOfSquares, inverse}
 use Rattle.field.specs.Sbox.{sbox, affine, affineBit, fromBits}
@@ -210,8 +210,10 @@ word-answered : (enc : List ℕ) (l : Key) (a b : ℕ) → answers (carrying (ou
     } ∷ []
 unfolding run answerTo poweredUp effectOf lendingChecks judgedTo ofMessage inOrder kindOf tamKind offered inTurn byKind
     tam2Answer tam2Of bytesFrom sizeOf selectCustom tam2Checks lengthFits sizeOffered revOffered modeSupported
-    modeServed modeOffered protModeOf hasMac hasKey keyWith slotNamed blockAsked wordsAsked addressOf stepOf overruns profileEnd lastWord
-    permitted windowOf areaOf partOf within carrying ifFine replied tam2Reply tam2InMode tam2Body tamBlock twoBytes byMode
+    modeServed modeOffered protModeOf hasMac hasKey keyWith slotNamed blockAsked wordsAsked addressOf stepOf overruns
+    profileEnd lastWord
+    permitted windowOf areaOf partOf within carrying ifFine replied tam2Reply tam2InMode tam2Body tamBlock twoBytes
+    byMode
     tam2Constant encrypts withMac carriedData filled headerOf headerStart headerLength headerPart dataLength carried
     blocksLength dOf blockBytes blockSizeBit
 word-answered enc l a b = refl

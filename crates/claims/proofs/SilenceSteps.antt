@@ -323,11 +323,13 @@ module _ (named : ℕ → Bool) (s t : Setup) (alike : SetupsAlike named s t) (x
   unfolding effectOf
   step-alike held h =
       subst (λ (w : Checked). Step (ofLending c s held v) (ofLending d t held w))
-      (lending-alike named s t alike (length (sent .draws)) (sent .room) _ _ _ _ (mem .identityLength) (mem .userLength))
+      (lending-alike named s t alike (length (sent .draws)) (sent .room) _ _ _ _ (mem .identityLength)
+      (mem .userLength))
       (judged-alike v)
     where
       v : Checked
-      v = judged (lendingChecks (s .sizes) (length (sent .draws)) (sent .room) (length (x .identity)) (length (x .user)))
+      v = judged (lendingChecks (s .sizes) (length (sent .draws)) (sent .room) (length (x .identity))
+          (length (x .user)))
 
       judged-alike : (z : Checked) → Step (ofLending c s held z) (ofLending d t held z)
       judged-alike Fine = message-step held h m refl

@@ -1,10 +1,9 @@
 -- `inverse` is the inverse of the field: a byte, whose product with b is 1; and that of 0 is 0. And what follows of the
 -- S-box.
 use mathlib.Core.Path.{_≡_, refl, sym, ap, _∙_}
-use Prim.Native.Nat.{ℕ, _+_, _*_, _/_, _<_, min}
+use Prim.Native.Nat.{ℕ, _/_, _<_, min}
 use native.Mathlib.Omega.{arith}
 use lib.ListN.{getD}
-use Rattle.ground.specs.Bytes.{bit}
 use Rattle.field.specs.Field.{inverse, times, remainder, polynomialProduct}
 use Rattle.field.specs.Sbox.{sbox, sboxTable, affine, affineBit, fromBits}
 use Rattle.field.specs.Block.{tabulated}

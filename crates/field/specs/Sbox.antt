@@ -1,5 +1,5 @@
 -- The S-box, FIPS 197 section 5.1.1.
-use Prim.Native.Nat.{ℕ, zero, suc, _+_, _*_, _/_, _%_, _^_}
+use Prim.Native.Nat.{ℕ, zero, suc, _+_, _*_, _%_, _^_}
 use mathlib.Core.List.{List}
 use Rattle.ground.specs.Bytes.{bit}
 use Rattle.field.specs.Field.{inverse}

@@ -11,7 +11,6 @@ use Rattle.frames.specs.declared.ProtMode.{ProtMode}
 use Rattle.frames.specs.declared.ProtMode.the-variants.{Plaintext, Cbc, Cmac, CbcCmac}
 use Rattle.frames.specs.Lengths.{
   macLength,
-  iam3HeadLength,
   iam3MacAt,
   iam3Length,
   tam1Length,

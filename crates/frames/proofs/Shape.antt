@@ -1,6 +1,6 @@
 -- What is built has the kind and the length of its message.
 use mathlib.Core.Path.{_≡_, refl, ap, _∙_}
-use mathlib.Core.Bool.{Bool, true, false}
+use mathlib.Core.Bool.{true}
 use mathlib.Core.List.{List, _++_}
 use Prim.Native.Nat.{ℕ, suc, _+_, _*_, _-_, _<_}
 use native.Mathlib.Omega.{arith}

@@ -3,7 +3,8 @@ use super::ProtMode;
 ghost use mathlib.Core.Path.{_≡_};
 ghost use Prim.Native.Nat.{_<_};
 ghost use Rattle.ground.specs.Bytes.{twoBytes};
-ghost use Rattle.frames.specs.Constants.{C-TAM1, C-MAM1, C-MAM2, C-IAM2, byMode, tam2Constant, iam3Constant, withPurpose};
+ghost use Rattle.frames.specs.Constants.{C-TAM1, C-MAM1, C-MAM2, C-IAM2, byMode, tam2Constant, iam3Constant};
+ghost use Rattle.frames.specs.Constants.{withPurpose};
 
 // A constant of 16 bits.
 fn two_bytes(c: u16) -> [u8; 2]

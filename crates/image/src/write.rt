@@ -15,7 +15,6 @@ use sheet::Features;
 use sheet::KEY_RECORD;
 use sheet::LOCK_BODY;
 use sheet::LOCK_LIMIT;
-use sheet::Locks;
 use sheet::PROFILE_BODY;
 use sheet::PROFILE_LIMIT;
 use sheet::Sizes;

@@ -128,7 +128,8 @@ module _ (keys : Keys) (mode : ProtMode) (f : Tam2) (reply : List ℕ)
 
 -- ---- what is handed over
 
-pub stored : (mode : ProtMode) (f : Tam2) (p words room after : List ℕ) (r : Judgement) → headerFits (f .rev) (f .custom) p ≡ true
+pub stored : (mode : ProtMode) (f : Tam2) (p words room after : List ℕ) (r : Judgement)
+    → headerFits (f .rev) (f .custom) p ≡ true
     → fillerFits (f .rev) (f .custom) p ≡ true
     → words ≡ wordsIn (f .rev) (f .custom) p → r ≡ saidOf (carries (worthOf mode) words)
     → after ≡ take (length words) words ++ drop (length words) room

@@ -1,6 +1,6 @@
 -- What the judge leaves behind, from what it says.
 use mathlib.Core.Path.{_≡_, refl, sym, ap, _∙_}
-use mathlib.Core.Bool.{Bool, true, false}
+use mathlib.Core.Bool.{Bool, true}
 use mathlib.Core.List.{List, [], _∷_}
 use Prim.Native.Nat.{ℕ, _≤_}
 use native.Mathlib.Omega.{arith}
@@ -46,7 +46,8 @@ pub judges-as : {f g : Finding} {room after : List ℕ} {r : Judgement} → f �
 judges-as e h = rw (← e) h
 
 -- A line of checks brings no data of its own.
-pub line-quiet : (cs : List (Check ReaderFault)) (found : Finding) → found .bytes ≡ [] → judgedTo refused cs found .bytes ≡ []
+pub line-quiet : (cs : List (Check ReaderFault)) (found : Finding) → found .bytes ≡ []
+    → judgedTo refused cs found .bytes ≡ []
 line-quiet cs found e = keeps refused found (λ (f : Finding). f .bytes ≡ []) (λ f. refl) e cs
 
 -- The judge, from the message's first byte on.

@@ -23,7 +23,8 @@ use Rattle.frames.specs.Modes.{inMode, protModeOf}
 use Rattle.payload.specs.Protected.{macFits}
 use Rattle.payload.specs.Data.{headerFits, fillerFits, wordsIn}
 use Rattle.reader.specs.declared.Keys.{Keys}
-use Rattle.reader.specs.declared.ReaderFault.the-variants.{ReplyLength, ChallengeWrong, MacWrong, HeaderWrong, OwnMessage}
+use Rattle.reader.specs.declared.ReaderFault.the-variants.{ReplyLength, ChallengeWrong, MacWrong, HeaderWrong}
+use Rattle.reader.specs.declared.ReaderFault.the-variants.{OwnMessage}
 use Rattle.reader_judge.specs.Findings.{Finding, refused, nothingMore, carries, worthOf, issues}
 use Rattle.reader_judge.specs.Opened.{openedBlock, blockFits, challengeIn, openedData}
 use Rattle.reader.specs.Own.{ownFits}

@@ -3,14 +3,14 @@ use mathlib.Core.Path.{_≡_, refl, sym, ap, subst₂, _∙_}
 use mathlib.Core.Bool.{true, false}
 use mathlib.Core.Logic.{inr}
 use mathlib.Core.List.{List, [], _∷_, _++_, append-assoc, append-nil}
-use Prim.Native.Nat.{ℕ, suc, _+_, _≤_, _<_}
+use Prim.Native.Nat.{ℕ, _+_, _≤_, _<_}
 use native.Mathlib.Omega.{arith}
 use lib.ListN.{length, take, length-append}
 use lib.Seq.{drop-at, length-take-le}
 use lib.Dec.{leb}
 use borrow.Author.Tests.{leb-true, ne-eqb}
 use Rattle.memory.specs.declared.Lock.{Lock}
-use Rattle.ground.specs.Bytes.{Bytes, byteAt, wordAt}
+use Rattle.ground.specs.Bytes.{Bytes, byteAt}
 use Rattle.ground.proofs.Bytes.{bytes-tail, bytes-take, bytes-drop}
 use Rattle.ground.proofs.Choice.{both-true}
 use Rattle.sheet.specs.Limits.{profileLimit, lockLimit}
@@ -20,22 +20,19 @@ use Rattle.sheet.specs.Records.{featuresRule, featuresOf, sizesRule, siz
 use Rattle.sheet.specs.Records.{profileRule, slotOf, lockRule, lockOf}
 use Rattle.sheet.specs.Judgement.{tooMany, withFeatures, withSizes, withKey, withProfile, withLock}
 use Rattle.sheet.specs.KeysMet.{keySaid}
-use Rattle.sheet.specs.Writer.{featuresBody, sizesBody, keyBody, profileBody, lockBody}
+use Rattle.sheet.specs.Writer.{featuresBody, keyBody, profileBody, lockBody}
 use Rattle.sheet.specs.Writer.{keysWritten, profilesWritten, locksWritten}
 use Rattle.sheet.specs.declared.Kind.{Kind}
 use Rattle.sheet.specs.declared.Kind.the-variants.{KeyRecord, LockRecord}
-use Rattle.sheet.specs.declared.Features.{Features}
-use Rattle.sheet.specs.declared.Sizes.{Sizes}
 use Rattle.sheet.specs.declared.Key.{Key}
 use Rattle.sheet.specs.declared.Slot.{Slot}
-use Rattle.sheet.specs.declared.Marks.{Marks}
 use Rattle.sheet.specs.declared.Gathered.{Gathered}
 use Rattle.sheet.proofs.Rules.{profile-place}
 use Rattle.sheet.proofs.Judgements.{key-room, lock-room}
 use Rattle.sheet.proofs.Walks.{Took, took-features, took-sizes, took-key, took-profile, took-lock, Step}
 use Rattle.sheet.proofs.Runs.{codeOf, kind-code}
 use Rattle.sheet.proofs.Tables.{longer}
-use Rattle.sheet.proofs.States.{marks-of, state, up-to, profile-marks, lock-marks, slot-gathered, lock-gathered}
+use Rattle.sheet.proofs.States.{marks-of, up-to, profile-marks, lock-marks, slot-gathered, lock-gathered}
 use Rattle.sheet.proofs.Sound.{Fine, Sound, none, first, more, opening, body}
 use Rattle.sheet.proofs.Forth.{features-iam, features-forth, sizes-low, sizes-forth}
 use Rattle.sheet.proofs.Forth.{key-rises, key-within, key-forth, profile-rises, profile-within, profile-forth}
@@ -73,7 +70,8 @@ unfolding locksWritten
 no-lock-bytes ls e = ap locksWritten e
 
 module _ (limit : ℕ) where
-  moved : {c c′ : List ℕ} {k k′ : Gathered} {ks : List Key} → c ≡ c′ → k ≡ k′ → Sound limit c k ks → Sound limit c′ k′ ks
+  moved : {c c′ : List ℕ} {k k′ : Gathered} {ks : List Key} → c ≡ c′ → k ≡ k′ → Sound limit c k ks
+      → Sound limit c′ k′ ks
   moved {ks = ks} p q s = subst₂ (λ (c : List ℕ) (k : Gathered). Sound limit c k ks) p q s
 
   -- 01

@@ -2,7 +2,7 @@
 -- them.
 use mathlib.Core.Path.{_≡_, refl, sym, ap, _∙_}
 use mathlib.Core.Bool.{true, false}
-use mathlib.Core.List.{List, [], _∷_, _++_, append-assoc}
+use mathlib.Core.List.{List, [], _∷_, _++_}
 use Prim.Native.Nat.{ℕ, zero, suc, _+_, _*_, _≤_, _<_}
 use native.Mathlib.Omega.{arith}
 use native.Mathlib.Nat.{le-refl}
@@ -13,7 +13,8 @@ use Rattle.octets.specs.Alike.{allZero}
 use Rattle.sheet.specs.Limits.{keyLimit, profileLimit, lockLimit, wordLimit}
 use Rattle.sheet.specs.Kinds.{kindOf, inOrder}
 use Rattle.sheet.specs.KeyTable.{recordsIn, keysIn, keyTable}
-use Rattle.sheet.specs.Setups.{setupOf, noFeatures, noSlot, noLock, emptyTerms, emptySetup, noMarks, nothingGathered}
+use Rattle.sheet.specs.Setups.{setupOf, noFeatures, noSlot, noLock, emptyTerms, emptySetup, noMarks}
+use Rattle.sheet.specs.Setups.{nothingGathered}
 use Rattle.sheet.specs.Records.{areaOf, wordsIn, inside, featuresRule, featuresOf, sizesRule, sizesOf}
 use Rattle.sheet.specs.Records.{keyRule, keyOf, profileRule, slotOf, lockRule, lockOf}
 use Rattle.sheet.specs.Judgement.{tooMany, openedOf, recordOf, judgedOf}

@@ -13,7 +13,7 @@ use Rattle.memory.specs.declared.Lock.{Lock}
 use Rattle.ground.specs.Choice.{implies}
 use Rattle.sheet.specs.Limits.{profileLimit, lockLimit, wordLimit}
 use Rattle.sheet.specs.Kinds.{kindOf, isUnknown, bodyLength, inOrder, keysAt}
-use Rattle.sheet.specs.KeyTable.{keyRecord, keysIn, keyTable}
+use Rattle.sheet.specs.KeyTable.{keyRecord, keyTable}
 use Rattle.sheet.specs.Setups.{Setup, setupOf, termsOf, noSlot, noLock, emptyTerms, noMarks, nothingGathered}
 use Rattle.sheet.specs.Judgement.{tooMany, openedOf, taken, recordOf, judgedOf}
 use Rattle.sheet.specs.Judgement.{withFeatures, withSizes, withKey, withProfile, withLock}

@@ -12,7 +12,7 @@ use Rattle.ground.specs.Bytes.{Bytes}
 use Rattle.sheet.specs.Limits.{profileLimit, lockLimit}
 use Rattle.sheet.specs.Kinds.{kindOf, bodyLength, inOrder}
 use Rattle.sheet.specs.KeyTable.{keysIn, keyTable}
-use Rattle.sheet.specs.Setups.{Setup, setupOf, noSlot, noLock, noMarks, nothingGathered}
+use Rattle.sheet.specs.Setups.{Setup, noSlot, noLock, noMarks, nothingGathered}
 use Rattle.sheet.specs.Judgement.{judgedOf, openedOf, tooMany, recordOf, withFeatures}
 use Rattle.sheet.specs.Sheet.{Accepted, readOf, saidOf}
 use Rattle.sheet.specs.KeysMet.{keySaid, metFrom, keysMet}
@@ -139,7 +139,12 @@ module _ (limit : ℕ) where
 
   begun : (s : List ℕ) → Sofar s [] nothingGathered
   unfolding keysMet
-  begun s = record { keys = []; sound = none; met = λ r e. ap (λ (l : List ℕ). metFrom limit l 0 nothingGathered) (sym e) }
+  begun s = record {
+    keys = [];
+    sound = none;
+    met = λ r e. ap (λ (l : List ℕ). metFrom limit l 0 nothingGathered)
+        (sym e);
+  }
 
   further : (s : List ℕ) → Bytes s → (c : List ℕ) (b : ℕ) (t : List ℕ) (k k′ : Gathered) (n : ℕ) → c ++ (b ∷ t) ≡ s
       → Step limit b t k k′ n → Sofar s c k → Sofar s (c ++ take n (b ∷ t)) k′

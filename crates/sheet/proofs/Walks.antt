@@ -119,7 +119,8 @@ module _ (limit at : ℕ) (k : Gathered) where
   walk-whole (b ∷ x ∷ t) h e = absurd (omega arith)
 
   pub walk-taken : (r : List ℕ) (n : ℕ) → 0 < length r → judgedOf limit r k .finding ≡ Taken n
-      → (1 ≤ n) × (n ≤ length r) × (walk limit r 0 at k ≡ walk limit (drop n r) 0 (at + n) (judgedOf limit r k .gathered))
+      → (1 ≤ n) × (n ≤ length r) × (walk limit r 0 at k ≡ walk limit (drop n r) 0 (at + n)
+      (judgedOf limit r k .gathered))
   unfolding walk after
   walk-taken [] n h e = absurd (not-suc-le-zero h)
   walk-taken (b ∷ t) n h e =

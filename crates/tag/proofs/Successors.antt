@@ -124,7 +124,8 @@ pub record Successor (c : Call) (tag : KeyedTag) (a : Answer) : Type 0 where
   pub row : tableA1 (tag .session .state) (kindOf first) ≡ a .tag .session .state ∷ []
 
 module _ (c : Call) where
-  refusal-not : (P : Effect → Type 0) (f : TagFault) (s : Session) → Accepted (refused c f s .outcome) → P (refused c f s)
+  refusal-not : (P : Effect → Type 0) (f : TagFault) (s : Session) → Accepted (refused c f s .outcome)
+      → P (refused c f s)
   unfolding refused
   refusal-not P f s h = absurd (h f refl)
 

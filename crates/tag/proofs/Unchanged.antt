@@ -43,7 +43,8 @@ module _ (P : TagFault → Type 0) where
   Each [] = Unit
   Each (k ∷ ks) = P (k .otherwise) × Each ks
 
-  after-fault : (b : Bool) (g f : TagFault) (v : Checked) → P g → (v ≡ Wrong f → P f) → pick b v (Wrong g) ≡ Wrong f → P f
+  after-fault : (b : Bool) (g f : TagFault) (v : Checked) → P g → (v ≡ Wrong f → P f) → pick b v (Wrong g) ≡ Wrong f
+      → P f
   after-fault true g f v p h e = h e
   after-fault false g f v p h e = let q : g ≡ f = cc in subst (λ (x : TagFault). P x) q p
 
@@ -60,7 +61,8 @@ ToInitial f = (held : Session) → sessionAfter f held ≡ cleared
 
 module _ (c : Call) (setup : Setup) where
   abbrev UnchangedInitial : Effect → Type 0
-  UnchangedInitial e = (f : TagFault) → e .outcome ≡ Refused f → Unchanged c (holding setup cleared) (answerWith setup e)
+  UnchangedInitial e = (f : TagFault) → e .outcome ≡ Refused f → Unchanged c (holding setup cleared)
+      (answerWith setup e)
       × ToInitial f
 
   refusal-keeps : (g : TagFault) → ToInitial g → UnchangedInitial (refused c g cleared)

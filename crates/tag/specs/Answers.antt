@@ -158,7 +158,8 @@ module _ (c : Call) where
   unfoldable pub effectOf : KeyedTag → Effect
   effectOf tag =
       ofLending (tag .setup) (tag .session)
-      (judged (lendingChecks (tag .setup .sizes) (length (c .draws)) (c .room) (length (c .identity)) (length (c .user))))
+      (judged (lendingChecks (tag .setup .sizes) (length (c .draws)) (c .room) (length (c .identity))
+      (length (c .user))))
 
   -- The tag's answer.
   abbrev pub answerOf : KeyedTag → Answer

@@ -51,7 +51,8 @@ module _ (keys : List Key) (m draws : List ℕ) (v : Checked) where
     tam1-judged : tam1Checked keys m ≡ v
     tam1-judged = sym (w ∙ (λ j. judged (openingChecks Tam1 (e j .rfu) (e j .keyid) keys m)))
 
-    pub tam1-wrong : (fault : TagFault) (g : Given) → v ≡ Wrong fault → (g .outcome ≡ Refused fault) × (g .reply ≡ zeros)
+    pub tam1-wrong : (fault : TagFault) (g : Given) → v ≡ Wrong fault → (g .outcome ≡ Refused fault)
+        × (g .reply ≡ zeros)
         → Gives (tam1Checked keys m) (tam1Sent keys m draws) g
     tam1-wrong fault g x t = refuses _ _ g fault (tam1-judged ∙ x) t
 
@@ -67,7 +68,8 @@ module _ (keys : List Key) (m draws : List ℕ) (v : Checked) where
 module _ (setup : Setup) (m draws : List ℕ) (v : Checked) where
   -- TAM2
   module _ (i u : List ℕ) (w : v ≡ tam2Checked setup m) where
-    pub tam2-wrong : (fault : TagFault) (g : Given) → v ≡ Wrong fault → (g .outcome ≡ Refused fault) × (g .reply ≡ zeros)
+    pub tam2-wrong : (fault : TagFault) (g : Given) → v ≡ Wrong fault → (g .outcome ≡ Refused fault)
+        × (g .reply ≡ zeros)
         → Gives (tam2Checked setup m) (tam2Sent setup m draws i u) g
     tam2-wrong fault g x t = refuses _ _ g fault (sym w ∙ x) t
 

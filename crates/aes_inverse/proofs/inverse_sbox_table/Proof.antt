@@ -1,5 +1,4 @@
 -- `aes_inverse::inverse_sbox_table` meets its contract: antt computes the inverse affine map, and the inverse's entry.
-use Rattle.ground.specs.Bytes.{bit}
 use Rattle.field.specs.Sbox.{fromBits}
 use Rattle.field.proofs.Inverses.{inverses}
 use Rattle.aes_inverse.specs.InvSbox.{invAffine, invAffineBit}

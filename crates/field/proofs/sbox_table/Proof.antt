@@ -1,5 +1,4 @@
 -- `field::sbox_table` meets its contract: antt computes the affine map of each inverse.
-use Rattle.ground.specs.Bytes.{bit}
 use Rattle.field.specs.Sbox.{affine, affineBit, fromBits}
 use Rattle.field.proofs.Inverses.{inverses}
 use Rattle.field.proofs.Inverse.{sbox-listed}

@@ -9,7 +9,8 @@ use Rattle.sheet.proofs.judge.Tie as tie
 returns : tie.Need-returns
 returns c =
     let a = c .before .before .args in
-    judge-told keyLimit (a .rest .now) (a .gathered) _ (judged-none keyLimit (a .rest .now) (a .gathered) (c .if1 .taken))
+    judge-told keyLimit (a .rest .now) (a .gathered) _ (judged-none keyLimit (a .rest .now) (a .gathered)
+    (c .if1 .taken))
 
 shared-slice-read-b : tie.Need-shared-slice-read-b
 shared-slice-read-b c = search needs
@@ -75,7 +76,8 @@ returns-2 c =
     let i = o .before .before in
     let a = i .before .before .args in
     judge-told keyLimit (a .rest .now) (a .gathered) _
-    (judged-shut keyLimit (a .rest .now) (a .gathered) _ _ (i .if1 .left) (o .opening .ensures) (c .before .f .given .1))
+    (judged-shut keyLimit (a .rest .now) (a .gathered) _ _ (i .if1 .left) (o .opening .ensures)
+    (c .before .f .given .1))
 
 returns-3 : tie.Need-returns-3
 returns-3 c =

@@ -84,7 +84,8 @@ module _ {M : Type 1} (𝓤 : URA M) (H : Heap 𝓤) (A : Atoms 𝓤) (mem : Mem
   Rest = tripleOf 𝓤 H A rest.signature (rest.spec 𝓤 H A mem run)
 
 -- from the sheet's first byte on, with nothing kept: the whole sheet
-whole-sheet : (s : RefT (List ℕ)) (r : Cursor) (k : Gathered) (t : Reading) → (r .sheet ≡ s) × (r .at ≡ 0) → k ≡ nothingGathered
+whole-sheet : (s : RefT (List ℕ)) (r : Cursor) (k : Gathered) (t : Reading) → (r .sheet ≡ s) × (r .at ≡ 0)
+    → k ≡ nothingGathered
     → ReadAs t (readFrom keyLimit (now (r .sheet)) (r .at) k) → ReadAs t (readOf keyLimit (now s))
 unfolding readOf
 whole-sheet s r k t e e₂ h =

@@ -65,7 +65,8 @@ proved-requires c κs =
     let b = c1 .blocks-length in (
       c10 .pre .2,
       c6 .first-opened .ensures,
-      opened-front (a .key) (a .mode) (a .f) (a .m .now) (c10 .pre .2) (replicate 144 0) (o .last .1 .1 .1 .1 .0) (b .result)
+      opened-front (a .key) (a .mode) (a .f) (a .m .now) (c10 .pre .2) (replicate 144 0) (o .last .1 .1 .1 .1 .0)
+          (b .result)
           (b .ensures)
           (o .ensures),
     )
@@ -80,7 +81,8 @@ returns c =
     let c13 = c2 .before .before .before .before .before .before .before .before .before .before .before in
     let a = c13 .args in
     let e : iam3Proof (a .key) (a .held) (a .f) (a .m .now) ≡ false =
-    proof-named (a .key) (a .held) (a .mode) (a .f) (a .m .now) (c13 .pre .1) ∙ sym (c2 .proved .ensures) ∙ not-true _ (c1 .if1 .taken) in
+    proof-named (a .key) (a .held) (a .mode) (a .f) (a .m .now) (c13 .pre .1) ∙ sym (c2 .proved .ensures)
+    ∙ not-true _ (c1 .if1 .taken) in
     record {
       outcome = rw e (c .refused .ensures .0);
       session = rw e (c .refused .ensures .1);
@@ -141,9 +143,11 @@ returns-2 c =
     let o = c16 .open-data in
     let w = c6 .write .ensures in
     let e : iam3Proof (a .key) (a .held) (a .f) (a .m .now) ≡ true =
-    proof-named (a .key) (a .held) (a .mode) (a .f) (a .m .now) (c22 .pre .1) ∙ sym (c11 .proved .ensures) ∙ not-false _ (c10 .if1 .left) in
+    proof-named (a .key) (a .held) (a .mode) (a .f) (a .m .now) (c22 .pre .1) ∙ sym (c11 .proved .ensures)
+    ∙ not-false _ (c10 .if1 .left) in
     let p =
-    opened-front (a .key) (a .mode) (a .f) (a .m .now) (c22 .pre .2) (replicate 144 0) (o .last .1 .1 .1 .1 .0) (b .result)
+    opened-front (a .key) (a .mode) (a .f) (a .m .now) (c22 .pre .2) (replicate 144 0) (o .last .1 .1 .1 .1 .0)
+    (b .result)
     (b .ensures) (o .ensures)
     ∙ sym (opened-named (a .key) (a .held) (a .mode) (a .f) (a .m .now) (c22 .pre .1)) in
     let x = c1 .purpose .ensures ∙ ap purposeIn (c18 .first-opened .ensures) in

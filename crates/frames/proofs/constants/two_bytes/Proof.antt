@@ -1,7 +1,6 @@
 -- `frames::constants::two_bytes` meets its contract.
 use mathlib.Core.Path.{refl}
 use borrow.Author.Needs.{needs}
-use Rattle.ground.specs.Bytes.{twoBytes}
 use Rattle.frames.proofs.constants.two_bytes.Statement.{statement}
 use Rattle.frames.proofs.constants.two_bytes.Tie as tie
 

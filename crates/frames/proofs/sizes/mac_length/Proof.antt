@@ -1,6 +1,4 @@
 -- `frames::sizes::mac_length` meets its contract.
-use mathlib.Core.Path.{sym, _∙_}
-use borrow.Author.Tests.{not-true, not-false}
 use Rattle.frames.specs.Lengths.{macLength}
 use borrow.Author.Needs.{needs}
 use Rattle.frames.proofs.sizes.mac_length.Statement.{statement}

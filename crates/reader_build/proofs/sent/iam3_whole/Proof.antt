@@ -23,10 +23,13 @@ iam3-response-requires c κs =
     let a = c .before .before .before .before .before .before .before in
     let n = array-length 16 (a .args .a) _ (a .good .1 .1 .1 .1 .0) in
     let b = c .before .before .before .iam3-into .ensures in (
-      block-first (a .args .keys) (a .args .custom) (a .args .protmode) (a .args .mode) (a .args .a) (a .args .p .now) n (a .pre .1)
+      block-first (a .args .keys) (a .args .custom) (a .args .protmode) (a .args .mode) (a .args .a) (a .args .p .now) n
+          (a .pre .1)
           (a .args .room .now) _ _ (a .pre .0) (a .pre .2) b,
-      whole-blocks (a .args .keys) (a .args .custom) (a .args .protmode) (a .args .mode) (a .args .a) (a .args .p .now) n (a .pre .1),
-      room-left (a .args .keys) (a .args .custom) (a .args .protmode) (a .args .mode) (a .args .a) (a .args .p .now) n (a .pre .1)
+      whole-blocks (a .args .keys) (a .args .custom) (a .args .protmode) (a .args .mode) (a .args .a) (a .args .p .now)
+          n (a .pre .1),
+      room-left (a .args .keys) (a .args .custom) (a .args .protmode) (a .args .mode) (a .args .a) (a .args .p .now) n
+          (a .pre .1)
           (a .args .room .now) _ _ (a .pre .0) (a .pre .2) b,
     )
 
@@ -40,9 +43,11 @@ returns : tie.Need-returns
 returns c =
     let a = c .before .before .before .before .before .before .before .before .before .before .before in
     let n = array-length 16 (a .args .a) _ (a .good .1 .1 .1 .1 .0) in (
-      c .iam3-length .ensures ∙ sym (whole-long (a .args .keys) (a .args .custom) (a .args .protmode) (a .args .mode) (a .args .a)
+      c .iam3-length .ensures ∙ sym (whole-long (a .args .keys) (a .args .custom) (a .args .protmode) (a .args .mode)
+          (a .args .a)
           (a .args .p .now) n (a .pre .1)),
-      whole-laid (a .args .keys) (a .args .custom) (a .args .protmode) (a .args .mode) (a .args .a) (a .args .p .now) n (a .pre .1)
+      whole-laid (a .args .keys) (a .args .custom) (a .args .protmode) (a .args .mode) (a .args .a) (a .args .p .now) n
+          (a .pre .1)
           (a .args .room .now) _ _ (a .pre .0) (a .pre .2)
           (c .before .before .before .before .before .before .before .iam3-into .ensures) _
           (c .before .before .before .iam3-response .ensures),

@@ -36,7 +36,8 @@ returns : tie.Need-returns
 returns c = let t = c .before .before .before .before .before .before .before in
     let b = t .before .before in
     let s = b .before .before .before .before in
-    opened-chained (s .args .keys) (s .args .mode) (s .args .f) (s .args .reply .now) (s .pre .0) (b .blocks-length .result)
+    opened-chained (s .args .keys) (s .args .mode) (s .args .f) (s .args .reply .now) (s .pre .0)
+    (b .blocks-length .result)
     (s .args .out .now) _ (b .blocks-length .ensures) (s .pre .1) _ _
     (sym (t .before .encrypts .ensures) ∙ t .if1 .taken)
     (c .before .before .before .before .before .first-block .ensures) (c .before .before .cbc-dec-aes-inv .ensures)
@@ -60,7 +61,8 @@ returns-2 : tie.Need-returns-2
 returns-2 c = let t = c .before .before .before .before .before in
     let b = t .before .before in
     let s = b .before .before .before .before in
-    opened-plain (s .args .keys) (s .args .mode) (s .args .f) (s .args .reply .now) (s .pre .0) (b .blocks-length .result)
+    opened-plain (s .args .keys) (s .args .mode) (s .args .f) (s .args .reply .now) (s .pre .0)
+    (b .blocks-length .result)
     (s .args .out .now) _ (b .blocks-length .ensures) (s .pre .1)
     (sym (t .before .encrypts .ensures) ∙ t .if1 .left) (c .before .before .copy .ensures .1)
 

@@ -41,7 +41,8 @@ returns : tie.Need-returns
 returns c = let b = c .before .before .before .before .before in
     let o = b .before .before .before in
     let s = o .before .before .before .before in
-    judges-as (ap (dataFinding (s .args .mode) (s .args .f)) (opened-front (s .args .keys) (s .args .mode) (s .args .f) (s .args .reply .now)
+    judges-as (ap (dataFinding (s .args .mode) (s .args .f)) (opened-front (s .args .keys) (s .args .mode) (s .args .f)
+    (s .args .reply .now)
     (s .pre .1) (b .blocks-length .result)
     (replicate 144 0) (o .open-data .last .1 .1 .1 .1 .0) (b .blocks-length .ensures) (o .open-data .ensures)))
     (c .before .before .judge-data .ensures)

@@ -4,7 +4,6 @@ use Prim.Native.Nat.{ℕ}
 use native.Mathlib.Omega.{arith}
 use lib.ListN.{length-replicate}
 use lib.Seq.{length-take-le}
-use Rattle.field.proofs.Arrays.{array-length}
 use Rattle.tam.proofs.Tam2Made.{data-most, carried-made}
 use borrow.Author.Needs.{needs}
 use Rattle.tam.proofs.replies.carried.Statement.{statement}

@@ -3,7 +3,6 @@ use mathlib.Core.Path.{_≡_, sym}
 use native.Mathlib.Omega.{arith}
 use lib.ListN.{length, take}
 use lib.Seq.{length-take-le}
-use Rattle.field.proofs.Arrays.{array-length}
 use Rattle.payload.proofs.Data.{blocks-fit}
 use Rattle.payload.proofs.Lengths.{blocks-whole}
 use Rattle.tam.proofs.Tam2Made.{tam2-made}
@@ -73,7 +72,8 @@ returns c =
     let n =
     c .before .before .before .before .before .before .before .before .before .before .before .before
     .before .blocks-length in
-    let p = c .before .before .before .before .before .before .before .before .before .before .before .before .carried in
+    let p = c .before .before .before .before .before .before .before .before .before .before .before .before .carried
+    in
     let k = c .before .before .before .before .before .before .before .before .before .before .before .tam2-constant in
     let b = c .before .before .before .before .before .before .before .before .before .before .tam-block in
     let r = c .before .before .before .before .before .before .before .authenticated in
