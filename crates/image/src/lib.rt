@@ -31,10 +31,10 @@ pub const LOCKS_AT: usize = LOCK_COUNT_AT + 1;
 
 pub const KEY_COUNT_AT: usize = LOCKS_AT + LOCK_LIMIT * LOCK_BODY;
 
-pub const KEYS_AT: usize = KEY_COUNT_AT + 2;
+pub const KEY_TABLE_AT: usize = KEY_COUNT_AT + 2;
 
 /// The bytes of an image: 793.
-pub const IMAGE: usize = KEYS_AT + KEY_LIMIT * KEY_RECORD;
+pub const IMAGE: usize = KEY_TABLE_AT + KEY_LIMIT * KEY_RECORD;
 
 /// What the tag of an image holds.
 ///

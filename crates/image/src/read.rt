@@ -2,7 +2,7 @@
 use crate::FEATURES_AT;
 use crate::IMAGE;
 use crate::KEY_COUNT_AT;
-use crate::KEYS_AT;
+use crate::KEY_TABLE_AT;
 use crate::LOCK_COUNT_AT;
 use crate::LOCKS_AT;
 use crate::PROFILES_AT;
@@ -150,10 +150,10 @@ pub fn key_table(image: &[u8]) -> &[u8]
 {
     let records = word_at(image, KEY_COUNT_AT) as usize;
     if KEY_LIMIT < records {
-        return &image[KEYS_AT..IMAGE];
+        return &image[KEY_TABLE_AT..IMAGE];
     }
-    let end = KEYS_AT + KEY_RECORD * records;
-    &image[KEYS_AT..end]
+    let end = KEY_TABLE_AT + KEY_RECORD * records;
+    &image[KEY_TABLE_AT..end]
 }
 
 // Is nothing held where no challenge waits?

@@ -2,7 +2,7 @@
 use crate::FEATURES_AT;
 use crate::IMAGE;
 use crate::KEY_COUNT_AT;
-use crate::KEYS_AT;
+use crate::KEY_TABLE_AT;
 use crate::LOCK_COUNT_AT;
 use crate::LOCKS_AT;
 use crate::PROFILES_AT;
@@ -210,6 +210,6 @@ pub fn made(terms: Terms, table: &[u8]) -> [u8; IMAGE]
     let n = table.len() / KEY_RECORD;
     let records = [(n / 256) as u8, (n % 256) as u8];
     payload::put(&mut image, KEY_COUNT_AT, &records);
-    payload::put(&mut image, KEYS_AT, table);
+    payload::put(&mut image, KEY_TABLE_AT, table);
     image
 }
