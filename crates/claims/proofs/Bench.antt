@@ -14,7 +14,8 @@ use Rattle.sheet.specs.KeyTable.{recordsIn, keysIn, keyTable}
 use Rattle.sheet.specs.Limits.{keyLimit, profileLimit, lockLimit, wordLimit}
 use Rattle.sheet.specs.Kinds.{kindOf, inOrder}
 use Rattle.sheet.specs.Setups.{noSlot, noLock, emptyTerms, noMarks, nothingGathered}
-use Rattle.sheet.specs.Records.{areaOf, wordsIn, inside, allZero, featuresRule, featuresOf, sizesRule, sizesOf}
+use Rattle.octets.specs.Alike.{allZero}
+use Rattle.sheet.specs.Records.{areaOf, wordsIn, inside, featuresRule, featuresOf, sizesRule, sizesOf}
 use Rattle.sheet.specs.Records.{keyRule, keyOf, profileRule, slotOf}
 use Rattle.sheet.specs.Judgement.{tooMany, openedOf, withFeatures, withSizes, withKey, withProfile, recordOf}
 use Rattle.sheet.specs.Judgement.{judgedOf}

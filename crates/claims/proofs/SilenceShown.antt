@@ -153,7 +153,6 @@ answered : (enc : List ℕ) (l : Key) (a b : ℕ) → answers (carrying (ours en
     } ∷ []
 unfolding run answerTo poweredUp effectOf lendingChecks judgedTo ofMessage inOrder kindOf tamKind offered inTurn byKind
     tam1Answer tam1Of bytesFrom openingChecks lengthFits hasKey keyWith carrying ifFine replied tam1Reply tamBlock
-    twoBytes
 answered enc l a b = refl
 
 -- Two tags that differ in the ENC_key of record 1, and are told apart by their replies.
@@ -212,7 +211,7 @@ unfolding run answerTo poweredUp effectOf lendingChecks judgedTo ofMessage inOrd
     tam2Answer tam2Of bytesFrom sizeOf selectCustom tam2Checks lengthFits sizeOffered revOffered modeSupported
     modeServed modeOffered protModeOf hasMac hasKey keyWith slotNamed blockAsked wordsAsked addressOf stepOf overruns
     profileEnd lastWord
-    permitted windowOf areaOf partOf within carrying ifFine replied tam2Reply tam2InMode tam2Body tamBlock twoBytes
+    permitted windowOf areaOf partOf within carrying ifFine replied tam2Reply tam2InMode tam2Body tamBlock
     byMode
     tam2Constant encrypts withMac carriedData filled headerOf headerStart headerLength headerPart dataLength carried
     blocksLength dOf blockBytes blockSizeBit

@@ -14,6 +14,7 @@ use memory::Lock;
 use memory::Profile;
 use memory::Word;
 use octets::word_at;
+use sheet::KEY_LIMIT;
 use sheet::KEY_RECORD;
 use sheet::LOCK_BODY;
 use sheet::LOCK_LIMIT;
