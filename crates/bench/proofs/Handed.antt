@@ -1,4 +1,5 @@
--- A function over a cursor that hands its sheet, its place and what was kept to a function over slice and number, and
+-- A function over a cursor that hands its sheet, its place and what was gathered to a function over slice and number,
+-- and
 -- returns what that one returns: a walk of its MIR, by hand, for any such callee. All that the walk knows of the callee
 -- is that it meets its contract. The cursor is Copy: what it owns is had twice, one copy is kept whole for the exit,
 -- and of the other what the sheet owns goes to the callee, beside the lifetime's token, which comes back.
@@ -67,7 +68,7 @@ handing callee τ = record {
 }
 
 -- The callee's name; the type of its result, as the definitions and as the machine have it; and what it finds in a
--- sheet, at a place, against what was kept.
+-- sheet, at a place, against what was gathered.
 module _ (#work : Name) (N : RattleType) (τ : Ty) (Found : RefT (List ℕ) → ℕ → Gathered → N .Denot → Type 0) where
   abbrev Typed : Type 0
   Typed = (r : N .Denot) (u : Val) → Is N r (u ∷ []) → Holds (hasTy τ u) × WT u

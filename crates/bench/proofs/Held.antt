@@ -1,4 +1,5 @@
--- A cursor's row over a signature's lifetime, and the machine value of what is kept: what the walks over a cursor name.
+-- A cursor's row over a signature's lifetime, and the machine value of what is gathered: what the walks over a cursor
+-- name.
 use contract.Lifetimes.{Lfts}
 use mir.Val.{Val}
 use denote.RattleType.{RattleType}

@@ -100,7 +100,7 @@ sheet-number Value = (omega arith, omega arith)
 sheet-number Many = (omega arith, omega arith)
 sheet-number Tail = (omega arith, omega arith)
 
--- a record that is refused leaves what was kept
+-- a record that is refused leaves what was gathered
 abbrev Leaves : Gathered → Judged → Type 0
 Leaves k j = (f : SheetFault) → j .finding ≡ Faulty f → j .gathered ≡ k
 

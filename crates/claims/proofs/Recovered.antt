@@ -122,5 +122,6 @@ taken = refl
 
 pub reply-fixed : drawn 0 ≡ remade key iam1 (trndIn keys (drawn 0)) (judgementOf keys iam1 (drawn 0) 144)
     (kindOf (byteAt iam1 0))
-reply-fixed = fixed keys key iam1 (drawn 0) 144 (record { enc = refl; mac = refl; mackey = refl }) (zeros 16) (zeros 10)
-    taken
+reply-fixed =
+    fixed keys key iam1 (drawn 0) 144 (record { has = record { enc = refl; mackey = refl }; mac = refl }) (zeros 16)
+    (zeros 10) taken

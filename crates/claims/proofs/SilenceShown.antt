@@ -6,7 +6,6 @@ use mathlib.Core.List.{List, [], _∷_, _++_, append-cancel-left, append-cancel-
 use Prim.Native.Nat.{ℕ, zero, suc, _/_, _%_}
 use native.Mathlib.Omega.{arith}
 use lib.ListN.{length, getD, replicate}
-use Rattle.ground.specs.Bytes.{twoBytes}
 use Rattle.field.specs.Block.{xor}
 use Rattle.field.specs.Field.{times, remainder, polynomialProduct, productOfSquares, inverse}
 use Rattle.field.specs.Sbox.{sbox, affine, affineBit, fromBits}

@@ -96,7 +96,7 @@ SheetAnswers =
     → readOf keyLimit s .verdict ≡ NoSheet f at
     → FromTo 30 35 (sheet.numberOf f) × (readOf keyLimit s .terms ≡ emptyTerms) × (readOf keyLimit s .keys ≡ 0)
 
--- `sheet::judge`: a record that is refused leaves what was kept.
+-- `sheet::judge`: a record that is refused leaves what was gathered.
 abbrev pub RecordAnswers : Type 0
 RecordAnswers =
     (s : List ℕ) (k : Gathered) (f : SheetFault)

@@ -1,5 +1,5 @@
 -- A reply that is accepted fixes its content: the own message, the keys, what the judge handed over and the tag's
--- random bytes make every byteAt of it.
+-- random bytes make every byte of it.
 use mathlib.Core.Path.{_≡_}
 use mathlib.Core.Bool.{Bool, true, false}
 use mathlib.Core.List.{List, []}

@@ -11,7 +11,8 @@ use Rattle.frames.specs.Constants.{tam2Constant, iam3Constant, byMode, w
 use Rattle.memory.specs.Address.{blockSizeBit}
 use Rattle.frames.specs.Fields.{sizeOf, selectBytes, selectCustom}
 use Rattle.frames.specs.Header.{headerStart, headerOf}
-use Rattle.frames.specs.Modes.{hasMac}
+use Rattle.frames.specs.Modes.{protModeOf, hasMac}
+use Rattle.frames.specs.declared.ProtModeField.the-variants.{Mode, NoMode}
 use Rattle.frames.specs.declared.ProtMode.the-variants.{Plaintext, Cbc, Cmac, CbcCmac}
 use Rattle.frames.specs.Lengths.{macLength, iam3MacAt, iam3Length, tam2MacAt, tam2ReplyLength}
 use Rattle.frames.specs.Messages.{tam2Message, iam3Of}
@@ -84,3 +85,9 @@ pub constants : (twoBytes (tam2Constant false CbcCmac) ≡ 0x96 ∷ 0xC5 ∷ [])
     × (withPurpose (iam3Constant CbcCmac) 15 ≡ 0xDA ∷ 0xBF ∷ [])
 unfolding tam2Constant iam3Constant byMode withPurpose
 constants = (refl, refl, refl, refl, refl, refl, refl)
+
+-- Table 3, row by row; 4 and 15 stand for the values that it leaves open
+pub modes : (protModeOf 0 ≡ Mode Plaintext) × (protModeOf 1 ≡ Mode Cbc) × (protModeOf 2 ≡ Mode Cmac)
+    × (protModeOf 3 ≡ Mode CbcCmac) × (protModeOf 4 ≡ NoMode) × (protModeOf 15 ≡ NoMode)
+unfolding protModeOf
+modes = (refl, refl, refl, refl, refl, refl)

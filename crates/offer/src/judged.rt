@@ -2,6 +2,7 @@
 use super::Checked;
 use super::TagFault;
 use frames::Kind;
+use frames::sizes::REPLY_ROOM;
 use frames::sizes::length_fits;
 use sheet::Sizes;
 ghost use mathlib.Core.Path.{_≡_};
@@ -12,9 +13,6 @@ ghost use Rattle.offer.specs.Judged.{lendingChecks, openingChecks};
 /// The draws that each call brings.
 const DRAWS: usize = 10;
 
-/// The least room that a call must lend for the reply.
-const ROOM: usize = 172;
-
 /// Number 7: the draws, the room and the areas that the bench lends, by their lengths in bytes.
 ///
 /// Ruled out: a room of exactly 172 bytes refused; an area measured in words.
@@ -24,7 +22,7 @@ pub fn lending(sizes: Sizes, draws: usize, room: usize, identity: usize, user: u
     if draws != DRAWS {
         return Checked::Wrong(TagFault::BenchFault);
     }
-    if room < ROOM {
+    if room < REPLY_ROOM {
         return Checked::Wrong(TagFault::BenchFault);
     }
     if identity != sizes.identity as usize * 2 {

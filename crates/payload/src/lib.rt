@@ -81,8 +81,7 @@ fn lay(room: &mut [u8], a: &[u8], b: &[u8])
 
 /// Header (in Rev 1), data and zeros up to D blocks, into the first bytes of a room (9.2). Where a field does not fit
 /// its bits, the data are not as long as BlockSize and BlockCount say, or the room is too short, the answer is false
-/// and
-/// no byte changes.
+/// and no byte changes.
 ///
 /// Ruled out: a header in Rev 0; a last block that is filled with what the room held; too few data filled up with
 /// zeros.

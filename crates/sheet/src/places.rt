@@ -12,8 +12,7 @@ ghost use Rattle.sheet.specs.Judgement.{judgedOf, JudgedAs};
 ghost use Rattle.sheet.specs.Sheet.{readFrom, furtherOn, ReadAs};
 
 /// The record at a place, judged against what was gathered of those before it. Behind the sheet's end there is none: it
-/// is
-/// cut short.
+/// is cut short.
 ///
 /// Ruled out: a judge that reads the first record wherever it is asked; one that takes a place behind the end for the
 /// end record.

@@ -9,7 +9,16 @@ use std::path::{Path, PathBuf};
 pub const PROGRAM: &str = "roualint";
 
 /// What reads commands and writes answers, and holds nothing of the standard.
-const AROUND: [&str; 5] = ["console", "demo", "desk", "lines", "text"];
+const AROUND: [&str; 8] = [
+    "cipher_commands",
+    "commands",
+    "console",
+    "lines",
+    "reader_commands",
+    "tag_commands",
+    "text",
+    "texts",
+];
 
 /// A crate and what it names.
 struct Line {

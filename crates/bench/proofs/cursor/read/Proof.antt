@@ -1,5 +1,5 @@
 -- `bench::cursor::read` meets its contract: a walk of its MIR, by hand. A cursor is opened in a local, and goes to
--- `rest` with what is kept before the first record.
+-- `rest` with what is gathered before the first record.
 -- All that the proof knows of `open`, `sheet::start` and `rest` is that each meets its contract. A `&[u8]` is Copy:
 -- what the sheet owns is had twice, and one copy is kept for the exit.
 use mathlib.Core.Path.{_≡_, refl, subst}
@@ -83,7 +83,7 @@ module _ {M : Type 1} (𝓤 : URA M) (H : Heap 𝓤) (A : Atoms 𝓤) (mem : Mem
   abbrev Rest : Contract 𝓤
   Rest = tripleOf 𝓤 H A rest.signature (rest.spec 𝓤 H A mem run)
 
--- from the sheet's first byte on, with nothing kept: the whole sheet
+-- from the sheet's first byte on, with nothing gathered: the whole sheet
 whole-sheet : (s : RefT (List ℕ)) (r : Cursor) (k : Gathered) (t : Reading) → (r .sheet ≡ s) × (r .at ≡ 0)
     → k ≡ nothingGathered
     → ReadAs t (readFrom keyLimit (now (r .sheet)) (r .at) k) → ReadAs t (readOf keyLimit (now s))
@@ -139,7 +139,7 @@ module _ {M : Type 1} (𝓤 : URA M) (H : Heap 𝓤) (A : Atoms 𝓤) (W : Given
       (fact 𝓤 (k ≡ nothingGathered))
   start-said k = exE 𝓤 _ (λ ws. snd∗ 𝓤 (sem 𝓤 H A (lasts start.ended tt tt ws)) (fact 𝓤 (k ≡ nothingGathered)))
 
-  -- the call of `rest`, at the cursor r and what is kept, with the machine values u and w
+  -- the call of `rest`, at the cursor r and what is gathered, with the machine values u and w
   abbrev to-rest : Cursor → Gathered → Val → Val → Rest 𝓤 H A mem run .Ghost
   to-rest r k u w = (((κ, tt), (q, tt), tt, (r, (k, tt)), (u ∷ [], (w ∷ [], tt))), tt)
 
@@ -197,7 +197,7 @@ module _ {M : Type 1} (𝓤 : URA M) (H : Heap 𝓤) (A : Atoms 𝓤) (W : Given
         pick ! (λ k.
         split ! $ move ! (1 ∷ []) $ use1 W (raw (fact 𝓤 (k ≡ nothingGathered))) (start-said k) $
         heard ! (k ≡ nothingGathered) (λ e₂. split ! $ drop ! $
-        -- [what is kept owns; what the cursor owns; the token; what the sheet owns; room for _3; …; _2; …]
+        -- [what is gathered owns; what the cursor owns; the token; what the sheet owns; room for _3; …; _2; …]
         peeks ! K.the-row (Is K.the-row) (shows 𝓤 H A K.the-row) k (w ∷ []) (λ is₂.
         land ! (from ! (stop !)) (init ! 4 refl (LL.lawful K.the-type K′.the-laws 𝓤 H A W .typed k _ is₂ .0)) $
         use3 W (raw (Rest 𝓤 H A mem run .pre (to-rest r k u w))) (goes-rest r k u w) $
