@@ -63,18 +63,19 @@ use Rattle.tag.specs.States.{keyed, keyless}
 use Rattle.offer.specs.Outcomes as outcomes
 use Rattle.tag.specs.Reactions.{lent}
 use Rattle.tag.proofs.Unchanged.{refusal-unchanged}
-use Rattle.claims.specs.Answered.{FromTo, TagAnswers, SheetAnswers, RecordAnswers, ChainAnswers, LayerAnswers}
+use Rattle.claims.specs.Answered.{Among, tagNumbers, sheetNumbers, TagAnswers, SheetAnswers, RecordAnswers}
+use Rattle.claims.specs.Answered.{ChainAnswers, LayerAnswers}
 
 -- ---- the tag
 
-tag-number : (f : TagFault) → FromTo 1 7 (outcomes.numberOf f)
-tag-number OtherError = (omega arith, omega arith)
-tag-number NotSupported = (omega arith, omega arith)
-tag-number MemoryOverrun = (omega arith, omega arith)
-tag-number MemoryWriteError = (omega arith, omega arith)
-tag-number OutOfTurn = (omega arith, omega arith)
-tag-number ProofWrong = (omega arith, omega arith)
-tag-number BenchFault = (omega arith, omega arith)
+tag-number : (f : TagFault) → Among tagNumbers (outcomes.numberOf f)
+tag-number OtherError = refl
+tag-number NotSupported = refl
+tag-number MemoryOverrun = refl
+tag-number MemoryWriteError = refl
+tag-number OutOfTurn = refl
+tag-number ProofWrong = refl
+tag-number BenchFault = refl
 
 pub tag-answers : TagAnswers
 tag-answers table tag identity user b x f h e =
@@ -92,13 +93,13 @@ tag-answers table tag identity user b x f h e =
 
 -- ---- the sheet
 
-sheet-number : (f : SheetFault) → FromTo 30 35 (sheet.numberOf f)
-sheet-number Cut = (omega arith, omega arith)
-sheet-number Unknown = (omega arith, omega arith)
-sheet-number Order = (omega arith, omega arith)
-sheet-number Value = (omega arith, omega arith)
-sheet-number Many = (omega arith, omega arith)
-sheet-number Tail = (omega arith, omega arith)
+sheet-number : (f : SheetFault) → Among sheetNumbers (sheet.numberOf f)
+sheet-number Cut = refl
+sheet-number Unknown = refl
+sheet-number Order = refl
+sheet-number Value = refl
+sheet-number Many = refl
+sheet-number Tail = refl
 
 -- a record that is refused leaves what was gathered
 abbrev Leaves : Gathered → Judged → Type 0

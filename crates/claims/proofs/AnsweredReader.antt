@@ -1,5 +1,5 @@
 -- Demand 1 of the reader's side, proved: by the cases of its list.
-use mathlib.Core.Path.{_≡_, sym, ap, _∙_}
+use mathlib.Core.Path.{_≡_, refl, sym, ap, _∙_}
 use mathlib.Core.Bool.{Bool, true, false}
 use mathlib.Core.List.{List, [], _∷_}
 use Prim.Native.Nat.{ℕ}
@@ -42,14 +42,14 @@ use Rattle.reader_judge.specs.Judged.{
   judgementOf,
 }
 use Rattle.reader_build.specs.Makes.{taken, madeNumber}
-use Rattle.claims.specs.Answered.{FromTo, JudgeAnswers, BuilderAnswers}
+use Rattle.claims.specs.Answered.{Among, readerNumbers, JudgeAnswers, BuilderAnswers}
 
-reader-number : (f : ReaderFault) → FromTo 20 24 (numberOf f)
-reader-number ReplyLength = (omega arith, omega arith)
-reader-number ChallengeWrong = (omega arith, omega arith)
-reader-number MacWrong = (omega arith, omega arith)
-reader-number HeaderWrong = (omega arith, omega arith)
-reader-number OwnMessage = (omega arith, omega arith)
+reader-number : (f : ReaderFault) → Among readerNumbers (numberOf f)
+reader-number ReplyLength = refl
+reader-number ChallengeWrong = refl
+reader-number MacWrong = refl
+reader-number HeaderWrong = refl
+reader-number OwnMessage = refl
 
 -- ---- the judge
 

@@ -32,7 +32,7 @@ use Rattle.reader_build.specs.declared.Made.the-variants.{Refused as NotMade}
 use Rattle.reader.specs.Numbers as reader
 use Rattle.reader_judge.specs.Findings as findings
 use Rattle.reader_judge.specs.Judged.{judgementOf}
-use Rattle.claims.specs.Answered.{FromTo, TagRefused, JudgeRefused}
+use Rattle.claims.specs.Answered.{Among, sheetNumbers, TagRefused, JudgeRefused}
 use Rattle.claims.specs.ShutOut.{
   Program,
   steps,
@@ -66,11 +66,11 @@ pub builder-refused : (reader.numberOf OwnMessage ≡ 24) × (_≡_ {A = List �
 builder-refused = builder-answers true [] [] (NotMade OwnMessage) [] OwnMessage
     (record { says = refl; number = refl; holds = refl }) refl
 
-pub sheet-refused : FromTo 30 35 (sheet.numberOf Cut) × (readOf keyLimit [] .terms ≡ emptyTerms)
+pub sheet-refused : Among sheetNumbers (sheet.numberOf Cut) × (readOf keyLimit [] .terms ≡ emptyTerms)
     × (readOf keyLimit [] .keys ≡ 0)
 sheet-refused = sheet-answers [] Cut 0 (ap (λ (r : Reading). r .verdict) (example-12 keyLimit))
 
-pub record-refused : FromTo 30 35 (sheet.numberOf Cut) × (judgedOf keyLimit [] nothingGathered .gathered ≡
+pub record-refused : Among sheetNumbers (sheet.numberOf Cut) × (judgedOf keyLimit [] nothingGathered .gathered ≡
     nothingGathered)
 unfolding judgedOf
 record-refused = record-answers [] nothingGathered Cut refl

@@ -3,12 +3,14 @@ pub mod Opened
 pub mod InTurn
 pub mod EntryIam3
 pub mod Entry
+pub mod Openings
 pub mod Opens
 pub mod Data
 pub mod Windows
 pub mod Recovery
 pub mod Answered
 pub mod AnsweredReader
+pub mod Contracts
 pub mod Edges
 pub mod Bench
 pub mod ShutOut

@@ -3,10 +3,12 @@
 -- memory word, and leaves the tag in the state that the list names.
 use mathlib.Core.Path.{_≡_}
 use mathlib.Core.Logic.{_⊎_}
-use mathlib.Core.Bool.{Bool, false}
-use mathlib.Core.List.{List}
-use Prim.Native.Nat.{ℕ, _≤_}
+use mathlib.Core.Bool.{Bool, true, false}
+use mathlib.Core.List.{List, [], _∷_}
+use Prim.Native.Nat.{ℕ}
+use lib.Dec.{eqb}
 use lib.ListN.{length, replicate}
+use Rattle.ground.specs.Choice.{either}
 use Rattle.modes.specs.declared.Chaining.{Chaining}
 use Rattle.modes.specs.Room as room
 use Rattle.sheet.specs.declared.SheetFault.{SheetFault}
@@ -37,16 +39,30 @@ use Rattle.reader_judge.specs.Findings.{Judges}
 use Rattle.reader_judge.specs.Judged.{judgementOf}
 use Rattle.reader_build.specs.Makes.{Makes}
 
--- The numbers from a to b.
-abbrev pub FromTo : ℕ → ℕ → ℕ → Type 0
-FromTo a b n = (a ≤ n) × (n ≤ b)
+-- The scope paper's numbers: of the tag, of the reader's side, of the sheet.
+abbrev pub tagNumbers : List ℕ
+tagNumbers = 1 ∷ 2 ∷ 3 ∷ 4 ∷ 5 ∷ 6 ∷ 7 ∷ []
+
+abbrev pub readerNumbers : List ℕ
+readerNumbers = 20 ∷ 21 ∷ 22 ∷ 23 ∷ 24 ∷ []
+
+abbrev pub sheetNumbers : List ℕ
+sheetNumbers = 30 ∷ 31 ∷ 32 ∷ 33 ∷ 34 ∷ 35 ∷ []
+
+-- A number of a list.
+abbrev pub among : List ℕ → ℕ → Bool
+among [] n = false
+among (k ∷ ks) n = either (eqb n k) (among ks n)
+
+abbrev pub Among : List ℕ → ℕ → Type 0
+Among ks n = among ks n ≡ true
 
 -- ---- the tag
 
 -- A call that was refused: its number, the room and both areas with their bytes, and the tag: in Initial with nothing
 -- held (1 to 6), or as it was (7).
 pub record TagRefused (tag : Tag) (identity user : List ℕ) (b : Brought) (x : Left) (f : TagFault) : Type 0 where
-  pub number : FromTo 1 7 (outcomes.numberOf f)
+  pub number : Among tagNumbers (outcomes.numberOf f)
   pub silent : x .room ≡ b .room
   pub identity-kept : x .identity ≡ identity
   pub user-kept : x .user ≡ user
@@ -65,7 +81,7 @@ TagAnswers =
 
 -- `reader_judge::judge`: 20 to 24, no data, no challenge, and the data room as it was.
 pub record JudgeRefused (room : List ℕ) (r : Judgement) (after : List ℕ) (f : ReaderFault) : Type 0 where
-  pub number : FromTo 20 24 (reader.numberOf f)
+  pub number : Among readerNumbers (reader.numberOf f)
   pub silent : after ≡ room
   pub bytes : r .«data» ≡ 0
   pub worth : r .worth ≡ NoData
@@ -94,14 +110,14 @@ abbrev pub SheetAnswers : Type 0
 SheetAnswers =
     (s : List ℕ) (f : SheetFault) (at : ℕ)
     → readOf keyLimit s .verdict ≡ NoSheet f at
-    → FromTo 30 35 (sheet.numberOf f) × (readOf keyLimit s .terms ≡ emptyTerms) × (readOf keyLimit s .keys ≡ 0)
+    → Among sheetNumbers (sheet.numberOf f) × (readOf keyLimit s .terms ≡ emptyTerms) × (readOf keyLimit s .keys ≡ 0)
 
 -- `sheet::judge`: a record that is refused leaves what was gathered.
 abbrev pub RecordAnswers : Type 0
 RecordAnswers =
     (s : List ℕ) (k : Gathered) (f : SheetFault)
     → judgedOf keyLimit s k .finding ≡ Faulty f
-    → FromTo 30 35 (sheet.numberOf f) × (judgedOf keyLimit s k .gathered ≡ k)
+    → Among sheetNumbers (sheet.numberOf f) × (judgedOf keyLimit s k .gathered ≡ k)
 
 -- ---- chaining and MAC, and the parts of messages
 

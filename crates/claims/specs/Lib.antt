@@ -1,6 +1,7 @@
 -- What holds of the two halves together, and the demands.
 pub mod HasKeys
 pub mod Entry
+pub mod Openings
 pub mod Recovery
 pub mod Answered
 pub mod Edges
