@@ -6,7 +6,7 @@ use memory::Offset;
 pub mod first; // first.rt: which message a first byte begins
 pub mod sizes; // sizes.rt: D, and the lengths of messages and replies
 mod parts; // parts.rt: bytes into a room
-pub mod modes; // modes.rt: the modes of Table 3
+pub mod protection; // protection.rt: the modes of Table 3
 pub mod fields; // fields.rt: the fields of each message
 pub mod build; // build.rt: each message, and the header, into a room
 pub mod constants; // constants.rt: the constants of Table 1

@@ -2,7 +2,7 @@
 use frames::Custom;
 use frames::ProtMode;
 use frames::build::header_into;
-use frames::modes::has_mac;
+use frames::protection::has_mac;
 use frames::sizes::DATA_ROOM;
 use frames::sizes::blocks_length;
 use frames::sizes::data_length;

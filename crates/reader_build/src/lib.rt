@@ -22,7 +22,7 @@ use frames::build::tam2_into;
 use frames::constants::iam2_constant;
 use frames::constants::iam3_constant;
 use frames::constants::mam2_constant;
-use frames::modes::prot_mode;
+use frames::protection::prot_mode;
 use frames::sizes::DATA_ROOM;
 use frames::sizes::MESSAGE_ROOM;
 use frames::sizes::blocks_length;

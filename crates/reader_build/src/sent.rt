@@ -4,7 +4,7 @@ use frames::Custom;
 use frames::Iam3;
 use frames::ProtMode;
 use frames::build::iam3_into;
-use frames::modes::encrypts;
+use frames::protection::encrypts;
 use frames::sizes::iam3_length;
 use payload::block_of;
 use payload::mac_behind;

@@ -1,7 +1,7 @@
 // What the reader opens of a reply (9.4.4, 9.4.7, 9.6.4).
 use frames::ProtMode;
 use frames::Tam2;
-use frames::modes::encrypts;
+use frames::protection::encrypts;
 use frames::sizes::blocks_length;
 use frames::sizes::tam2_mac_at;
 use octets::same;

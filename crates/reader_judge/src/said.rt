@@ -3,7 +3,7 @@ use super::Judgement;
 use super::Verdict;
 use super::Worth;
 use frames::ProtMode;
-use frames::modes::has_mac;
+use frames::protection::has_mac;
 use reader::ReaderFault;
 ghost use mathlib.Core.Path.{_≡_};
 ghost use Rattle.reader_judge.specs.Findings.{silent, refused, issues, carries, worthOf, saidOf};

@@ -10,7 +10,7 @@ use frames::ProtMode;
 use frames::ProtModeField;
 use frames::Tam2;
 use frames::constants::tam2_constant;
-use frames::modes::prot_mode;
+use frames::protection::prot_mode;
 use frames::sizes::DATA_ROOM;
 use frames::sizes::blocks_length;
 use frames::sizes::tam2_reply_length;

@@ -1,8 +1,8 @@
--- `frames::modes::has_mac` meets its contract.
-use Rattle.frames.specs.Modes.{hasMac}
+-- `frames::protection::encrypts` meets its contract.
+use Rattle.frames.specs.Modes.{encrypts}
 use borrow.Author.Needs.{needs}
-use Rattle.frames.proofs.modes.has_mac.Statement.{statement}
-use Rattle.frames.proofs.modes.has_mac.Tie as tie
+use Rattle.frames.proofs.protection.encrypts.Statement.{statement}
+use Rattle.frames.proofs.protection.encrypts.Tie as tie
 
 enum-told : tie.Need-enum-told
 enum-told c = search needs
@@ -17,22 +17,22 @@ enum-told-4 : tie.Need-enum-told-4
 enum-told-4 c = search needs
 
 returns : tie.Need-returns
-unfolding hasMac
+unfolding encrypts
 returns c = rw (c .enum-told .given .1)
 
 returns-2 : tie.Need-returns-2
-unfolding hasMac
+unfolding encrypts
 returns-2 c = rw (c .enum-told2 .given .1)
 
 returns-3 : tie.Need-returns-3
-unfolding hasMac
+unfolding encrypts
 returns-3 c = rw (c .enum-told3 .given .1)
 
 returns-4 : tie.Need-returns-4
-unfolding hasMac
+unfolding encrypts
 returns-4 c = rw (c .enum-told4 .given .1)
 
-pub has-mac-spec : {M : Type 1} → statement M
-has-mac-spec =
+pub encrypts-spec : {M : Type 1} → statement M
+encrypts-spec =
     tie.close
     (tie.spec enum-told enum-told-2 enum-told-3 enum-told-4 returns returns-2 returns-3 returns-4)

@@ -1,8 +1,8 @@
--- `frames::modes::prot_mode` meets its contract.
+-- `frames::protection::prot_mode` meets its contract.
 use borrow.Author.Tests.{eq-eqb, ne-eqb}
 use Rattle.frames.specs.Modes.{protModeOf}
-use Rattle.frames.proofs.modes.prot_mode.Statement.{statement}
-use Rattle.frames.proofs.modes.prot_mode.Tie as tie
+use Rattle.frames.proofs.protection.prot_mode.Statement.{statement}
+use Rattle.frames.proofs.protection.prot_mode.Tie as tie
 
 returns : tie.Need-returns
 unfolding protModeOf

@@ -1,8 +1,8 @@
--- `frames::modes::encrypts` meets its contract.
-use Rattle.frames.specs.Modes.{encrypts}
+-- `frames::protection::has_mac` meets its contract.
+use Rattle.frames.specs.Modes.{hasMac}
 use borrow.Author.Needs.{needs}
-use Rattle.frames.proofs.modes.encrypts.Statement.{statement}
-use Rattle.frames.proofs.modes.encrypts.Tie as tie
+use Rattle.frames.proofs.protection.has_mac.Statement.{statement}
+use Rattle.frames.proofs.protection.has_mac.Tie as tie
 
 enum-told : tie.Need-enum-told
 enum-told c = search needs
@@ -17,22 +17,22 @@ enum-told-4 : tie.Need-enum-told-4
 enum-told-4 c = search needs
 
 returns : tie.Need-returns
-unfolding encrypts
+unfolding hasMac
 returns c = rw (c .enum-told .given .1)
 
 returns-2 : tie.Need-returns-2
-unfolding encrypts
+unfolding hasMac
 returns-2 c = rw (c .enum-told2 .given .1)
 
 returns-3 : tie.Need-returns-3
-unfolding encrypts
+unfolding hasMac
 returns-3 c = rw (c .enum-told3 .given .1)
 
 returns-4 : tie.Need-returns-4
-unfolding encrypts
+unfolding hasMac
 returns-4 c = rw (c .enum-told4 .given .1)
 
-pub encrypts-spec : {M : Type 1} → statement M
-encrypts-spec =
+pub has-mac-spec : {M : Type 1} → statement M
+has-mac-spec =
     tie.close
     (tie.spec enum-told enum-told-2 enum-told-3 enum-told-4 returns returns-2 returns-3 returns-4)
