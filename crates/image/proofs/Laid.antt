@@ -23,7 +23,7 @@ use Rattle.image.specs.Places.{
   lockCountAt,
   locksAt,
   keyCountAt,
-  keysAt,
+  keyTableAt,
   keyRoom,
   imageLength,
 }
@@ -36,9 +36,9 @@ pub places : (sizesAt ≡ featuresAt + bodyLength FeatureRecord)
     × (lockCountAt ≡ profilesAt + bodyLength ProfileRecord * profileLimit)
     × (locksAt ≡ lockCountAt + 1)
     × (keyCountAt ≡ locksAt + bodyLength LockRecord * lockLimit)
-    × (keysAt ≡ keyCountAt + 2)
+    × (keyTableAt ≡ keyCountAt + 2)
     × (keyRoom ≡ keyRecord * keyLimit)
-    × (imageLength ≡ keysAt + keyRoom)
+    × (imageLength ≡ keyTableAt + keyRoom)
 unfolding profileLimit lockLimit keyLimit
 places = (refl, refl, refl, refl, refl, refl, refl, refl)
 

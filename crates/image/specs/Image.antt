@@ -30,7 +30,7 @@ use Rattle.image.specs.Places.{
   lockCountAt,
   locksAt,
   keyCountAt,
-  keysAt,
+  keyTableAt,
   keyRoom,
 }
 
@@ -114,7 +114,7 @@ termsIn image = record {
 
 -- the key table: as many records as the image says, as far as it goes
 unfoldable pub tableIn : List ℕ → List ℕ
-tableIn image = take (keyRecord * wordAt image keyCountAt) (drop keysAt image)
+tableIn image = take (keyRecord * wordAt image keyCountAt) (drop keyTableAt image)
 
 -- the tag, and with its keys
 abbrev pub tagIn : List ℕ → Tag

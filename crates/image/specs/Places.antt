@@ -25,8 +25,8 @@ locksAt = 119
 abbrev pub keyCountAt : ℕ
 keyCountAt = 199
 
-abbrev pub keysAt : ℕ
-keysAt = 201
+abbrev pub keyTableAt : ℕ
+keyTableAt = 201
 
 abbrev pub keyRoom : ℕ
 keyRoom = 592
