@@ -6,9 +6,6 @@ use Rattle.ground.specs.OneAnswer.{OneAnswer, one}
 use Rattle.sheet.specs.Limits.{keyLimit}
 use Rattle.sheet.specs.Judgement.{judgedOf, JudgedAs}
 use Rattle.sheet.specs.Sheet.{readFrom, furtherOn, ReadAs}
-use Rattle.sheet.specs.declared.Judged.{Judged}
-use Rattle.sheet.specs.declared.Reading.{Reading}
-use Rattle.bench.specs.declared.cursor.Cursor.{Cursor}
 use Rattle.bench.specs.OneWalked.{OneWalked}
 use Rattle.bench.proofs.cursor.open as opened
 use Rattle.bench.proofs.cursor.judge as judge
@@ -19,29 +16,25 @@ use Rattle.bench.proofs.cursor.read.Kinds as read-kinds
 
 pub opened-one : OneWalked opened.ended (λ M. opened.clauses {M = M})
     (λ κs a r e. (r .sheet ≡ a .0) × (r .at ≡ 0))
-    Cursor (λ κs r e. r)
 opened-one = (
   (λ M 𝓤 H A mem run κs a g r e. refl),
-  (λ κs a x y s t p q j. record { sheet = one (p .0) (q .0) j; at = one (p .1) (q .1) j }),
+  (λ κs a x y v w p q. ((λ j. record { sheet = one (p .0) (q .0) j; at = one (p .1) (q .1) j }), refl)),
 )
 
 pub judge-one : OneWalked judge.ended (λ M. judge.clauses {M = M})
     (λ κs a r e. JudgedAs r (judgedOf keyLimit (drop (a .0 .at) (now (a .0 .sheet))) (a .1 .0)))
-    Judged (λ κs r e. r)
-judge-one = ((λ M 𝓤 H A mem run κs a g r e. refl), (λ κs a x y s t p q. one (p .0) (q .0)))
+judge-one = ((λ M 𝓤 H A mem run κs a g r e. refl), (λ κs a x y v w p q. (one (p .0) (q .0), refl)))
 
 pub moved-one : OneWalked moved.ended (λ M. moved.clauses {M = M})
     (λ κs a r e. (r .sheet ≡ a .0 .sheet) × (r .at ≡ furtherOn (now (a .0 .sheet)) (a .0 .at) (a .1 .0)))
-    Cursor (λ κs r e. r)
 moved-one = (
   (λ M 𝓤 H A mem run κs a g r e. refl),
-  (λ κs a x y s t p q j. record { sheet = one (p .0) (q .0) j; at = one (p .1) (q .1) j }),
+  (λ κs a x y v w p q. ((λ j. record { sheet = one (p .0) (q .0) j; at = one (p .1) (q .1) j }), refl)),
 )
 
 pub rest-one : OneWalked rest.ended (λ M. rest.clauses {M = M})
     (λ κs a r e. ReadAs r (readFrom keyLimit (now (a .0 .sheet)) (a .0 .at) (a .1 .0)))
-    Reading (λ κs r e. r)
-rest-one = ((λ M 𝓤 H A mem run κs a g r e. refl), (λ κs a x y s t p q. one (p .0) (q .0)))
+rest-one = ((λ M 𝓤 H A mem run κs a g r e. refl), (λ κs a x y v w p q. (one (p .0) (q .0), refl)))
 
-pub read-one : OneAnswer 1 read-kinds.ps read-kinds.r read.Post Reading (λ κs r s. r)
-read-one κs a x y s t p q = one (p .0) (q .0)
+pub read-one : OneAnswer 1 read-kinds.ps read-kinds.r read.Post
+read-one κs a x y v w p q = (one (p .0) (q .0), refl)

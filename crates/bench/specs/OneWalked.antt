@@ -9,7 +9,7 @@ use prog.Wp.{Heap}
 use ghost.Atoms.{Atoms}
 use contract.Lifetimes.{Lfts}
 use contract.Monad.{Fun, fact}
-use denote.Triple.Clauses.{Ended, Clauses, AtExit}
+use denote.Triple.Clauses.{Ended, Clauses, AtExit, Lasts, atExit}
 use denote.Triple.Entry.{Args, Res}
 
 module _ (T : Ended) where
@@ -28,10 +28,9 @@ module _ (T : Ended) where
       (g : c M 𝓤 H A mem run κs a .ghost) (r : Res (T .signature) κs) (e : AtExit T κs)
       → c M 𝓤 H A mem run κs a .ensures g r e ≡ fact 𝓤 (Post κs a r e)
 
-  -- Two outcomes that it allows on the same arguments are seen as one.
-  abbrev pub OneWalked : Contract → Fact → (Z : Type 0)
-      → ((κs : Lfts (T .signature .lifetimes)) → Res (T .signature) κs → AtExit T κs → Z) → Type 2
-  OneWalked c Post Z see =
+  -- Two outcomes that it allows on the same arguments are the same: the result, and the last value of each `&mut`.
+  abbrev pub OneWalked : Contract → Fact → Type 2
+  OneWalked c Post =
       States c Post
       × ((κs : Lfts (T .signature .lifetimes)) (a : Args (T .signature) κs) (x y : Res (T .signature) κs)
-      (s t : AtExit T κs) → Post κs a x s → Post κs a y t → see κs x s ≡ see κs y t)
+      (v w : Lasts T κs a) → Post κs a x (atExit T κs a v) → Post κs a y (atExit T κs a w) → (x ≡ y) × (v ≡ w))

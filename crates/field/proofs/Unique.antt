@@ -1,6 +1,5 @@
 -- No second answer fits the contracts of this crate's exported functions.
-use mathlib.Core.List.{List}
-use Prim.Native.Nat.{ℕ}
+use mathlib.Core.Path.{refl}
 use Rattle.ground.specs.OneAnswer.{OneAnswer, one}
 use Rattle.field.proofs.sbox_table.Reads as sbox-table
 use Rattle.field.proofs.sbox_table.Kinds as sbox-table-kinds
@@ -13,17 +12,17 @@ use Rattle.field.proofs.xor.Kinds as xor-kinds
 use Rattle.field.proofs.times2.Reads as times2
 use Rattle.field.proofs.times2.Kinds as times2-kinds
 
-pub sbox-table-one : OneAnswer 0 sbox-table-kinds.ps sbox-table-kinds.r sbox-table.Post (List ℕ) (λ κs r s. r)
-sbox-table-one κs a x y s t p q = one p q
+pub sbox-table-one : OneAnswer 0 sbox-table-kinds.ps sbox-table-kinds.r sbox-table.Post
+sbox-table-one κs a x y v w p q = (one p q, refl)
 
-pub substitute-one : OneAnswer 1 substitute-kinds.ps substitute-kinds.r substitute.Post (List ℕ) (λ κs r s. r)
-substitute-one κs a x y s t p q = one p q
+pub substitute-one : OneAnswer 1 substitute-kinds.ps substitute-kinds.r substitute.Post
+substitute-one κs a x y v w p q = (one p q, refl)
 
-pub first-block-one : OneAnswer 1 first-block-kinds.ps first-block-kinds.r first-block.Post (List ℕ) (λ κs r s. r)
-first-block-one κs a x y s t p q = one p q
+pub first-block-one : OneAnswer 1 first-block-kinds.ps first-block-kinds.r first-block.Post
+first-block-one κs a x y v w p q = (one p q, refl)
 
-pub xor-one : OneAnswer 0 xor-kinds.ps xor-kinds.r xor.Post (List ℕ) (λ κs r s. r)
-xor-one κs a x y s t p q = one p q
+pub xor-one : OneAnswer 0 xor-kinds.ps xor-kinds.r xor.Post
+xor-one κs a x y v w p q = (one p q, refl)
 
-pub times2-one : OneAnswer 0 times2-kinds.ps times2-kinds.r times2.Post ℕ (λ κs r s. r)
-times2-one κs a x y s t p q = one p q
+pub times2-one : OneAnswer 0 times2-kinds.ps times2-kinds.r times2.Post
+times2-one κs a x y v w p q = (one p q, refl)

@@ -1,22 +1,11 @@
 -- No second answer fits the contract of an exported function: for a function that answers a value, the value; for a
 -- builder, its answer and what the room holds afterwards.
-use mathlib.Core.Path.{_≡_}
+use mathlib.Core.Path.{_≡_, refl}
 use mathlib.Core.Bool.{Bool}
 use mathlib.Core.List.{List}
 use Prim.Native.Nat.{ℕ}
-use denote.Ref.{now}
-use Rattle.memory.specs.declared.Block.{Block}
-use Rattle.frames.specs.declared.ProtModeField.{ProtModeField}
-use Rattle.frames.specs.declared.Kind.{Kind}
-use Rattle.frames.specs.declared.Tam1.{Tam1}
-use Rattle.frames.specs.declared.Tam2.{Tam2}
-use Rattle.frames.specs.declared.Iam1.{Iam1}
-use Rattle.frames.specs.declared.Iam2.{Iam2}
-use Rattle.frames.specs.declared.Iam3.{Iam3}
-use Rattle.frames.specs.declared.Mam1.{Mam1}
-use Rattle.frames.specs.declared.Mam2.{Mam2}
 use Rattle.frames.specs.Built.{Built}
-use Rattle.ground.specs.OneAnswer.{OneAnswer, one}
+use Rattle.ground.specs.OneAnswer.{OneAnswer, one, _&_}
 use Rattle.frames.proofs.first.kind_of.Reads as kind-of
 use Rattle.frames.proofs.first.kind_of.Kinds as kind-of-kinds
 use Rattle.frames.proofs.sizes.header_length.Reads as header-length
@@ -94,132 +83,117 @@ use Rattle.frames.proofs.parts.join.Kinds as join-kinds
 
 one-built : (fit : Bool) (n : ℕ) (m room : List ℕ) (x y : Bool) (s t : List ℕ) → Built fit n m room x s
     → Built fit n m room y t
-    → _≡_ {A = Bool × List ℕ} (x, s) (y, t)
-one-built fit n m room x y s t p q i = (one (p .says) (q .says) i, one (p .holds) (q .holds) i)
+    → (x ≡ y) × (s ≡ t)
+one-built fit n m room x y s t p q = (one (p .says) (q .says), one (p .holds) (q .holds))
 
-pub kind-of-one : OneAnswer 0 kind-of-kinds.ps kind-of-kinds.r kind-of.Post Kind (λ κs r s. r)
-kind-of-one κs a x y s t p q = one p q
+pub kind-of-one : OneAnswer 0 kind-of-kinds.ps kind-of-kinds.r kind-of.Post
+kind-of-one κs a x y v w p q = (one p q, refl)
 
-pub header-length-one : OneAnswer 0 header-length-kinds.ps header-length-kinds.r header-length.Post ℕ (λ κs r s. r)
-header-length-one κs a x y s t p q = one p q
+pub header-length-one : OneAnswer 0 header-length-kinds.ps header-length-kinds.r header-length.Post
+header-length-one κs a x y v w p q = (one p q, refl)
 
-pub data-length-one : OneAnswer 0 data-length-kinds.ps data-length-kinds.r data-length.Post ℕ (λ κs r s. r)
-data-length-one κs a x y s t p q = one p q
+pub data-length-one : OneAnswer 0 data-length-kinds.ps data-length-kinds.r data-length.Post
+data-length-one κs a x y v w p q = (one p q, refl)
 
-pub block-asked-one : OneAnswer 0 block-asked-kinds.ps block-asked-kinds.r block-asked.Post Block (λ κs r s. r)
-block-asked-one κs a x y s t p q = one p q
+pub block-asked-one : OneAnswer 0 block-asked-kinds.ps block-asked-kinds.r block-asked.Post
+block-asked-one κs a x y v w p q = (one p q, refl)
 
-pub d-of-one : OneAnswer 0 d-of-kinds.ps d-of-kinds.r d-of.Post ℕ (λ κs r s. r)
-d-of-one κs a x y s t p q = one p q
+pub d-of-one : OneAnswer 0 d-of-kinds.ps d-of-kinds.r d-of.Post
+d-of-one κs a x y v w p q = (one p q, refl)
 
-pub blocks-length-one : OneAnswer 0 blocks-length-kinds.ps blocks-length-kinds.r blocks-length.Post ℕ (λ κs r s. r)
-blocks-length-one κs a x y s t p q = one p q
+pub blocks-length-one : OneAnswer 0 blocks-length-kinds.ps blocks-length-kinds.r blocks-length.Post
+blocks-length-one κs a x y v w p q = (one p q, refl)
 
-pub mac-length-one : OneAnswer 0 mac-length-kinds.ps mac-length-kinds.r mac-length.Post ℕ (λ κs r s. r)
-mac-length-one κs a x y s t p q = one p q
+pub mac-length-one : OneAnswer 0 mac-length-kinds.ps mac-length-kinds.r mac-length.Post
+mac-length-one κs a x y v w p q = (one p q, refl)
 
-pub iam3-mac-at-one : OneAnswer 0 iam3-mac-at-kinds.ps iam3-mac-at-kinds.r iam3-mac-at.Post ℕ (λ κs r s. r)
-iam3-mac-at-one κs a x y s t p q = one p q
+pub iam3-mac-at-one : OneAnswer 0 iam3-mac-at-kinds.ps iam3-mac-at-kinds.r iam3-mac-at.Post
+iam3-mac-at-one κs a x y v w p q = (one p q, refl)
 
-pub iam3-length-one : OneAnswer 0 iam3-length-kinds.ps iam3-length-kinds.r iam3-length.Post ℕ (λ κs r s. r)
-iam3-length-one κs a x y s t p q = one p q
+pub iam3-length-one : OneAnswer 0 iam3-length-kinds.ps iam3-length-kinds.r iam3-length.Post
+iam3-length-one κs a x y v w p q = (one p q, refl)
 
-pub tam2-mac-at-one : OneAnswer 0 tam2-mac-at-kinds.ps tam2-mac-at-kinds.r tam2-mac-at.Post ℕ (λ κs r s. r)
-tam2-mac-at-one κs a x y s t p q = one p q
+pub tam2-mac-at-one : OneAnswer 0 tam2-mac-at-kinds.ps tam2-mac-at-kinds.r tam2-mac-at.Post
+tam2-mac-at-one κs a x y v w p q = (one p q, refl)
 
-pub tam2-reply-length-one : OneAnswer 0 tam2-reply-length-kinds.ps tam2-reply-length-kinds.r tam2-reply-length.Post ℕ
-    (λ κs r s. r)
-tam2-reply-length-one κs a x y s t p q = one p q
+pub tam2-reply-length-one : OneAnswer 0 tam2-reply-length-kinds.ps tam2-reply-length-kinds.r tam2-reply-length.Post
+tam2-reply-length-one κs a x y v w p q = (one p q, refl)
 
-pub length-fits-one : OneAnswer 1 length-fits-kinds.ps length-fits-kinds.r length-fits.Post Bool (λ κs r s. r)
-length-fits-one κs a x y s t p q = one p q
+pub length-fits-one : OneAnswer 1 length-fits-kinds.ps length-fits-kinds.r length-fits.Post
+length-fits-one κs a x y v w p q = (one p q, refl)
 
-pub tam1-of-one : OneAnswer 1 tam1-of-kinds.ps tam1-of-kinds.r tam1-of.Post Tam1 (λ κs r s. r)
-tam1-of-one κs a x y s t p q = one p q
+pub tam1-of-one : OneAnswer 1 tam1-of-kinds.ps tam1-of-kinds.r tam1-of.Post
+tam1-of-one κs a x y v w p q = (one p q, refl)
 
-pub tam2-of-one : OneAnswer 1 tam2-of-kinds.ps tam2-of-kinds.r tam2-of.Post Tam2 (λ κs r s. r)
-tam2-of-one κs a x y s t p q = one p q
+pub tam2-of-one : OneAnswer 1 tam2-of-kinds.ps tam2-of-kinds.r tam2-of.Post
+tam2-of-one κs a x y v w p q = (one p q, refl)
 
-pub iam1-of-one : OneAnswer 1 iam1-of-kinds.ps iam1-of-kinds.r iam1-of.Post Iam1 (λ κs r s. r)
-iam1-of-one κs a x y s t p q = one p q
+pub iam1-of-one : OneAnswer 1 iam1-of-kinds.ps iam1-of-kinds.r iam1-of.Post
+iam1-of-one κs a x y v w p q = (one p q, refl)
 
-pub iam2-of-one : OneAnswer 1 iam2-of-kinds.ps iam2-of-kinds.r iam2-of.Post Iam2 (λ κs r s. r)
-iam2-of-one κs a x y s t p q = one p q
+pub iam2-of-one : OneAnswer 1 iam2-of-kinds.ps iam2-of-kinds.r iam2-of.Post
+iam2-of-one κs a x y v w p q = (one p q, refl)
 
-pub iam3-of-one : OneAnswer 1 iam3-of-kinds.ps iam3-of-kinds.r iam3-of.Post Iam3 (λ κs r s. r)
-iam3-of-one κs a x y s t p q = one p q
+pub iam3-of-one : OneAnswer 1 iam3-of-kinds.ps iam3-of-kinds.r iam3-of.Post
+iam3-of-one κs a x y v w p q = (one p q, refl)
 
-pub mam1-of-one : OneAnswer 1 mam1-of-kinds.ps mam1-of-kinds.r mam1-of.Post Mam1 (λ κs r s. r)
-mam1-of-one κs a x y s t p q = one p q
+pub mam1-of-one : OneAnswer 1 mam1-of-kinds.ps mam1-of-kinds.r mam1-of.Post
+mam1-of-one κs a x y v w p q = (one p q, refl)
 
-pub mam2-of-one : OneAnswer 1 mam2-of-kinds.ps mam2-of-kinds.r mam2-of.Post Mam2 (λ κs r s. r)
-mam2-of-one κs a x y s t p q = one p q
+pub mam2-of-one : OneAnswer 1 mam2-of-kinds.ps mam2-of-kinds.r mam2-of.Post
+mam2-of-one κs a x y v w p q = (one p q, refl)
 
-pub prot-mode-one : OneAnswer 0 prot-mode-kinds.ps prot-mode-kinds.r prot-mode.Post ProtModeField (λ κs r s. r)
-prot-mode-one κs a x y s t p q = one p q
+pub prot-mode-one : OneAnswer 0 prot-mode-kinds.ps prot-mode-kinds.r prot-mode.Post
+prot-mode-one κs a x y v w p q = (one p q, refl)
 
-pub encrypts-one : OneAnswer 0 encrypts-kinds.ps encrypts-kinds.r encrypts.Post Bool (λ κs r s. r)
-encrypts-one κs a x y s t p q = one p q
+pub encrypts-one : OneAnswer 0 encrypts-kinds.ps encrypts-kinds.r encrypts.Post
+encrypts-one κs a x y v w p q = (one p q, refl)
 
-pub has-mac-one : OneAnswer 0 has-mac-kinds.ps has-mac-kinds.r has-mac.Post Bool (λ κs r s. r)
-has-mac-one κs a x y s t p q = one p q
+pub has-mac-one : OneAnswer 0 has-mac-kinds.ps has-mac-kinds.r has-mac.Post
+has-mac-one κs a x y v w p q = (one p q, refl)
 
-pub tam1-constant-one : OneAnswer 0 tam1-constant-kinds.ps tam1-constant-kinds.r tam1-constant.Post (List ℕ)
-    (λ κs r s. r)
-tam1-constant-one κs a x y s t p q = one p q
+pub tam1-constant-one : OneAnswer 0 tam1-constant-kinds.ps tam1-constant-kinds.r tam1-constant.Post
+tam1-constant-one κs a x y v w p q = (one p q, refl)
 
-pub tam2-constant-one : OneAnswer 0 tam2-constant-kinds.ps tam2-constant-kinds.r tam2-constant.Post (List ℕ)
-    (λ κs r s. r)
-tam2-constant-one κs a x y s t p q = one p q
+pub tam2-constant-one : OneAnswer 0 tam2-constant-kinds.ps tam2-constant-kinds.r tam2-constant.Post
+tam2-constant-one κs a x y v w p q = (one p q, refl)
 
-pub mam1-constant-one : OneAnswer 0 mam1-constant-kinds.ps mam1-constant-kinds.r mam1-constant.Post (List ℕ)
-    (λ κs r s. r)
-mam1-constant-one κs a x y s t p q = one p q
+pub mam1-constant-one : OneAnswer 0 mam1-constant-kinds.ps mam1-constant-kinds.r mam1-constant.Post
+mam1-constant-one κs a x y v w p q = (one p q, refl)
 
-pub mam2-constant-one : OneAnswer 0 mam2-constant-kinds.ps mam2-constant-kinds.r mam2-constant.Post (List ℕ)
-    (λ κs r s. r)
-mam2-constant-one κs a x y s t p q = one p q
+pub mam2-constant-one : OneAnswer 0 mam2-constant-kinds.ps mam2-constant-kinds.r mam2-constant.Post
+mam2-constant-one κs a x y v w p q = (one p q, refl)
 
-pub iam2-constant-one : OneAnswer 0 iam2-constant-kinds.ps iam2-constant-kinds.r iam2-constant.Post (List ℕ)
-    (λ κs r s. r)
-iam2-constant-one κs a x y s t p q = one p q
+pub iam2-constant-one : OneAnswer 0 iam2-constant-kinds.ps iam2-constant-kinds.r iam2-constant.Post
+iam2-constant-one κs a x y v w p q = (one p q, refl)
 
-pub iam3-constant-one : OneAnswer 0 iam3-constant-kinds.ps iam3-constant-kinds.r iam3-constant.Post (List ℕ)
-    (λ κs r s. r)
-iam3-constant-one κs a x y s t p q = one p q
+pub iam3-constant-one : OneAnswer 0 iam3-constant-kinds.ps iam3-constant-kinds.r iam3-constant.Post
+iam3-constant-one κs a x y v w p q = (one p q, refl)
 
-pub tam1-into-one : OneAnswer 1 tam1-into-kinds.ps tam1-into-kinds.r tam1-into.Post (Bool × List ℕ)
-    (λ κs r s. (r, now (s .1 .0)))
-tam1-into-one κs a x y s t p q = one-built _ _ _ _ _ _ _ _ p q
+pub tam1-into-one : OneAnswer 1 tam1-into-kinds.ps tam1-into-kinds.r tam1-into.Post
+tam1-into-one κs a x y v w p q = let e = one-built _ _ _ _ _ _ _ _ p q in (e .0, refl & e .1 & refl)
 
-pub tam2-into-one : OneAnswer 1 tam2-into-kinds.ps tam2-into-kinds.r tam2-into.Post (Bool × List ℕ)
-    (λ κs r s. (r, now (s .1 .0)))
-tam2-into-one κs a x y s t p q = one-built _ _ _ _ _ _ _ _ p q
+pub tam2-into-one : OneAnswer 1 tam2-into-kinds.ps tam2-into-kinds.r tam2-into.Post
+tam2-into-one κs a x y v w p q = let e = one-built _ _ _ _ _ _ _ _ p q in (e .0, refl & e .1 & refl)
 
-pub iam1-into-one : OneAnswer 1 iam1-into-kinds.ps iam1-into-kinds.r iam1-into.Post (Bool × List ℕ)
-    (λ κs r s. (r, now (s .1 .0)))
-iam1-into-one κs a x y s t p q = one-built _ _ _ _ _ _ _ _ p q
+pub iam1-into-one : OneAnswer 1 iam1-into-kinds.ps iam1-into-kinds.r iam1-into.Post
+iam1-into-one κs a x y v w p q = let e = one-built _ _ _ _ _ _ _ _ p q in (e .0, refl & e .1 & refl)
 
-pub iam2-into-one : OneAnswer 1 iam2-into-kinds.ps iam2-into-kinds.r iam2-into.Post (Bool × List ℕ)
-    (λ κs r s. (r, now (s .1 .0)))
-iam2-into-one κs a x y s t p q = one-built _ _ _ _ _ _ _ _ p q
+pub iam2-into-one : OneAnswer 1 iam2-into-kinds.ps iam2-into-kinds.r iam2-into.Post
+iam2-into-one κs a x y v w p q = let e = one-built _ _ _ _ _ _ _ _ p q in (e .0, refl & e .1 & refl)
 
-pub iam3-into-one : OneAnswer 1 iam3-into-kinds.ps iam3-into-kinds.r iam3-into.Post (Bool × List ℕ)
-    (λ κs r s. (r, now (s .1 .0)))
-iam3-into-one κs a x y s t p q = one-built _ _ _ _ _ _ _ _ p q
+pub iam3-into-one : OneAnswer 1 iam3-into-kinds.ps iam3-into-kinds.r iam3-into.Post
+iam3-into-one κs a x y v w p q = let e = one-built _ _ _ _ _ _ _ _ p q in (e .0, refl & e .1 & refl)
 
-pub mam1-into-one : OneAnswer 1 mam1-into-kinds.ps mam1-into-kinds.r mam1-into.Post (Bool × List ℕ)
-    (λ κs r s. (r, now (s .1 .0)))
-mam1-into-one κs a x y s t p q = one-built _ _ _ _ _ _ _ _ p q
+pub mam1-into-one : OneAnswer 1 mam1-into-kinds.ps mam1-into-kinds.r mam1-into.Post
+mam1-into-one κs a x y v w p q = let e = one-built _ _ _ _ _ _ _ _ p q in (e .0, refl & e .1 & refl)
 
-pub mam2-into-one : OneAnswer 1 mam2-into-kinds.ps mam2-into-kinds.r mam2-into.Post (Bool × List ℕ)
-    (λ κs r s. (r, now (s .1 .0)))
-mam2-into-one κs a x y s t p q = one-built _ _ _ _ _ _ _ _ p q
+pub mam2-into-one : OneAnswer 1 mam2-into-kinds.ps mam2-into-kinds.r mam2-into.Post
+mam2-into-one κs a x y v w p q = let e = one-built _ _ _ _ _ _ _ _ p q in (e .0, refl & e .1 & refl)
 
-pub header-into-one : OneAnswer 1 header-into-kinds.ps header-into-kinds.r header-into.Post (Bool × List ℕ)
-    (λ κs r s. (r, now (s .1 .0)))
-header-into-one κs a x y s t p q = one-built _ _ _ _ _ _ _ _ p q
+pub header-into-one : OneAnswer 1 header-into-kinds.ps header-into-kinds.r header-into.Post
+header-into-one κs a x y v w p q = let e = one-built _ _ _ _ _ _ _ _ p q in (e .0, refl & e .1 & refl)
 
 -- the crate's own: parts into a room
-pub join-one : OneAnswer 4 join-kinds.ps join-kinds.r join.Post (Bool × List ℕ) (λ κs r s. (r, now (s .0)))
-join-one κs a x y s t p q = one-built _ _ _ _ _ _ _ _ p q
+pub join-one : OneAnswer 4 join-kinds.ps join-kinds.r join.Post
+join-one κs a x y v w p q = let e = one-built _ _ _ _ _ _ _ _ p q in (e .0, e .1 & refl)

@@ -1,9 +1,6 @@
 -- No second answer fits the contract of an exported function, as the checker reads it from the source.
-use mathlib.Core.Bool.{Bool}
-use mathlib.Core.List.{List}
-use Prim.Native.Nat.{ℕ}
-use denote.Ref.{now}
-use Rattle.ground.specs.OneAnswer.{OneAnswer, one}
+use mathlib.Core.Path.{refl}
+use Rattle.ground.specs.OneAnswer.{OneAnswer, OneLent, one}
 use Rattle.octets.proofs.byte.Reads as byte
 use Rattle.octets.proofs.byte.Kinds as byte-kinds
 use Rattle.octets.proofs.front.Reads as front
@@ -23,29 +20,29 @@ use Rattle.octets.proofs.same.Kinds as same-kinds
 use Rattle.octets.proofs.zeros.Reads as zeros
 use Rattle.octets.proofs.zeros.Kinds as zeros-kinds
 
-pub byte-one : OneAnswer 1 byte-kinds.ps byte-kinds.r byte.Post ℕ (λ κs r s. r)
-byte-one κs a x y s t p q = one p q
+pub byte-one : OneAnswer 1 byte-kinds.ps byte-kinds.r byte.Post
+byte-one κs a x y v w p q = (one p q, refl)
 
-pub front-one : OneAnswer 1 front-kinds.ps front-kinds.r front.Post (List ℕ) (λ κs r s. now r)
-front-one κs a x y s t p q = one p q
+pub front-one : OneLent 1 front-kinds.ps 0 tt front.Post
+front-one κs a x y v w p q = (one p q, refl)
 
-pub tail-one : OneAnswer 1 tail-kinds.ps tail-kinds.r tail.Post (List ℕ) (λ κs r s. now r)
-tail-one κs a x y s t p q = one p q
+pub tail-one : OneLent 1 tail-kinds.ps 0 tt tail.Post
+tail-one κs a x y v w p q = (one p q, refl)
 
-pub ten-one : OneAnswer 1 ten-kinds.ps ten-kinds.r ten.Post (List ℕ) (λ κs r s. r)
-ten-one κs a x y s t p q = one p q
+pub ten-one : OneAnswer 1 ten-kinds.ps ten-kinds.r ten.Post
+ten-one κs a x y v w p q = (one p q, refl)
 
-pub sixteen-one : OneAnswer 1 sixteen-kinds.ps sixteen-kinds.r sixteen.Post (List ℕ) (λ κs r s. r)
-sixteen-one κs a x y s t p q = one p q
+pub sixteen-one : OneAnswer 1 sixteen-kinds.ps sixteen-kinds.r sixteen.Post
+sixteen-one κs a x y v w p q = (one p q, refl)
 
-pub word-one : OneAnswer 0 word-kinds.ps word-kinds.r word.Post ℕ (λ κs r s. r)
-word-one κs a x y s t p q = one p q
+pub word-one : OneAnswer 0 word-kinds.ps word-kinds.r word.Post
+word-one κs a x y v w p q = (one p q, refl)
 
-pub word-at-one : OneAnswer 1 word-at-kinds.ps word-at-kinds.r word-at.Post ℕ (λ κs r s. r)
-word-at-one κs a x y s t p q = one p q
+pub word-at-one : OneAnswer 1 word-at-kinds.ps word-at-kinds.r word-at.Post
+word-at-one κs a x y v w p q = (one p q, refl)
 
-pub same-one : OneAnswer 2 same-kinds.ps same-kinds.r same.Post Bool (λ κs r s. r)
-same-one κs a x y s t p q = one p q
+pub same-one : OneAnswer 2 same-kinds.ps same-kinds.r same.Post
+same-one κs a x y v w p q = (one p q, refl)
 
-pub zeros-one : OneAnswer 1 zeros-kinds.ps zeros-kinds.r zeros.Post Bool (λ κs r s. r)
-zeros-one κs a x y s t p q = one p q
+pub zeros-one : OneAnswer 1 zeros-kinds.ps zeros-kinds.r zeros.Post
+zeros-one κs a x y v w p q = (one p q, refl)

@@ -1,10 +1,6 @@
 -- No second answer fits the contract of an exported function.
-use mathlib.Core.Bool.{Bool}
-use Prim.Native.Nat.{ℕ}
+use mathlib.Core.Path.{refl}
 use Rattle.ground.specs.OneAnswer.{OneAnswer, one}
-use Rattle.memory.specs.declared.Block.{Block}
-use Rattle.sheet.specs.declared.Slot.{Slot}
-use Rattle.offer.specs.declared.Checked.{Checked}
 use Rattle.offer.proofs.number.Reads as number
 use Rattle.offer.proofs.number.Kinds as number-kinds
 use Rattle.offer.proofs.reply_length.Reads as reply-length
@@ -28,36 +24,35 @@ use Rattle.offer.proofs.judged.lending.Kinds as lending-kinds
 use Rattle.offer.proofs.judged.opening.Reads as opening
 use Rattle.offer.proofs.judged.opening.Kinds as opening-kinds
 
-pub number-one : OneAnswer 0 number-kinds.ps number-kinds.r number.Post ℕ (λ κs r s. r)
-number-one κs a x y s t p q = one p q
+pub number-one : OneAnswer 0 number-kinds.ps number-kinds.r number.Post
+number-one κs a x y v w p q = (one p q, refl)
 
-pub reply-length-one : OneAnswer 0 reply-length-kinds.ps reply-length-kinds.r reply-length.Post ℕ (λ κs r s. r)
-reply-length-one κs a x y s t p q = one p q
+pub reply-length-one : OneAnswer 0 reply-length-kinds.ps reply-length-kinds.r reply-length.Post
+reply-length-one κs a x y v w p q = (one p q, refl)
 
-pub offered-one : OneAnswer 0 offered-kinds.ps offered-kinds.r offered.Post Bool (λ κs r s. r)
-offered-one κs a x y s t p q = one p q
+pub offered-one : OneAnswer 0 offered-kinds.ps offered-kinds.r offered.Post
+offered-one κs a x y v w p q = (one p q, refl)
 
-pub size-offered-one : OneAnswer 0 size-offered-kinds.ps size-offered-kinds.r size-offered.Post Bool (λ κs r s. r)
-size-offered-one κs a x y s t p q = one p q
+pub size-offered-one : OneAnswer 0 size-offered-kinds.ps size-offered-kinds.r size-offered.Post
+size-offered-one κs a x y v w p q = (one p q, refl)
 
-pub rev-offered-one : OneAnswer 0 rev-offered-kinds.ps rev-offered-kinds.r rev-offered.Post Bool (λ κs r s. r)
-rev-offered-one κs a x y s t p q = one p q
+pub rev-offered-one : OneAnswer 0 rev-offered-kinds.ps rev-offered-kinds.r rev-offered.Post
+rev-offered-one κs a x y v w p q = (one p q, refl)
 
-pub mode-supported-one : OneAnswer 0 mode-supported-kinds.ps mode-supported-kinds.r mode-supported.Post Bool
-    (λ κs r s. r)
-mode-supported-one κs a x y s t p q = one p q
+pub mode-supported-one : OneAnswer 0 mode-supported-kinds.ps mode-supported-kinds.r mode-supported.Post
+mode-supported-one κs a x y v w p q = (one p q, refl)
 
-pub slot-one : OneAnswer 0 slot-kinds.ps slot-kinds.r slot.Post Slot (λ κs r s. r)
-slot-one κs a x y s t p q = one p q
+pub slot-one : OneAnswer 0 slot-kinds.ps slot-kinds.r slot.Post
+slot-one κs a x y v w p q = (one p q, refl)
 
-pub block-asked-one : OneAnswer 0 block-asked-kinds.ps block-asked-kinds.r block-asked.Post Block (λ κs r s. r)
-block-asked-one κs a x y s t p q = one p q
+pub block-asked-one : OneAnswer 0 block-asked-kinds.ps block-asked-kinds.r block-asked.Post
+block-asked-one κs a x y v w p q = (one p q, refl)
 
-pub words-asked-one : OneAnswer 0 words-asked-kinds.ps words-asked-kinds.r words-asked.Post Block (λ κs r s. r)
-words-asked-one κs a x y s t p q = one p q
+pub words-asked-one : OneAnswer 0 words-asked-kinds.ps words-asked-kinds.r words-asked.Post
+words-asked-one κs a x y v w p q = (one p q, refl)
 
-pub lending-one : OneAnswer 0 lending-kinds.ps lending-kinds.r lending.Post Checked (λ κs r s. r)
-lending-one κs a x y s t p q = one p q
+pub lending-one : OneAnswer 0 lending-kinds.ps lending-kinds.r lending.Post
+lending-one κs a x y v w p q = (one p q, refl)
 
-pub opening-one : OneAnswer 2 opening-kinds.ps opening-kinds.r opening.Post Checked (λ κs r s. r)
-opening-one κs a x y s t p q = one p q
+pub opening-one : OneAnswer 2 opening-kinds.ps opening-kinds.r opening.Post
+opening-one κs a x y v w p q = (one p q, refl)

@@ -1,10 +1,7 @@
 -- No second answer fits the contract of an exported function: for a function that answers a value, the value; for one
 -- that builds into a room, its answer and what the room holds afterwards.
-use mathlib.Core.Bool.{Bool}
-use mathlib.Core.List.{List}
-use Prim.Native.Nat.{ℕ}
-use denote.Ref.{now}
-use Rattle.ground.specs.OneAnswer.{OneAnswer, one}
+use mathlib.Core.Path.{refl}
+use Rattle.ground.specs.OneAnswer.{OneAnswer, OneLent, one, _&_}
 use Rattle.payload.proofs.put.Reads as put
 use Rattle.payload.proofs.put.Kinds as put-kinds
 use Rattle.payload.proofs.block_of.Reads as block-of
@@ -22,28 +19,26 @@ use Rattle.payload.proofs.mac_behind.Kinds as mac-behind-kinds
 use Rattle.payload.proofs.mac_fits.Reads as mac-fits
 use Rattle.payload.proofs.mac_fits.Kinds as mac-fits-kinds
 
-pub put-one : OneAnswer 2 put-kinds.ps put-kinds.r put.Post (Bool × List ℕ) (λ κs r s. (r, now (s .0)))
-put-one κs a x y s t p q i = (one (p .says) (q .says) i, one (p .holds) (q .holds) i)
+pub put-one : OneAnswer 2 put-kinds.ps put-kinds.r put.Post
+put-one κs a x y v w p q = (one (p .says) (q .says), one (p .holds) (q .holds) & refl)
 
-pub block-of-one : OneAnswer 0 block-of-kinds.ps block-of-kinds.r block-of.Post (List ℕ) (λ κs r s. r)
-block-of-one κs a x y s t p q = one p q
+pub block-of-one : OneAnswer 0 block-of-kinds.ps block-of-kinds.r block-of.Post
+block-of-one κs a x y v w p q = (one p q, refl)
 
-pub carried-into-one : OneAnswer 2 carried-into-kinds.ps carried-into-kinds.r carried-into.Post (Bool × List ℕ)
-    (λ κs r s. (r, now (s .1 .1 .1 .0)))
-carried-into-one κs a x y s t p q i = (one (p .says) (q .says) i, one (p .holds) (q .holds) i)
+pub carried-into-one : OneAnswer 2 carried-into-kinds.ps carried-into-kinds.r carried-into.Post
+carried-into-one κs a x y v w p q = (one (p .says) (q .says), refl & refl & refl & one (p .holds) (q .holds) & refl)
 
-pub header-fits-one : OneAnswer 1 header-fits-kinds.ps header-fits-kinds.r header-fits.Post Bool (λ κs r s. r)
-header-fits-one κs a x y s t p q = one p q
+pub header-fits-one : OneAnswer 1 header-fits-kinds.ps header-fits-kinds.r header-fits.Post
+header-fits-one κs a x y v w p q = (one p q, refl)
 
-pub words-in-one : OneAnswer 1 words-in-kinds.ps words-in-kinds.r words-in.Post (List ℕ) (λ κs r s. now r)
-words-in-one κs a x y s t p q = one p q
+pub words-in-one : OneLent 1 words-in-kinds.ps 0 tt words-in.Post
+words-in-one κs a x y v w p q = (one p q, refl)
 
-pub filler-fits-one : OneAnswer 1 filler-fits-kinds.ps filler-fits-kinds.r filler-fits.Post Bool (λ κs r s. r)
-filler-fits-one κs a x y s t p q = one p q
+pub filler-fits-one : OneAnswer 1 filler-fits-kinds.ps filler-fits-kinds.r filler-fits.Post
+filler-fits-one κs a x y v w p q = (one p q, refl)
 
-pub mac-behind-one : OneAnswer 1 mac-behind-kinds.ps mac-behind-kinds.r mac-behind.Post (Bool × List ℕ)
-    (λ κs r s. (r, now (s .1 .1 .1 .0)))
-mac-behind-one κs a x y s t p q i = (one (p .says) (q .says) i, one (p .holds) (q .holds) i)
+pub mac-behind-one : OneAnswer 1 mac-behind-kinds.ps mac-behind-kinds.r mac-behind.Post
+mac-behind-one κs a x y v w p q = (one (p .says) (q .says), refl & refl & refl & one (p .holds) (q .holds) & refl)
 
-pub mac-fits-one : OneAnswer 2 mac-fits-kinds.ps mac-fits-kinds.r mac-fits.Post Bool (λ κs r s. r)
-mac-fits-one κs a x y s t p q = one p q
+pub mac-fits-one : OneAnswer 2 mac-fits-kinds.ps mac-fits-kinds.r mac-fits.Post
+mac-fits-one κs a x y v w p q = (one p q, refl)

@@ -1,7 +1,5 @@
 -- No second answer fits the contracts of reader. The numbers are the paper's.
 use mathlib.Core.Path.{_≡_, refl}
-use mathlib.Core.Bool.{Bool}
-use Prim.Native.Nat.{ℕ}
 use Rattle.ground.specs.OneAnswer.{OneAnswer, one}
 use Rattle.reader.specs.declared.ReaderFault.the-variants.{ReplyLength, ChallengeWrong, MacWrong, HeaderWrong}
 use Rattle.reader.specs.declared.ReaderFault.the-variants.{OwnMessage}
@@ -13,14 +11,14 @@ use Rattle.reader.proofs.own.mode_fits.Kinds as mode-fits-kinds
 use Rattle.reader.proofs.own.own_fits.Reads as own-fits
 use Rattle.reader.proofs.own.own_fits.Kinds as own-fits-kinds
 
-pub number-one : OneAnswer 0 number-kinds.ps number-kinds.r number.Post ℕ (λ κs r s. r)
-number-one κs a x y s t p q = one p q
+pub number-one : OneAnswer 0 number-kinds.ps number-kinds.r number.Post
+number-one κs a x y v w p q = (one p q, refl)
 
-pub mode-fits-one : OneAnswer 0 mode-fits-kinds.ps mode-fits-kinds.r mode-fits.Post Bool (λ κs r s. r)
-mode-fits-one κs a x y s t p q = one p q
+pub mode-fits-one : OneAnswer 0 mode-fits-kinds.ps mode-fits-kinds.r mode-fits.Post
+mode-fits-one κs a x y v w p q = (one p q, refl)
 
-pub own-fits-one : OneAnswer 1 own-fits-kinds.ps own-fits-kinds.r own-fits.Post Bool (λ κs r s. r)
-own-fits-one κs a x y s t p q = one p q
+pub own-fits-one : OneAnswer 1 own-fits-kinds.ps own-fits-kinds.r own-fits.Post
+own-fits-one κs a x y v w p q = (one p q, refl)
 
 pub paper-numbers : (numberOf ReplyLength ≡ 20) × (numberOf ChallengeWrong ≡ 21) × (numberOf MacWrong ≡ 22)
     × (numberOf HeaderWrong ≡ 23) × (numberOf OwnMessage ≡ 24)

@@ -1,15 +1,6 @@
 -- No second answer fits the contract of an exported function, as the checker reads it from the source.
-use Prim.Native.Nat.{ℕ}
-use mathlib.Core.List.{List}
-use denote.Ref.{now}
-use Rattle.memory.specs.declared.Lock.{Lock}
-use Rattle.sheet.specs.declared.Features.{Features}
-use Rattle.sheet.specs.declared.Sizes.{Sizes}
-use Rattle.sheet.specs.declared.Slot.{Slot}
-use Rattle.sheet.specs.declared.Gathered.{Gathered}
-use Rattle.sheet.specs.declared.Judged.{Judged}
-use Rattle.sheet.specs.declared.Reading.{Reading}
-use Rattle.ground.specs.OneAnswer.{OneAnswer, one}
+use mathlib.Core.Path.{refl}
+use Rattle.ground.specs.OneAnswer.{OneAnswer, OneLent, one}
 use Rattle.sheet.proofs.number.Reads as number
 use Rattle.sheet.proofs.number.Kinds as number-kinds
 use Rattle.sheet.proofs.start.Reads as start
@@ -35,38 +26,38 @@ use Rattle.sheet.proofs.bodies.slot_of.Kinds as slot-of-kinds
 use Rattle.sheet.proofs.bodies.lock_of.Reads as lock-of
 use Rattle.sheet.proofs.bodies.lock_of.Kinds as lock-of-kinds
 
-pub number-one : OneAnswer 0 number-kinds.ps number-kinds.r number.Post ℕ (λ κs r s. r)
-number-one κs a x y s t p q = one p q
+pub number-one : OneAnswer 0 number-kinds.ps number-kinds.r number.Post
+number-one κs a x y v w p q = (one p q, refl)
 
-pub start-one : OneAnswer 0 start-kinds.ps start-kinds.r start.Post Gathered (λ κs r s. r)
-start-one κs a x y s t p q = one p q
+pub start-one : OneAnswer 0 start-kinds.ps start-kinds.r start.Post
+start-one κs a x y v w p q = (one p q, refl)
 
-pub judge-one : OneAnswer 1 judge-kinds.ps judge-kinds.r judge.Post Judged (λ κs r s. r)
-judge-one κs a x y s t p q = one (p .0) (q .0)
+pub judge-one : OneAnswer 1 judge-kinds.ps judge-kinds.r judge.Post
+judge-one κs a x y v w p q = (one (p .0) (q .0), refl)
 
-pub read-one : OneAnswer 1 read-kinds.ps read-kinds.r read.Post Reading (λ κs r s. r)
-read-one κs a x y s t p q = one (p .0) (q .0)
+pub read-one : OneAnswer 1 read-kinds.ps read-kinds.r read.Post
+read-one κs a x y v w p q = (one (p .0) (q .0), refl)
 
-pub judge-at-one : OneAnswer 1 judge-at-kinds.ps judge-at-kinds.r judge-at.Post Judged (λ κs r s. r)
-judge-at-one κs a x y s t p q = one (p .0) (q .0)
+pub judge-at-one : OneAnswer 1 judge-at-kinds.ps judge-at-kinds.r judge-at.Post
+judge-at-one κs a x y v w p q = (one (p .0) (q .0), refl)
 
-pub further-one : OneAnswer 1 further-kinds.ps further-kinds.r further.Post ℕ (λ κs r s. r)
-further-one κs a x y s t p q = one p q
+pub further-one : OneAnswer 1 further-kinds.ps further-kinds.r further.Post
+further-one κs a x y v w p q = (one p q, refl)
 
-pub read-from-one : OneAnswer 1 read-from-kinds.ps read-from-kinds.r read-from.Post Reading (λ κs r s. r)
-read-from-one κs a x y s t p q = one (p .0) (q .0)
+pub read-from-one : OneAnswer 1 read-from-kinds.ps read-from-kinds.r read-from.Post
+read-from-one κs a x y v w p q = (one (p .0) (q .0), refl)
 
-pub key-table-one : OneAnswer 1 key-table-kinds.ps key-table-kinds.r key-table.Post (List ℕ) (λ κs r s. now r)
-key-table-one κs a x y s t p q = one p q
+pub key-table-one : OneLent 1 key-table-kinds.ps 0 tt key-table.Post
+key-table-one κs a x y v w p q = (one p q, refl)
 
-pub features-of-one : OneAnswer 1 features-of-kinds.ps features-of-kinds.r features-of.Post Features (λ κs r s. r)
-features-of-one κs a x y s t p q = one p q
+pub features-of-one : OneAnswer 1 features-of-kinds.ps features-of-kinds.r features-of.Post
+features-of-one κs a x y v w p q = (one p q, refl)
 
-pub sizes-of-one : OneAnswer 1 sizes-of-kinds.ps sizes-of-kinds.r sizes-of.Post Sizes (λ κs r s. r)
-sizes-of-one κs a x y s t p q = one p q
+pub sizes-of-one : OneAnswer 1 sizes-of-kinds.ps sizes-of-kinds.r sizes-of.Post
+sizes-of-one κs a x y v w p q = (one p q, refl)
 
-pub slot-of-one : OneAnswer 1 slot-of-kinds.ps slot-of-kinds.r slot-of.Post Slot (λ κs r s. r)
-slot-of-one κs a x y s t p q = one p q
+pub slot-of-one : OneAnswer 1 slot-of-kinds.ps slot-of-kinds.r slot-of.Post
+slot-of-one κs a x y v w p q = (one p q, refl)
 
-pub lock-of-one : OneAnswer 1 lock-of-kinds.ps lock-of-kinds.r lock-of.Post Lock (λ κs r s. r)
-lock-of-one κs a x y s t p q = one p q
+pub lock-of-one : OneAnswer 1 lock-of-kinds.ps lock-of-kinds.r lock-of.Post
+lock-of-one κs a x y v w p q = (one p q, refl)

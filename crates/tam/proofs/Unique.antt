@@ -1,5 +1,5 @@
 -- No second answer fits the contract of an exported function.
-use mathlib.Core.Path.{_≡_}
+use mathlib.Core.Path.{_≡_, refl}
 use mathlib.Core.List.{List}
 use Prim.Native.Nat.{ℕ}
 use Rattle.ground.specs.OneAnswer.{OneAnswer, one}
@@ -17,8 +17,8 @@ given-one v reply x y p q = λ j. record {
   reply = one (p .reply) (q .reply) j;
 }
 
-pub tam1-one : OneAnswer 2 tam1-kinds.ps tam1-kinds.r tam1.Post Given (λ κs r s. r)
-tam1-one κs a x y s t p q = given-one _ _ x y p q
+pub tam1-one : OneAnswer 2 tam1-kinds.ps tam1-kinds.r tam1.Post
+tam1-one κs a x y v w p q = (given-one _ _ x y p q, refl)
 
-pub tam2-one : OneAnswer 3 tam2-kinds.ps tam2-kinds.r tam2.Post Given (λ κs r s. r)
-tam2-one κs a x y s t p q = given-one _ _ x y p q
+pub tam2-one : OneAnswer 3 tam2-kinds.ps tam2-kinds.r tam2.Post
+tam2-one κs a x y v w p q = (given-one _ _ x y p q, refl)
