@@ -135,39 +135,44 @@ uint8_t roualint_message(roualint_tag *tag, const uint8_t *message, size_t messa
  *
  * The reader's keys are ENC_key and MAC_key: mac_length is 16, or 0 for no MAC key; any other is number 24.
  *
- * A builder lays its message over the room's first bytes and gives its length. 0 is number 24: a field out of its
- * range, ProtMode 2 or 3 with no MAC key, data of another length than BlockSize and BlockCount say, or a room of under
- * 176 bytes; then no byte of the room changes. BlockSize is 0 for 64-bit blocks and 1 for 16-bit blocks, Rev 0 or 1,
- * Profile 0 to 15, Offset 0 to 4,095, BlockCount 0 to 15 (0 is one block), ProtMode 0 to 3, Purpose 0 to 15. */
+ * A builder lays its message over the room's first bytes: 0, and *message_length is its length. 24 for a field out of
+ * its range, ProtMode 2 or 3 with no MAC key, data of another length than BlockSize and BlockCount say, or a room of
+ * under 176 bytes; then *message_length is 0, and no byte of the room changes. BlockSize is 0 for 64-bit blocks and 1
+ * for 16-bit blocks, Rev 0 or 1, Profile 0 to 15, Offset 0 to 4,095, BlockCount 0 to 15 (0 is one block), ProtMode 0 to
+ * 3, Purpose 0 to 15. */
 
 /* TAM1: 12 bytes. */
-size_t roualint_build_tam1(uint8_t keyid, const uint8_t ichallenge[10], uint8_t *room, size_t room_length);
+uint8_t roualint_build_tam1(uint8_t keyid, const uint8_t ichallenge[10], uint8_t *room, size_t room_length,
+                            size_t *message_length);
 
 /* TAM2: 15 bytes. */
-size_t roualint_build_tam2(const uint8_t enc[16], const uint8_t *mac, size_t mac_length, uint8_t blocksize, uint8_t rev,
-                           uint8_t keyid, const uint8_t ichallenge[10], uint8_t profile, uint16_t offset,
-                           uint8_t blockcount, uint8_t protmode, uint8_t *room, size_t room_length);
+uint8_t roualint_build_tam2(const uint8_t enc[16], const uint8_t *mac, size_t mac_length, uint8_t blocksize,
+                            uint8_t rev, uint8_t keyid, const uint8_t ichallenge[10], uint8_t profile, uint16_t offset,
+                            uint8_t blockcount, uint8_t protmode, uint8_t *room, size_t room_length,
+                            size_t *message_length);
 
 /* IAM1: 2 bytes. */
-size_t roualint_build_iam1(uint8_t keyid, uint8_t *room, size_t room_length);
+uint8_t roualint_build_iam1(uint8_t keyid, uint8_t *room, size_t room_length, size_t *message_length);
 
 /* IAM2, the answer to the challenge that came with the reply to IAM1: 17 bytes. */
-size_t roualint_build_iam2(const uint8_t enc[16], const uint8_t *mac, size_t mac_length, uint8_t purpose,
-                           const uint8_t irnd[4], const uint8_t tchallenge[10], uint8_t *room, size_t room_length);
+uint8_t roualint_build_iam2(const uint8_t enc[16], const uint8_t *mac, size_t mac_length, uint8_t purpose,
+                            const uint8_t irnd[4], const uint8_t tchallenge[10], uint8_t *room, size_t room_length,
+                            size_t *message_length);
 
 /* IAM3, the same answer with data to be written: 36 to 176 bytes. */
-size_t roualint_build_iam3(const uint8_t enc[16], const uint8_t *mac, size_t mac_length, uint8_t blocksize,
-                           uint8_t profile, uint16_t offset, uint8_t blockcount, uint8_t protmode, uint8_t purpose,
-                           const uint8_t irnd[4], const uint8_t tchallenge[10], const uint8_t *words,
-                           size_t words_length, uint8_t *room, size_t room_length);
+uint8_t roualint_build_iam3(const uint8_t enc[16], const uint8_t *mac, size_t mac_length, uint8_t blocksize,
+                            uint8_t profile, uint16_t offset, uint8_t blockcount, uint8_t protmode, uint8_t purpose,
+                            const uint8_t irnd[4], const uint8_t tchallenge[10], const uint8_t *words,
+                            size_t words_length, uint8_t *room, size_t room_length, size_t *message_length);
 
 /* MAM1: 12 bytes. */
-size_t roualint_build_mam1(uint8_t keyid, const uint8_t ichallenge[10], uint8_t *room, size_t room_length);
+uint8_t roualint_build_mam1(uint8_t keyid, const uint8_t ichallenge[10], uint8_t *room, size_t room_length,
+                            size_t *message_length);
 
 /* MAM2, the answer to the challenge that came with the reply to MAM1: 17 bytes. */
-size_t roualint_build_mam2(const uint8_t enc[16], const uint8_t *mac, size_t mac_length, uint8_t purpose,
-                           const uint8_t ichallenge[10], const uint8_t tchallenge[10], uint8_t *room,
-                           size_t room_length);
+uint8_t roualint_build_mam2(const uint8_t enc[16], const uint8_t *mac, size_t mac_length, uint8_t purpose,
+                            const uint8_t ichallenge[10], const uint8_t tchallenge[10], uint8_t *room,
+                            size_t room_length, size_t *message_length);
 
 /* The judgement of a reply to the reader's own message. Accepted: 0; the data of a TAM2 stand in the room's first
  * bytes, *data_length is their length and *worth what they are worth: 1 where no MAC proves them, 2 where it does, 0

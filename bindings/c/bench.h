@@ -22,6 +22,9 @@ struct bench tag_of(const char *sheet);
 /* Annex F's tag, with its memory. */
 struct bench annex_f(void);
 
+/* A builder's call that gives a message. */
+#define BUILT(call) EXPECT((call) == ROUALINT_ACCEPTED, "the message is built")
+
 /* One message; the number that the tag gives. */
 uint8_t sends(struct bench *b, const uint8_t *message, size_t n, const char *draws);
 uint8_t sends_hex(struct bench *b, const char *message, const char *draws);

@@ -6,31 +6,35 @@
 
 #include <string.h>
 
+/* Refused by 24, and no length is told. */
+#define REFUSED(call, what) (n = 99, EXPECT((call) == ROUALINT_OWN_MESSAGE && n == 0, what))
+
 void builder_refusals(void) {
     uint8_t *m = lent(ROUALINT_MESSAGE_ROOM);
     const uint8_t *enc = bytes(ENC0), *mac = bytes(MAC0), *i = bytes(ICHALLENGE), *irnd = bytes(IRND),
                   *word = bytes("AABB");
     const size_t room = ROUALINT_MESSAGE_ROOM;
-    EXPECT(roualint_build_tam1(0, i, m, room - 1) == 0, "TAM1 into 175 bytes");
-    EXPECT(roualint_build_tam2(enc, mac, 16, 0, 1, 0, i, 0, 0, 0, 0, m, room - 1) == 0, "TAM2 into 175 bytes");
-    EXPECT(roualint_build_iam1(0, m, room - 1) == 0, "IAM1 into 175 bytes");
-    EXPECT(roualint_build_iam2(enc, mac, 16, 0, irnd, i, m, room - 1) == 0, "IAM2 into 175 bytes");
-    EXPECT(roualint_build_iam3(enc, mac, 16, 1, 0, 0, 0, 0, 0, irnd, i, word, 2, m, room - 1) == 0,
-           "IAM3 into 175 bytes");
-    EXPECT(roualint_build_mam1(0, i, m, room - 1) == 0, "MAM1 into 175 bytes");
-    EXPECT(roualint_build_mam2(enc, mac, 16, 0, i, i, m, room - 1) == 0, "MAM2 into 175 bytes");
-    EXPECT(roualint_build_tam2(enc, mac, 15, 0, 1, 0, i, 0, 0, 0, 0, m, room) == 0, "a MAC key of 15 bytes");
-    EXPECT(roualint_build_tam2(enc, mac, 0, 0, 1, 0, i, 0, 0, 0, 2, m, room) == 0, "ProtMode 2 and no MAC key");
-    EXPECT(roualint_build_tam2(enc, mac, 16, 2, 1, 0, i, 0, 0, 0, 0, m, room) == 0, "BlockSize 2");
-    EXPECT(roualint_build_tam2(enc, mac, 16, 0, 2, 0, i, 0, 0, 0, 0, m, room) == 0, "Rev 2");
-    EXPECT(roualint_build_tam2(enc, mac, 16, 0, 1, 0, i, 16, 0, 0, 0, m, room) == 0, "Profile 16");
-    EXPECT(roualint_build_tam2(enc, mac, 16, 0, 1, 0, i, 0, 4096, 0, 0, m, room) == 0, "Offset 4,096");
-    EXPECT(roualint_build_tam2(enc, mac, 16, 0, 1, 0, i, 0, 0, 16, 0, m, room) == 0, "BlockCount 16");
-    EXPECT(roualint_build_tam2(enc, mac, 16, 0, 1, 0, i, 0, 0, 0, 4, m, room) == 0, "ProtMode 4");
-    EXPECT(roualint_build_iam2(enc, mac, 16, 16, irnd, i, m, room) == 0, "Purpose 16");
-    EXPECT(roualint_build_iam3(enc, mac, 16, 0, 0, 0, 0, 0, 0, irnd, i, word, 2, m, room) == 0,
-           "two bytes for a block of 64 bits");
-    EXPECT(roualint_build_mam2(enc, bytes(MAC0 "00"), 17, 0, i, i, m, room) == 0, "a MAC key of 17 bytes");
+    size_t n;
+    REFUSED(roualint_build_tam1(0, i, m, room - 1, &n), "TAM1 into 175 bytes");
+    REFUSED(roualint_build_tam2(enc, mac, 16, 0, 1, 0, i, 0, 0, 0, 0, m, room - 1, &n), "TAM2 into 175 bytes");
+    REFUSED(roualint_build_iam1(0, m, room - 1, &n), "IAM1 into 175 bytes");
+    REFUSED(roualint_build_iam2(enc, mac, 16, 0, irnd, i, m, room - 1, &n), "IAM2 into 175 bytes");
+    REFUSED(roualint_build_iam3(enc, mac, 16, 1, 0, 0, 0, 0, 0, irnd, i, word, 2, m, room - 1, &n),
+            "IAM3 into 175 bytes");
+    REFUSED(roualint_build_mam1(0, i, m, room - 1, &n), "MAM1 into 175 bytes");
+    REFUSED(roualint_build_mam2(enc, mac, 16, 0, i, i, m, room - 1, &n), "MAM2 into 175 bytes");
+    REFUSED(roualint_build_tam2(enc, mac, 15, 0, 1, 0, i, 0, 0, 0, 0, m, room, &n), "a MAC key of 15 bytes");
+    REFUSED(roualint_build_tam2(enc, mac, 0, 0, 1, 0, i, 0, 0, 0, 2, m, room, &n), "ProtMode 2 and no MAC key");
+    REFUSED(roualint_build_tam2(enc, mac, 16, 2, 1, 0, i, 0, 0, 0, 0, m, room, &n), "BlockSize 2");
+    REFUSED(roualint_build_tam2(enc, mac, 16, 0, 2, 0, i, 0, 0, 0, 0, m, room, &n), "Rev 2");
+    REFUSED(roualint_build_tam2(enc, mac, 16, 0, 1, 0, i, 16, 0, 0, 0, m, room, &n), "Profile 16");
+    REFUSED(roualint_build_tam2(enc, mac, 16, 0, 1, 0, i, 0, 4096, 0, 0, m, room, &n), "Offset 4,096");
+    REFUSED(roualint_build_tam2(enc, mac, 16, 0, 1, 0, i, 0, 0, 16, 0, m, room, &n), "BlockCount 16");
+    REFUSED(roualint_build_tam2(enc, mac, 16, 0, 1, 0, i, 0, 0, 0, 4, m, room, &n), "ProtMode 4");
+    REFUSED(roualint_build_iam2(enc, mac, 16, 16, irnd, i, m, room, &n), "Purpose 16");
+    REFUSED(roualint_build_iam3(enc, mac, 16, 0, 0, 0, 0, 0, 0, irnd, i, word, 2, m, room, &n),
+            "two bytes for a block of 64 bits");
+    REFUSED(roualint_build_mam2(enc, bytes(MAC0 "00"), 17, 0, i, i, m, room, &n), "a MAC key of 17 bytes");
     EXPECT(are_all(m, room, 0xA5), "a refusal writes nothing");
     INTACT();
     lent_back();

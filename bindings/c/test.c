@@ -92,8 +92,9 @@ static void sheets(void) {
 static void tag_authentication(void) {
     struct bench b = annex_f();
     uint8_t *m = lent(ROUALINT_MESSAGE_ROOM);
-    size_t n = roualint_build_tam1(0, bytes(ICHALLENGE), m, ROUALINT_MESSAGE_ROOM);
     struct judged j;
+    size_t n;
+    BUILT(roualint_build_tam1(0, bytes(ICHALLENGE), m, ROUALINT_MESSAGE_ROOM, &n));
     is_built(m, n, "0000" ICHALLENGE);
     answers(&b, m, n, "6D696372000000000000", "E920530CC781B20CFE1AB4A0144E7335", ROUALINT_INITIAL);
     accepts(judge(ENC0, MAC0, m, n, b.room, b.length, ROUALINT_DATA_ROOM), "", ROUALINT_NO_DATA, "");
@@ -109,8 +110,8 @@ static void tag_authentication(void) {
 
     /* Rev 0, ProtMode 0: the same block, and the data with no header. */
     memset(m, 0xA5, ROUALINT_MESSAGE_ROOM);
-    n = roualint_build_tam2(bytes(ENC0), bytes(MAC0), 16, 0, 0, 0, bytes(ICHALLENGE), 1, 0, 1, 0, m,
-                            ROUALINT_MESSAGE_ROOM);
+    BUILT(roualint_build_tam2(bytes(ENC0), bytes(MAC0), 16, 0, 0, 0, bytes(ICHALLENGE), 1, 0, 1, 0, m,
+                              ROUALINT_MESSAGE_ROOM, &n));
     is_built(m, n, "2000" ICHALLENGE "100010");
     answers(&b, m, n, "6D696372000000000000", "E920530CC781B20CFE1AB4A0144E7335 A16A76656E69617A5265676E756D5475",
             ROUALINT_INITIAL);
@@ -119,8 +120,8 @@ static void tag_authentication(void) {
 
     /* Rev 1, ProtMode 3, two blocks of 64 bits (F.16): proved. */
     memset(m, 0xA5, ROUALINT_MESSAGE_ROOM);
-    n = roualint_build_tam2(bytes(ENC0), bytes(MAC0), 16, 0, 1, 0, bytes(ICHALLENGE), 1, 0, 1, 3, m,
-                            ROUALINT_MESSAGE_ROOM);
+    BUILT(roualint_build_tam2(bytes(ENC0), bytes(MAC0), 16, 0, 1, 0, bytes(ICHALLENGE), 1, 0, 1, 3, m,
+                              ROUALINT_MESSAGE_ROOM, &n));
     is_built(m, n, "2800" ICHALLENGE "100013");
     answers(&b, m, n, RFID,
             "67039773F2C3C8E8B1D29254BADEF7C9 B86966552DEE705111D4C077009D777C 6D725BCD8DC8FA5C83960148241958C2 "
@@ -134,8 +135,8 @@ static void tag_authentication(void) {
 
     /* ProtMode 0, eight blocks of 16 bits (F.20): unproved. */
     memset(m, 0xA5, ROUALINT_MESSAGE_ROOM);
-    n = roualint_build_tam2(bytes(ENC0), bytes(""), 0, 1, 1, 0, bytes(ICHALLENGE), 1, 0, 7, 0, m,
-                            ROUALINT_MESSAGE_ROOM);
+    BUILT(roualint_build_tam2(bytes(ENC0), bytes(""), 0, 1, 1, 0, bytes(ICHALLENGE), 1, 0, 7, 0, m,
+                              ROUALINT_MESSAGE_ROOM, &n));
     is_built(m, n, "3800" ICHALLENGE "100070");
     answers(&b, m, n, RFID,
             "D43EF22E787383D87DAFD67617A7D6EE 88003800A16A76656E69617A5265676E 756D5475000000000000000000000000",
@@ -151,7 +152,8 @@ static void interrogator_authentication(void) {
     struct bench b = annex_f();
     uint8_t *m = lent(ROUALINT_MESSAGE_ROOM);
     roualint_tag waiting;
-    size_t n = roualint_build_iam1(1, m, ROUALINT_MESSAGE_ROOM);
+    size_t n;
+    BUILT(roualint_build_iam1(1, m, ROUALINT_MESSAGE_ROOM, &n));
     is_built(m, n, "4001");
     answers(&b, m, n, TCHALLENGE, TCHALLENGE, ROUALINT_IAM_INIT);
     EXPECT(is_hex(b.tag->bytes, 16, "0101" TCHALLENGE "00000000"), "state, KeyID and TChallenge are held");
@@ -165,7 +167,8 @@ static void interrogator_authentication(void) {
     EXPECT(memcmp(&waiting, b.tag, sizeof waiting) == 0 && b.length == 0, "number 7 changes nothing");
 
     memset(m, 0xA5, ROUALINT_MESSAGE_ROOM);
-    n = roualint_build_iam2(bytes(ENC1), bytes(MAC1), 16, 0, bytes(IRND), bytes(TCHALLENGE), m, ROUALINT_MESSAGE_ROOM);
+    BUILT(roualint_build_iam2(bytes(ENC1), bytes(MAC1), 16, 0, bytes(IRND), bytes(TCHALLENGE), m,
+                              ROUALINT_MESSAGE_ROOM, &n));
     is_built(m, n, IAM2);
     lets_in(&b, m, n, 0);
     accepts(judge(ENC1, MAC1, m, n, b.room, 0, ROUALINT_DATA_ROOM), "", ROUALINT_NO_DATA, "");
@@ -174,14 +177,15 @@ static void interrogator_authentication(void) {
 
     /* Another Purpose is handed out as it came. */
     EXPECT(sends_hex(&b, "4001", TCHALLENGE) == 0, "IAM1");
-    n = roualint_build_iam2(bytes(ENC1), bytes(MAC1), 16, 5, bytes(IRND), bytes(TCHALLENGE), m, ROUALINT_MESSAGE_ROOM);
+    BUILT(roualint_build_iam2(bytes(ENC1), bytes(MAC1), 16, 5, bytes(IRND), bytes(TCHALLENGE), m,
+                              ROUALINT_MESSAGE_ROOM, &n));
     lets_in(&b, m, n, 5);
 
     /* IAM3, ProtMode 3, two blocks of 16 bits from the third word on (F.29). */
     EXPECT(sends_hex(&b, "4001", TCHALLENGE) == 0, "IAM1");
     memset(m, 0xA5, ROUALINT_MESSAGE_ROOM);
-    n = roualint_build_iam3(bytes(ENC1), bytes(MAC1), 16, 1, 1, 2, 1, 3, 0, bytes(IRND), bytes(TCHALLENGE),
-                            bytes("AABBCCDD"), 4, m, ROUALINT_MESSAGE_ROOM);
+    BUILT(roualint_build_iam3(bytes(ENC1), bytes(MAC1), 16, 1, 1, 2, 1, 3, 0, bytes(IRND), bytes(TCHALLENGE),
+                              bytes("AABBCCDD"), 4, m, ROUALINT_MESSAGE_ROOM, &n));
     is_built(m, n,
              "5C100213 5D3F017B042E02228D26C90DBDB513DA 49E163B8C7A3316BA0A1E3EB62088358 624C8B0CDBE35E089F1C355F");
     lets_in(&b, m, n, 0);
@@ -192,7 +196,8 @@ static void interrogator_authentication(void) {
 static void mutual_authentication(void) {
     struct bench b = annex_f();
     uint8_t *m = lent(ROUALINT_MESSAGE_ROOM);
-    size_t n = roualint_build_mam1(1, bytes(ICHALLENGE), m, ROUALINT_MESSAGE_ROOM);
+    size_t n;
+    BUILT(roualint_build_mam1(1, bytes(ICHALLENGE), m, ROUALINT_MESSAGE_ROOM, &n));
     is_built(m, n, "8001" ICHALLENGE);
     answers(&b, m, n, VON_BRAUN, "47D77088E9143699215C9D162D8A310A 566F6E204272", ROUALINT_MAM_INIT);
     EXPECT(is_hex(b.tag->bytes, 16, "0201" VON_BRAUN "96C69664"),
@@ -201,15 +206,15 @@ static void mutual_authentication(void) {
     rejects(judge(ENC1, MAC1, m, n, b.room, b.length, ROUALINT_DATA_ROOM - 1), ROUALINT_DATA_ROOM - 1,
             ROUALINT_OWN_MESSAGE);
     memset(m, 0xA5, ROUALINT_MESSAGE_ROOM);
-    n = roualint_build_mam2(bytes(ENC1), bytes(MAC1), 16, 0, bytes(ICHALLENGE), bytes(VON_BRAUN), m,
-                            ROUALINT_MESSAGE_ROOM);
+    BUILT(roualint_build_mam2(bytes(ENC1), bytes(MAC1), 16, 0, bytes(ICHALLENGE), bytes(VON_BRAUN), m,
+                              ROUALINT_MESSAGE_ROOM, &n));
     is_built(m, n, "90 F537798C9E30CF1999E3C52A7994BD93");
     lets_in(&b, m, n, 0);
 
     /* Another Purpose is handed out as it came. */
     EXPECT(sends_hex(&b, "8001" ICHALLENGE, VON_BRAUN) == 0, "MAM1");
-    n = roualint_build_mam2(bytes(ENC1), bytes(MAC1), 16, 14, bytes(ICHALLENGE), bytes(VON_BRAUN), m,
-                            ROUALINT_MESSAGE_ROOM);
+    BUILT(roualint_build_mam2(bytes(ENC1), bytes(MAC1), 16, 14, bytes(ICHALLENGE), bytes(VON_BRAUN), m,
+                              ROUALINT_MESSAGE_ROOM, &n));
     lets_in(&b, m, n, 14);
     lent_back();
 }
@@ -227,29 +232,29 @@ static void user_area(void) {
 
     /* One block of 64 bits at Offset 2: words 12 to 15. */
     EXPECT(sends_hex(&b, "4001", TCHALLENGE) == 0, "IAM1");
-    n = roualint_build_iam3(enc, mac, 16, 0, 0, 2, 0, 3, 9, irnd, issued, bytes("0011223344556677"), 8, m, room);
+    BUILT(roualint_build_iam3(enc, mac, 16, 0, 0, 2, 0, 3, 9, irnd, issued, bytes("0011223344556677"), 8, m, room, &n));
     lets_in(&b, m, n, 9);
     EXPECT(is_hex(b.user + 24, 8, "0011223344556677"), "the words are written");
     EXPECT(are_all(b.user, 24, 0xA5) && are_all(b.user + 32, 544 - 32, 0xA5), "and no others");
 
     /* Two blocks of 16 bits at Offset 258: words 262 and 263. */
     EXPECT(sends_hex(&b, "4001", TCHALLENGE) == 0, "IAM1");
-    n = roualint_build_iam3(enc, mac, 16, 1, 0, 258, 1, 1, 15, irnd, issued, bytes("AABBCCDD"), 4, m, room);
+    BUILT(roualint_build_iam3(enc, mac, 16, 1, 0, 258, 1, 1, 15, irnd, issued, bytes("AABBCCDD"), 4, m, room, &n));
     lets_in(&b, m, n, 15);
     EXPECT(is_hex(b.user + 524, 4, "AABBCCDD") && is_hex(b.user + 24, 8, "0011223344556677"), "the words are written");
     EXPECT(are_all(b.user + 32, 524 - 32, 0xA5) && are_all(b.user + 528, 16, 0xA5), "and no others");
 
     /* What was written is read: of the first block, in both sizes, and of the second. */
     memset(m, 0xA5, room);
-    n = roualint_build_tam2(enc, mac, 16, 0, 1, 1, challenge, 0, 2, 0, 3, m, room);
+    BUILT(roualint_build_tam2(enc, mac, 16, 0, 1, 1, challenge, 0, 2, 0, 3, m, room, &n));
     is_built(m, n, "2801" ICHALLENGE "000203");
     EXPECT(sends(&b, m, n, RFID) == 0, "TAM2");
     accepts(judge(ENC1, MAC1, m, n, b.room, b.length, ROUALINT_DATA_ROOM), "0011223344556677", ROUALINT_PROVED, "");
-    n = roualint_build_tam2(enc, mac, 16, 1, 1, 1, challenge, 0, 9, 2, 3, m, room);
+    BUILT(roualint_build_tam2(enc, mac, 16, 1, 1, 1, challenge, 0, 9, 2, 3, m, room, &n));
     is_built(m, n, "3801" ICHALLENGE "000923");
     EXPECT(sends(&b, m, n, RFID) == 0, "TAM2");
     accepts(judge(ENC1, MAC1, m, n, b.room, b.length, ROUALINT_DATA_ROOM), "223344556677", ROUALINT_PROVED, "");
-    n = roualint_build_tam2(enc, mac, 16, 1, 1, 1, challenge, 0, 258, 1, 2, m, room);
+    BUILT(roualint_build_tam2(enc, mac, 16, 1, 1, 1, challenge, 0, 258, 1, 2, m, room, &n));
     is_built(m, n, "3801" ICHALLENGE "010212");
     EXPECT(sends(&b, m, n, RFID) == 0, "TAM2");
     accepts(judge(ENC1, MAC1, m, n, b.room, b.length, ROUALINT_DATA_ROOM), "AABBCCDD", ROUALINT_PROVED, "");

@@ -33,7 +33,13 @@ extern "C" {
         purpose: &mut u8,
     ) -> u8;
 
-    pub fn roualint_build_tam1(keyid: u8, ichallenge: &Challenge, room: *mut u8, room_length: usize) -> usize;
+    pub fn roualint_build_tam1(
+        keyid: u8,
+        ichallenge: &Challenge,
+        room: *mut u8,
+        room_length: usize,
+        message_length: &mut usize,
+    ) -> u8;
     pub fn roualint_build_tam2(
         enc: &Block,
         mac: *const u8,
@@ -48,8 +54,9 @@ extern "C" {
         protmode: u8,
         room: *mut u8,
         room_length: usize,
-    ) -> usize;
-    pub fn roualint_build_iam1(keyid: u8, room: *mut u8, room_length: usize) -> usize;
+        message_length: &mut usize,
+    ) -> u8;
+    pub fn roualint_build_iam1(keyid: u8, room: *mut u8, room_length: usize, message_length: &mut usize) -> u8;
     pub fn roualint_build_iam2(
         enc: &Block,
         mac: *const u8,
@@ -59,7 +66,8 @@ extern "C" {
         tchallenge: &Challenge,
         room: *mut u8,
         room_length: usize,
-    ) -> usize;
+        message_length: &mut usize,
+    ) -> u8;
     pub fn roualint_build_iam3(
         enc: &Block,
         mac: *const u8,
@@ -76,8 +84,15 @@ extern "C" {
         words_length: usize,
         room: *mut u8,
         room_length: usize,
-    ) -> usize;
-    pub fn roualint_build_mam1(keyid: u8, ichallenge: &Challenge, room: *mut u8, room_length: usize) -> usize;
+        message_length: &mut usize,
+    ) -> u8;
+    pub fn roualint_build_mam1(
+        keyid: u8,
+        ichallenge: &Challenge,
+        room: *mut u8,
+        room_length: usize,
+        message_length: &mut usize,
+    ) -> u8;
     pub fn roualint_build_mam2(
         enc: &Block,
         mac: *const u8,
@@ -87,7 +102,8 @@ extern "C" {
         tchallenge: &Challenge,
         room: *mut u8,
         room_length: usize,
-    ) -> usize;
+        message_length: &mut usize,
+    ) -> u8;
     pub fn roualint_judge(
         enc: &Block,
         mac: *const u8,

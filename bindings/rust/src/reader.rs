@@ -78,14 +78,16 @@ impl Reader {
     /// TAM1.
     pub fn build_tam1(&self, keyid: u8, ichallenge: &[u8; 10]) -> Built {
         // The room has the bytes it says, and is borrowed for writing.
-        built(|room| unsafe { ffi::roualint_build_tam1(keyid, ichallenge, room.as_mut_ptr(), room.len()) })
+        built(|room, length| unsafe {
+            ffi::roualint_build_tam1(keyid, ichallenge, room.as_mut_ptr(), room.len(), length)
+        })
     }
 
     /// TAM2; `rev` is Rev 1.
     pub fn build_tam2(&self, rev: bool, keyid: u8, ichallenge: &[u8; 10], custom: Custom) -> Built {
         let mac = self.mac();
         // As above; keys and challenge are only read.
-        built(|room| unsafe {
+        built(|room, length| unsafe {
             ffi::roualint_build_tam2(
                 &self.enc,
                 mac.as_ptr(),
@@ -100,6 +102,7 @@ impl Reader {
                 custom.protmode,
                 room.as_mut_ptr(),
                 room.len(),
+                length,
             )
         })
     }
@@ -107,14 +110,14 @@ impl Reader {
     /// IAM1.
     pub fn build_iam1(&self, keyid: u8) -> Built {
         // The room has the bytes it says, and is borrowed for writing.
-        built(|room| unsafe { ffi::roualint_build_iam1(keyid, room.as_mut_ptr(), room.len()) })
+        built(|room, length| unsafe { ffi::roualint_build_iam1(keyid, room.as_mut_ptr(), room.len(), length) })
     }
 
     /// IAM2: the answer to the challenge that came with the reply to IAM1.
     pub fn build_iam2(&self, purpose: u8, irnd: &[u8; 4], tchallenge: &[u8; 10]) -> Built {
         let mac = self.mac();
         // As above; keys, IRnd and challenge are only read.
-        built(|room| unsafe {
+        built(|room, length| unsafe {
             ffi::roualint_build_iam2(
                 &self.enc,
                 mac.as_ptr(),
@@ -124,6 +127,7 @@ impl Reader {
                 tchallenge,
                 room.as_mut_ptr(),
                 room.len(),
+                length,
             )
         })
     }
@@ -139,7 +143,7 @@ impl Reader {
     ) -> Built {
         let mac = self.mac();
         // As above; keys, IRnd, challenge and words are only read.
-        built(|room| unsafe {
+        built(|room, length| unsafe {
             ffi::roualint_build_iam3(
                 &self.enc,
                 mac.as_ptr(),
@@ -156,6 +160,7 @@ impl Reader {
                 words.len(),
                 room.as_mut_ptr(),
                 room.len(),
+                length,
             )
         })
     }
@@ -163,14 +168,16 @@ impl Reader {
     /// MAM1.
     pub fn build_mam1(&self, keyid: u8, ichallenge: &[u8; 10]) -> Built {
         // The room has the bytes it says, and is borrowed for writing.
-        built(|room| unsafe { ffi::roualint_build_mam1(keyid, ichallenge, room.as_mut_ptr(), room.len()) })
+        built(|room, length| unsafe {
+            ffi::roualint_build_mam1(keyid, ichallenge, room.as_mut_ptr(), room.len(), length)
+        })
     }
 
     /// MAM2: the answer to the challenge that came with the reply to MAM1.
     pub fn build_mam2(&self, purpose: u8, ichallenge: &[u8; 10], tchallenge: &[u8; 10]) -> Built {
         let mac = self.mac();
         // As above; keys and challenges are only read.
-        built(|room| unsafe {
+        built(|room, length| unsafe {
             ffi::roualint_build_mam2(
                 &self.enc,
                 mac.as_ptr(),
@@ -180,6 +187,7 @@ impl Reader {
                 tchallenge,
                 room.as_mut_ptr(),
                 room.len(),
+                length,
             )
         })
     }
@@ -216,13 +224,11 @@ impl Reader {
     }
 }
 
-/// The message that is laid over the room's first bytes; a length of 0 is number 24.
-fn built(lay: impl FnOnce(&mut [u8; MESSAGE_ROOM]) -> usize) -> Built {
-    let mut room = [0; MESSAGE_ROOM];
-    match lay(&mut room) {
-        0 => Err(Refusal::OWN_MESSAGE),
-        length => Ok(Bytes::new(room, length)),
-    }
+/// The message that is laid over the room's first bytes, of the length that is told; or the number of its refusal.
+fn built(lay: impl FnOnce(&mut [u8; MESSAGE_ROOM], &mut usize) -> u8) -> Built {
+    let (mut room, mut length) = ([0; MESSAGE_ROOM], 0);
+    Refusal::check(lay(&mut room, &mut length))?;
+    Ok(Bytes::new(room, length))
 }
 
 impl BlockSize {

@@ -18,9 +18,6 @@ impl Refusal {
         }
     }
 
-    /// A builder's refusal: the reader's own message.
-    pub(crate) const OWN_MESSAGE: Refusal = Refusal(24);
-
     /// Its number: 1 to 7 of the tag, 8 of chaining, 20 to 24 of the reader's side, 30 to 35 of a sheet.
     pub fn number(self) -> u8 {
         self.0

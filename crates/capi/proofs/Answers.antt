@@ -19,7 +19,7 @@ use Rattle.reader_build.specs.declared.Made.{Made}
 use Rattle.reader_build.specs.declared.Made.the-variants.{Message, Refused}
 use Rattle.reader_judge.specs.Findings.{verdictNumber, Judges}
 use Rattle.reader_judge.specs.Judged.{judgementOf}
-use Rattle.reader_build.specs.Makes.{taken, Makes}
+use Rattle.reader_build.specs.Makes.{madeNumber, taken, Makes}
 use Rattle.capi.specs.Reader.{macGiven, keysOf, madeLength, worthNumber, findingOf, Builds, Finds}
 
 -- keys with a MAC key
@@ -37,22 +37,22 @@ told true n = refl
 told false n = refl
 
 module _ (fit : Bool) (message room : List ℕ) where
-  pub built : (a : Made) (r : ℕ) (after : List ℕ) → Makes fit message room a after → r ≡ madeLength a
-      → Builds fit message room r after
-  built a r after h e = record {
-    says = e ∙ ap madeLength (h .says) ∙ told (taken fit room) (length message);
-    holds =
-        h .holds;
+  pub built : (a : Made) (r long : ℕ) (after : List ℕ) → Makes fit message room a after → long ≡ madeLength a
+      → r ≡ madeNumber a → Builds fit message room r long after
+  built a r long after h e n = record {
+    number = n ∙ h .number;
+    long = e ∙ ap madeLength (h .says) ∙ told (taken fit room) (length message);
+    holds = h .holds;
   }
 
   -- where what is given is no key or no bit, nothing is built
   module _ (given : Bool) where
-    pub built-given : (a : Made) (r : ℕ) (after : List ℕ) → given ≡ true → Makes fit message room a after
-        → r ≡ madeLength a → Builds (both given fit) message room r after
-    built-given a r after g h e = rw g (built a r after h e)
+    pub built-given : (a : Made) (r long : ℕ) (after : List ℕ) → given ≡ true → Makes fit message room a after
+        → long ≡ madeLength a → r ≡ madeNumber a → Builds (both given fit) message room r long after
+    built-given a r long after g h e n = rw g (built a r long after h e n)
 
-    pub not-given : given ≡ false → Builds (both given fit) message room 0 room
-    not-given g = rw g (record { says = refl; holds = refl })
+    pub not-given : given ≡ false → Builds (both given fit) message room 24 0 room
+    not-given g = rw g (record { number = refl; long = refl; holds = refl })
 
 -- ---- the judge
 

@@ -51,9 +51,11 @@ abbrev pub madeLength : Made → ℕ
 madeLength (Message n) = n
 madeLength (Refused f) = 0
 
--- Taken: the message over the room's first bytes, and its length. Else 0, and no byte of the room changes.
-pub record Builds (fit : Bool) (message room : List ℕ) (r : ℕ) (after : List ℕ) : Type 0 where
-  pub says : r ≡ pick (taken fit room) (length message) 0
+-- Taken: 0, the message over the room's first bytes, and its length. Else 24 and length 0, and no byte of the room
+-- changes.
+pub record Builds (fit : Bool) (message room : List ℕ) (r told : ℕ) (after : List ℕ) : Type 0 where
+  pub number : r ≡ pick (taken fit room) 0 24
+  pub long : told ≡ pick (taken fit room) (length message) 0
   pub holds : after ≡ pick (taken fit room) (over message room) room
 
 -- ---- what the judge leaves

@@ -1,6 +1,6 @@
-// The seven messages of the reader's side, from plain numbers, over the first bytes of a lent room. Each answers the
-// message's length; or 0, which is number 24: a field out of its range, ProtMode 2 or 3 with no MAC key, or a room of
-// under 176 bytes. Then no byte of the room changes.
+// The seven messages of the reader's side, from plain numbers, over the first bytes of a lent room. Each answers 0 and
+// tells the message's length; or 24, where a field is out of its range, ProtMode is 2 or 3 with no MAC key, or the room
+// has under 176 bytes. Then the length is 0, and no byte of the room changes.
 use super::given;
 ghost use mathlib.Core.Bool.{true};
 ghost use lib.ListN.{length};
@@ -23,10 +23,18 @@ ghost use Rattle.capi.specs.Reader.{macGiven, sizeGiven, bitsGiven, keys
 
 /// TAM1. Ruled out: a message in a room of 175 bytes; the challenge cut.
 #[no_mangle]
-pub extern "C" fn roualint_build_tam1(keyid: u8, ichallenge: &[u8; 10], room: &mut [u8]) -> usize
-    ensures { λ r. ⌜ Builds true (tam1Made keyid (now (ichallenge .entry))) (now (room .entry)) r (now (room .exit)) ⌝ }
+pub extern "C" fn roualint_build_tam1(
+    keyid: u8,
+    ichallenge: &[u8; 10],
+    room: &mut [u8],
+    told: &mut usize,
+) -> u8
+    ensures { λ r. ⌜ Builds true (tam1Made keyid (now (ichallenge .entry))) (now (room .entry)) r (now (told .exit))
+        (now (room .exit)) ⌝ }
 {
-    given::length_of(reader_build::tam1(keyid, *ichallenge, room))
+    let made = reader_build::tam1(keyid, *ichallenge, room);
+    *told = given::length_of(made);
+    given::made_number(made)
 }
 
 /// TAM2, by the reader's keys: BlockSize 0 (64-bit blocks) or 1 (16-bit blocks), Rev 0 or 1.
@@ -44,27 +52,33 @@ pub extern "C" fn roualint_build_tam2(
     blockcount: u8,
     protmode: u8,
     room: &mut [u8],
-) -> usize
+    told: &mut usize,
+) -> u8
     ensures { λ r. ⌜ Builds (both (bitsGiven (now (mac .entry)) blocksize rev)
         (both (modeFits (keysOf (now (enc .entry)) (now (mac .entry))) protmode)
         (customFits (customOf blocksize profile offset blockcount))))
         (tam2Made keyid (now (ichallenge .entry)) (flag rev) (customOf blocksize profile offset blockcount) protmode)
-        (now (room .entry)) r (now (room .exit)) ⌝ }
+        (now (room .entry)) r (now (told .exit)) (now (room .exit)) ⌝ }
 {
     if !given::bits_given(mac, blocksize, rev) {
-        return 0;
+        *told = 0;
+        return 24;
     }
     let keys = given::keys_of(*enc, mac);
     let custom = given::custom_of(blocksize, profile, offset, blockcount);
-    given::length_of(reader_build::tam2(keys, keyid, *ichallenge, rev == 1, custom, protmode, room))
+    let made = reader_build::tam2(keys, keyid, *ichallenge, rev == 1, custom, protmode, room);
+    *told = given::length_of(made);
+    given::made_number(made)
 }
 
 /// IAM1. Ruled out: the first byte of MAM1; bytes behind the message cleared.
 #[no_mangle]
-pub extern "C" fn roualint_build_iam1(keyid: u8, room: &mut [u8]) -> usize
-    ensures { λ r. ⌜ Builds true (iam1Made keyid) (now (room .entry)) r (now (room .exit)) ⌝ }
+pub extern "C" fn roualint_build_iam1(keyid: u8, room: &mut [u8], told: &mut usize) -> u8
+    ensures { λ r. ⌜ Builds true (iam1Made keyid) (now (room .entry)) r (now (told .exit)) (now (room .exit)) ⌝ }
 {
-    given::length_of(reader_build::iam1(keyid, room))
+    let made = reader_build::iam1(keyid, room);
+    *told = given::length_of(made);
+    given::made_number(made)
 }
 
 /// IAM2, by the reader's keys: the answer to the challenge of an IAM1.
@@ -77,16 +91,20 @@ pub extern "C" fn roualint_build_iam2(
     irnd: &[u8; 4],
     tchallenge: &[u8; 10],
     room: &mut [u8],
-) -> usize
+    told: &mut usize,
+) -> u8
     ensures { λ r. ⌜ Builds (both (macGiven (now (mac .entry))) (purposeFits purpose))
         (iam2Made (keysOf (now (enc .entry)) (now (mac .entry))) purpose (now (irnd .entry)) (now (tchallenge .entry)))
-        (now (room .entry)) r (now (room .exit)) ⌝ }
+        (now (room .entry)) r (now (told .exit)) (now (room .exit)) ⌝ }
 {
     if !given::mac_given(mac) {
-        return 0;
+        *told = 0;
+        return 24;
     }
     let keys = given::keys_of(*enc, mac);
-    given::length_of(reader_build::iam2(keys, purpose, *irnd, *tchallenge, room))
+    let made = reader_build::iam2(keys, purpose, *irnd, *tchallenge, room);
+    *told = given::length_of(made);
+    given::made_number(made)
 }
 
 /// IAM3, by the reader's keys: the same answer, and data to be written.
@@ -105,19 +123,21 @@ pub extern "C" fn roualint_build_iam3(
     tchallenge: &[u8; 10],
     words: &[u8],
     room: &mut [u8],
-) -> usize
+    told: &mut usize,
+) -> u8
     ensures { λ r. ⌜ Builds (both (sizeGiven (now (mac .entry)) blocksize)
         (iam3Fits (keysOf (now (enc .entry)) (now (mac .entry))) (customOf blocksize profile offset blockcount) protmode
         purpose (length (now (words .entry))))) (iam3Made (keysOf (now (enc .entry)) (now (mac .entry)))
         (customOf blocksize profile offset blockcount) protmode purpose (now (irnd .entry)) (now (tchallenge .entry))
-        (now (words .entry))) (now (room .entry)) r (now (room .exit)) ⌝ }
+        (now (words .entry))) (now (room .entry)) r (now (told .exit)) (now (room .exit)) ⌝ }
 {
     if !given::size_given(mac, blocksize) {
-        return 0;
+        *told = 0;
+        return 24;
     }
     let keys = given::keys_of(*enc, mac);
     let custom = given::custom_of(blocksize, profile, offset, blockcount);
-    given::length_of(reader_build::iam3(
+    let made = reader_build::iam3(
         keys,
         custom,
         protmode,
@@ -126,15 +146,25 @@ pub extern "C" fn roualint_build_iam3(
         *tchallenge,
         words,
         room,
-    ))
+    );
+    *told = given::length_of(made);
+    given::made_number(made)
 }
 
 /// MAM1. Ruled out: the first byte of TAM1; a room of 175 bytes taken.
 #[no_mangle]
-pub extern "C" fn roualint_build_mam1(keyid: u8, ichallenge: &[u8; 10], room: &mut [u8]) -> usize
-    ensures { λ r. ⌜ Builds true (mam1Made keyid (now (ichallenge .entry))) (now (room .entry)) r (now (room .exit)) ⌝ }
+pub extern "C" fn roualint_build_mam1(
+    keyid: u8,
+    ichallenge: &[u8; 10],
+    room: &mut [u8],
+    told: &mut usize,
+) -> u8
+    ensures { λ r. ⌜ Builds true (mam1Made keyid (now (ichallenge .entry))) (now (room .entry)) r (now (told .exit))
+        (now (room .exit)) ⌝ }
 {
-    given::length_of(reader_build::mam1(keyid, *ichallenge, room))
+    let made = reader_build::mam1(keyid, *ichallenge, room);
+    *told = given::length_of(made);
+    given::made_number(made)
 }
 
 /// MAM2, by the reader's keys: the answer to the challenge of a MAM1.
@@ -147,14 +177,18 @@ pub extern "C" fn roualint_build_mam2(
     ichallenge: &[u8; 10],
     tchallenge: &[u8; 10],
     room: &mut [u8],
-) -> usize
+    told: &mut usize,
+) -> u8
     ensures { λ r. ⌜ Builds (both (macGiven (now (mac .entry))) (purposeFits purpose))
         (mam2Made (keysOf (now (enc .entry)) (now (mac .entry))) purpose (now (ichallenge .entry))
-        (now (tchallenge .entry))) (now (room .entry)) r (now (room .exit)) ⌝ }
+        (now (tchallenge .entry))) (now (room .entry)) r (now (told .exit)) (now (room .exit)) ⌝ }
 {
     if !given::mac_given(mac) {
-        return 0;
+        *told = 0;
+        return 24;
     }
     let keys = given::keys_of(*enc, mac);
-    given::length_of(reader_build::mam2(keys, purpose, *ichallenge, *tchallenge, room))
+    let made = reader_build::mam2(keys, purpose, *ichallenge, *tchallenge, room);
+    *told = given::length_of(made);
+    given::made_number(made)
 }

@@ -9,6 +9,7 @@ use reader_judge::Worth;
 ghost use mathlib.Core.Path.{_≡_};
 ghost use Rattle.ground.specs.Bytes.{bitOf};
 ghost use Rattle.frames.specs.Fields.{sizeOf};
+ghost use Rattle.reader_build.specs.Makes.{madeNumber};
 ghost use Rattle.reader_judge.specs.Findings.{verdictNumber};
 ghost use Rattle.capi.specs.Reader.{macGiven, keysOf, sizeGiven, bitsGiven, customOf, madeLength, worthNumber};
 
@@ -84,13 +85,23 @@ pub fn bits_given(mac: &[u8], blocksize: u8, rev: u8) -> bool
     size_given(mac, blocksize)
 }
 
-/// The length of the message that was built; 0 for none. Ruled out: 24 in its place; a length told with a refusal.
+/// The length of the message that was built; 0 for none. Ruled out: the room's length; a length told with a refusal.
 pub fn length_of(made: Made) -> usize
     ensures { λ r. ⌜ r ≡ madeLength made ⌝ }
 {
     match made {
         Made::Message(n) => n,
         Made::Refused(_) => 0,
+    }
+}
+
+/// The number of a builder's answer. Ruled out: 0 for every answer; a message's length.
+pub fn made_number(made: Made) -> u8
+    ensures { λ r. ⌜ r ≡ madeNumber made ⌝ }
+{
+    match made {
+        Made::Message(_) => 0,
+        Made::Refused(fault) => reader::number(fault),
     }
 }
 

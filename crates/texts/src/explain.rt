@@ -38,8 +38,9 @@ challenge is answered once, by the next message.\n",
 a challenge of an earlier exchange.\n",
         ),
         7 => print::text(
-            b"7 Bench fault: not ten draws, a reply room under 172 bytes, or an area not of the sheet's size; the tag \
-stays as it was. Look first at what the bench lends.\n",
+            b"7 Bench fault: not ten draws, a reply room under 172 bytes, an area not of the sheet's size, or, of a \
+tag that is kept as bytes, bytes that are no tag's; the tag stays as it was. Look first at what the bench lends, \
+then at what else writes to the kept bytes.\n",
         ),
         8 => print::text(
             b"8 Chaining refused: the data are no whole number of 16-byte blocks (for the MAC also no block), or the \

@@ -52,8 +52,8 @@ static void judge(void) {
 
 static void build_iam3(void) {
     static const uint8_t words[128];
-    message_length = roualint_build_iam3(ENC, MAC, 16, 0, 1, 0, 15, 3, 0, draws, challenge, words, sizeof words,
-                                         message, sizeof message);
+    roualint_build_iam3(ENC, MAC, 16, 0, 1, 0, 15, 3, 0, draws, challenge, words, sizeof words, message,
+                        sizeof message, &message_length);
 }
 
 static void aes_enc(void) {
@@ -94,13 +94,13 @@ int main(void) {
     told("AES-DEC of a block", aes_dec);
     told("roualint_sheet", sheet);
     told("roualint_power_up", power_up);
-    message_length = roualint_build_tam1(0, challenge, message, sizeof message);
+    roualint_build_tam1(0, challenge, message, sizeof message, &message_length);
     told("roualint_message, TAM1", send);
     told("roualint_judge, TAM1", judge);
-    message_length = roualint_build_tam2(ENC, MAC, 16, 0, 1, 0, challenge, 1, 0, 15, 3, message, sizeof message);
+    roualint_build_tam2(ENC, MAC, 16, 0, 1, 0, challenge, 1, 0, 15, 3, message, sizeof message, &message_length);
     told("roualint_message, TAM2, ProtMode 3", send);
     told("roualint_judge, TAM2, ProtMode 3", judge);
-    message_length = roualint_build_iam1(0, message, sizeof message);
+    roualint_build_iam1(0, message, sizeof message, &message_length);
     told("roualint_message, IAM1", send);
     told("roualint_judge, IAM1", judge);
     told("roualint_build_iam3, ProtMode 3", build_iam3);
