@@ -21,6 +21,17 @@ pub fn power_up(tag: &mut Tag)
     *tag = tag::power_up(before.terms);
 }
 
+/// A tag that is kept here for one power-up, and powered up where it is kept.
+///
+/// Ruled out: a tag that is returned as it came; a tag that comes up with another's terms.
+pub fn woken(tag: Tag) -> Tag
+    ensures { λ r. ⌜ r ≡ awake (tag .terms) ⌝ }
+{
+    let mut place = tag;
+    power_up(&mut place);
+    place
+}
+
 /// One message to the tag that is kept, its key table lent: what `tag::step` returns of the tag is stored in its place,
 /// and the outcome is returned. Room and areas are left as that step leaves them.
 ///

@@ -35,7 +35,7 @@ pub struct Place {
 
 // Before the first command. The terms of an empty sheet, which is refused, are empty.
 pub fn empty() -> Place {
-    let reading = sheet::read(b"");
+    let reading = bench::cursor::read(b"");
     let terms = reading.terms;
     let tag = tag::power_up(terms);
     Place {
@@ -157,9 +157,8 @@ pub fn power(p: Place, line: &[u8]) -> Place {
     }
     answer::ok();
     let tag = p.tag;
-    let terms = tag.terms;
     let mut after = p;
-    after.tag = tag::power_up(terms);
+    after.tag = bench::woken(tag);
     after
 }
 
