@@ -3,12 +3,10 @@ use mathlib.Core.Path.{_≡_, refl, sym, ap, ap₂, _∙_, subst}
 use mathlib.Core.Bool.{Bool, true}
 use mathlib.Core.List.{List, [], _∷_}
 use Prim.Native.Nat.{ℕ}
-use contract.Lifetimes.{Lfts}
-use borrow.Fn.Kinds.{Dens, resT, endedOf}
-use denote.Triple.Clauses.{AtExit}
 use denote.Ref.{now}
 use Rattle.ground.specs.Bytes.{Bytes}
 use Rattle.ground.specs.Choice.{pick}
+use Rattle.ground.specs.Contracts.{Says}
 use Rattle.modes.specs.Room.{over}
 use Rattle.sheet.specs.declared.Terms.{Terms}
 use Rattle.sheet.specs.KeyTable.{keyTable}
@@ -37,10 +35,8 @@ use Rattle.capi.proofs.kept.roualint_power_up.Reads as power-up
 use Rattle.capi.proofs.kept.roualint_power_up.Kinds as power-up-kinds
 
 -- A call, as the run has it, is the contract that the checker reads from the source of `roualint_message`.
-pub send-is-message : (κs : Lfts 8) (a : Dens κs message-kinds.ps) (r : resT message-kinds.r κs .Denot)
-    (e : AtExit (endedOf 8 message-kinds.ps message-kinds.r) κs)
-    → message.Post κs a r e
-    ≡ Sends (now (a .0)) (now (a .1 .1 .1 .1 .0)) (now (a .1 .1 .1 .1 .1 .0))
+pub send-is-message : Says 8 message-kinds.ps message-kinds.r message.Post
+    (λ κs a r e. Sends (now (a .0)) (now (a .1 .1 .1 .1 .0)) (now (a .1 .1 .1 .1 .1 .0))
     (record { message = now (a .1 .0); draws = now (a .1 .1 .0); room = now (a .1 .1 .1 .0) })
     (record {
       stepped = record {
@@ -52,13 +48,12 @@ pub send-is-message : (κs : Lfts 8) (a : Dens κs message-kinds.ps) (r : resT m
       room = now (e .1 .1 .1 .0);
       identity = now (e .1 .1 .1 .1 .0);
       user = now (e .1 .1 .1 .1 .1 .0);
-    })
+    }))
 send-is-message κs a r e = refl
 
 -- So is a power-up that of `roualint_power_up`.
-pub wake-is-power-up : (κs : Lfts 1) (a : Dens κs power-up-kinds.ps) (r : resT power-up-kinds.r κs .Denot)
-    (e : AtExit (endedOf 1 power-up-kinds.ps power-up-kinds.r) κs)
-    → power-up.Post κs a r e ≡ PoweredUp (now (a .0)) r (now (e .0))
+pub wake-is-power-up : Says 1 power-up-kinds.ps power-up-kinds.r power-up.Post
+    (λ κs a r e. PoweredUp (now (a .0)) r (now (e .0)))
 wake-is-power-up κs a r e = refl
 
 module _ (sheet : List ℕ) (y : Bytes sheet) (e : Accepted keyLimit sheet) where
@@ -68,7 +63,7 @@ module _ (sheet : List ℕ) (y : Bytes sheet) (e : Accepted keyLimit sheet) wher
   abbrev table : List ℕ
   table = keyTable sheet (readOf keyLimit sheet .keys)
 
-  abbrev tagOf : Session → KeyedTag
+  abbrev pub tagOf : Session → KeyedTag
   tagOf s = holding (saidOf keyLimit sheet) s
 
   awake-holds : Holds (saidOf keyLimit sheet .keys) cleared
@@ -84,7 +79,7 @@ module _ (sheet : List ℕ) (y : Bytes sheet) (e : Accepted keyLimit sheet) wher
     tag-there =
         is-tag-back s w terms table (said-fits sheet y e) (holds-fits (saidOf keyLimit sheet .keys) s k)
 
-    said-back : tagOf s ≡ keyedIn image
+    pub said-back : tagOf s ≡ keyedIn image
     unfolding saidOf
     said-back =
         let h = said-fits sheet y e in

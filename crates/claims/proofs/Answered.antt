@@ -68,7 +68,7 @@ use Rattle.claims.specs.Answered.{ChainAnswers, LayerAnswers}
 
 -- ---- the tag
 
-tag-number : (f : TagFault) → Among tagNumbers (outcomes.numberOf f)
+pub tag-number : (f : TagFault) → Among tagNumbers (outcomes.numberOf f)
 tag-number OtherError = refl
 tag-number NotSupported = refl
 tag-number MemoryOverrun = refl
@@ -93,7 +93,7 @@ tag-answers table tag identity user b x f h e =
 
 -- ---- the sheet
 
-sheet-number : (f : SheetFault) → Among sheetNumbers (sheet.numberOf f)
+pub sheet-number : (f : SheetFault) → Among sheetNumbers (sheet.numberOf f)
 sheet-number Cut = refl
 sheet-number Unknown = refl
 sheet-number Order = refl

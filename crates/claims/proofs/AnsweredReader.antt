@@ -44,7 +44,7 @@ use Rattle.reader_judge.specs.Judged.{
 use Rattle.reader_build.specs.Makes.{taken, madeNumber}
 use Rattle.claims.specs.Answered.{Among, readerNumbers, JudgeAnswers, BuilderAnswers}
 
-reader-number : (f : ReaderFault) → Among readerNumbers (numberOf f)
+pub reader-number : (f : ReaderFault) → Among readerNumbers (numberOf f)
 reader-number ReplyLength = refl
 reader-number ChallengeWrong = refl
 reader-number MacWrong = refl
@@ -54,10 +54,10 @@ reader-number OwnMessage = refl
 -- ---- the judge
 
 -- a refused finding carries nothing
-abbrev Quiet : Finding → Type 0
+abbrev pub Quiet : Finding → Type 0
 Quiet x = (f : ReaderFault) → x .verdict ≡ Refused f → x ≡ refused f
 
-refused-quiet : (g : ReaderFault) → Quiet (refused g)
+pub refused-quiet : (g : ReaderFault) → Quiet (refused g)
 refused-quiet g f e = ap silent e
 
 nothing-quiet : Quiet nothingMore
@@ -69,7 +69,7 @@ carries-quiet w bytes f e = let z : _≡_ {A = ℕ} 0 1 = cc in absurd (omega ar
 issues-quiet : (challenge : List ℕ) → Quiet (issues challenge)
 issues-quiet challenge f e = let z : _≡_ {A = ℕ} 0 1 = cc in absurd (omega arith)
 
-picked-quiet : (t : Bool) (x y : Finding) → Quiet x → Quiet y → Quiet (pick t x y)
+pub picked-quiet : (t : Bool) (x y : Finding) → Quiet x → Quiet y → Quiet (pick t x y)
 picked-quiet true x y hx hy = hx
 picked-quiet false x y hx hy = hy
 
@@ -99,7 +99,7 @@ module _ (keys : Keys) (m reply : List ℕ) where
   kind-quiet Mam2 = judged-quiet _ _ nothing-quiet
   kind-quiet Unsupported = refused-quiet OwnMessage
 
-judgement-quiet : (keys : Keys) (m reply : List ℕ) (room : ℕ) → Quiet (judgementOf keys m reply room)
+pub judgement-quiet : (keys : Keys) (m reply : List ℕ) (room : ℕ) → Quiet (judgementOf keys m reply room)
 unfolding judgementOf ofKind
 judgement-quiet keys [] reply room = refused-quiet OwnMessage
 judgement-quiet keys (b ∷ m) reply room =

@@ -1,5 +1,5 @@
 -- No premise is hollow: the theorems of demand 1 and the five false tags, applied to something of which they hold.
--- (Entry's are in Entered, demand 3's in SilenceExamples and SheetsExamples.)
+-- (Entry's are in Entered, demand 3's in the crate `silence`: SilenceExamples and SheetsExamples.)
 use mathlib.Core.Path.{_≡_, refl, ap}
 use mathlib.Core.Logic.{_⊎_}
 use mathlib.Core.Bool.{true, false}

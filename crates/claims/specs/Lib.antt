@@ -7,7 +7,4 @@ pub mod Answered
 pub mod Edges
 pub mod ShutOut
 pub mod Ways
-pub mod Names
-pub mod Silence
-pub mod Sheets
 pub mod Fixed

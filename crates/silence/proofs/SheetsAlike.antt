@@ -19,8 +19,8 @@ use Rattle.octets.specs.Alike.{allZero}
 use Rattle.sheet.specs.Records.{keyRule, keyOf}
 use Rattle.sheet.specs.Judgement.{openedOf, takenIf, withKey, recordOf, onlyIf, judgedOf}
 use Rattle.sheet.specs.KeysMet.{keySaid}
-use Rattle.claims.specs.Silence.{RecordAlike, RecordsAlike}
-use Rattle.claims.specs.Sheets.{KeyBodiesAlike, BodiesAlike}
+use Rattle.silence.specs.Silence.{RecordAlike, RecordsAlike}
+use Rattle.silence.specs.Sheets.{KeyBodiesAlike, BodiesAlike}
 
 module _ (named : ℕ → Bool) where
   pub none-alike : RecordsAlike named [] []

@@ -12,7 +12,7 @@ use Rattle.sheet.specs.Setups.{noMarks, nothingGathered, emptyTerms}
 use Rattle.sheet.specs.Records.{featuresRule, sizesRule, keyRule}
 use Rattle.sheet.specs.Judgement.{tooMany, openedOf, withFeatures, withSizes, withKey, recordOf, judgedOf}
 use Rattle.sheet.specs.Sheet.{after, walk, readOf}
-use Rattle.claims.specs.Sheets.{AlikeFrom, SheetsAlike}
+use Rattle.silence.specs.Sheets.{AlikeFrom, SheetsAlike}
 
 -- a tag with one record, of KeyID 2 and with a MAC key
 abbrev pub sheet : ℕ → ℕ → List ℕ

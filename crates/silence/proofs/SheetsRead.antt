@@ -21,12 +21,12 @@ use Rattle.sheet.specs.KeyTable.{recordsIn, keysIn, keyTable}
 use Rattle.sheet.specs.KeysMet.{keySaid, metIn, metFrom, keysMet}
 use Rattle.sheet.specs.Sheet.{after, walk, readOf, saidOf}
 use Rattle.sheet.proofs.Sheets.{keys-stand}
-use Rattle.claims.specs.Names.{namedIn}
-use Rattle.claims.specs.Silence.{RecordsAlike}
-use Rattle.claims.specs.Sheets.{AlikeFrom, SheetsAlike, SheetsReadAlike, SilentSheets}
+use Rattle.silence.specs.Names.{namedIn}
+use Rattle.silence.specs.Silence.{RecordsAlike}
+use Rattle.silence.specs.Sheets.{AlikeFrom, SheetsAlike, SheetsReadAlike, SilentSheets}
 use Rattle.claims.proofs.Answered.{walk-empty}
-use Rattle.claims.proofs.SheetsAlike.{none-alike, joined-alike, said-alike, judged-alike}
-use Rattle.claims.proofs.Silence.{silent}
+use Rattle.silence.proofs.SheetsAlike.{none-alike, joined-alike, said-alike, judged-alike}
+use Rattle.silence.proofs.Silence.{silent}
 
 module _ (named : ℕ → Bool) where
   alike-length : (u v : List ℕ) (body : ℕ) → AlikeFrom named u v body → length u ≡ length v

@@ -17,8 +17,8 @@ use Rattle.tag.specs.Runs.{Event, Message, PowerUp, callOf, answerTo, run}
 use Rattle.tag.specs.Reactions.{steppedOf}
 use Rattle.tag.specs.Plays.{Doing, Left, eventsOf, roomOf, leftAll}
 use Rattle.tag.proofs.Played.{played}
-use Rattle.claims.specs.Names.{namedBy, namedIn}
-use Rattle.claims.specs.Silence.{
+use Rattle.silence.specs.Names.{namedBy, namedIn}
+use Rattle.silence.specs.Silence.{
   SetupsAlike,
   Memory,
   MemoriesAlike,
@@ -30,9 +30,9 @@ use Rattle.claims.specs.Silence.{
   SilentCode,
   ChangeAlike,
 }
-use Rattle.claims.proofs.SilenceStores.{unchanged, one-after-another}
-use Rattle.claims.proofs.SilenceWords.{still-alike}
-use Rattle.claims.proofs.SilenceSteps.{HeldNamed, cleared-named, step-alike}
+use Rattle.silence.proofs.SilenceStores.{unchanged, one-after-another}
+use Rattle.silence.proofs.SilenceWords.{still-alike}
+use Rattle.silence.proofs.SilenceSteps.{HeldNamed, cleared-named, step-alike}
 
 either-left : (b d : Bool) → b ≡ true → either b d ≡ true
 either-left b d h = rw h refl

@@ -30,9 +30,9 @@ use Rattle.offer.specs.Records.{offered, slotNamed}
 use Rattle.offer.specs.Judged.{lendingChecks, openingChecks}
 use Rattle.tag.specs.Answers.{replied, ifFine, iam1Answer, byKind, inOrder, ofMessage, effectOf}
 use Rattle.tag.specs.Runs.{Event, Message, answerTo, run}
-use Rattle.claims.specs.Names.{carriesKeyid, namedBy, namedIn}
-use Rattle.claims.specs.Silence.{RecordsAlike, SetupsAlike, Memory, MemoriesAlike, SameAnswers, wordOf, answers}
-use Rattle.claims.proofs.Silence.{silent}
+use Rattle.silence.specs.Names.{carriesKeyid, namedBy, namedIn}
+use Rattle.silence.specs.Silence.{RecordsAlike, SetupsAlike, Memory, MemoriesAlike, SameAnswers, wordOf, answers}
+use Rattle.silence.proofs.Silence.{silent}
 
 -- ---- the tag: record 1 may use profile 0, which is word 0 of the user area; record 2 may use profile 1, word 1
 

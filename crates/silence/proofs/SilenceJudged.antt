@@ -45,8 +45,8 @@ use Rattle.offer.specs.Judged.{drawBytes, lendingChecks, openingChecks}
 use Rattle.tam.specs.Judged.{tam2Checks}
 use Rattle.entry.specs.Judged.{iam2Checks, iam3Checks, mam2Checks}
 use Rattle.offer.proofs.Lines.{first-holds, others-hold}
-use Rattle.claims.specs.Silence.{SetupsAlike}
-use Rattle.claims.proofs.SilenceRecords.{Found, found}
+use Rattle.silence.specs.Silence.{SetupsAlike}
+use Rattle.silence.proofs.SilenceRecords.{Found, found}
 
 module _ (named : ℕ → Bool) (s t : Setup) (alike : SetupsAlike named s t) where
   pub finds : (keyid : ℕ) → Found named keyid (s .keys) (t .keys)

@@ -7,7 +7,7 @@ use lib.Dec.{eqb}
 use borrow.Author.Tests.{eqb-true}
 use Rattle.sheet.specs.declared.Key.{Key}
 use Rattle.keytable.specs.Named.{hasKey, keyWith}
-use Rattle.claims.specs.Silence.{RecordAlike, RecordsAlike}
+use Rattle.silence.specs.Silence.{RecordAlike, RecordsAlike}
 
 pub record Found (named : ℕ → Bool) (keyid : ℕ) (ks ls : List Key) : Type 0 where
   pub present : hasKey keyid ks ≡ hasKey keyid ls

@@ -41,9 +41,9 @@ use Rattle.offer.specs.Judged.{lendingChecks, openingChecks}
 use Rattle.tam.specs.Judged.{tam2Checks}
 use Rattle.tag.specs.Answers.{replied, ifFine, tam1Answer, tam2Answer, byKind, inOrder, ofMessage, effectOf}
 use Rattle.tag.specs.Runs.{Event, Message, answerTo, run}
-use Rattle.claims.specs.Silence.{Memory, SameAnswers, answers}
-use Rattle.claims.proofs.SilenceExamples.{ours, carrying, keeping}
-use Rattle.claims.proofs.Traces.{Row, traced}
+use Rattle.silence.specs.Silence.{Memory, SameAnswers, answers}
+use Rattle.silence.proofs.SilenceExamples.{ours, carrying, keeping}
+use Rattle.silence.proofs.Traces.{Row, traced}
 
 -- sixteen bytes as they are printed
 abbrev digits : ℕ → ℕ → List ℕ → List ℕ

@@ -61,11 +61,11 @@ use Rattle.tag.specs.Answers.{
 use Rattle.tag.specs.Runs.{Sent, callOf}
 use Rattle.offer.proofs.Passed.{opening-length}
 use Rattle.tam.proofs.Passed.{tam2-length, tam2-key, tam2-inside}
-use Rattle.claims.specs.Names.{carriesKeyid, namedBy}
-use Rattle.claims.specs.Silence.{SetupsAlike, Memory, MemoriesAlike, SameChange, SameAnswer}
-use Rattle.claims.proofs.SilenceStores.{unchanged, stored-alike}
-use Rattle.claims.proofs.SilenceWords.{asked-open, window-alike, same-in-block}
-use Rattle.claims.proofs.SilenceJudged.{
+use Rattle.silence.specs.Names.{carriesKeyid, namedBy}
+use Rattle.silence.specs.Silence.{SetupsAlike, Memory, MemoriesAlike, SameChange, SameAnswer}
+use Rattle.silence.proofs.SilenceStores.{unchanged, stored-alike}
+use Rattle.silence.proofs.SilenceWords.{asked-open, window-alike, same-in-block}
+use Rattle.silence.proofs.SilenceJudged.{
   finds,
   block-alike,
   lending-alike,

@@ -15,7 +15,7 @@ use Rattle.memory.specs.Address.{sameArea}
 use Rattle.memory.specs.Areas.{firstByte, byteCount, within, written, storedIn}
 use Rattle.memory.proofs.Truth.{both}
 use Rattle.memory.proofs.Stores.{stored-elsewhere, stored-length, stored-outside}
-use Rattle.claims.specs.Silence.{wordOf, SameChange}
+use Rattle.silence.specs.Silence.{wordOf, SameChange}
 
 pub unchanged : (s t : List ℕ) → SameChange s t s t
 unchanged s t = record { differed = λ w h. (refl, refl); agreed = λ w e. e; long = refl; long′ = refl }

@@ -20,8 +20,8 @@ use Rattle.frames.specs.declared.Custom.{Custom}
 use Rattle.frames.specs.Asked.{blockAsked as wordsAsked}
 use Rattle.keytable.specs.Named.{hasKey, keyWith}
 use Rattle.offer.specs.Records.{slotNamed, blockAsked}
-use Rattle.claims.specs.Names.{Open}
-use Rattle.claims.specs.Silence.{wordOf, Memory, MemoriesAlike, SameChange}
+use Rattle.silence.specs.Names.{Open}
+use Rattle.silence.specs.Silence.{wordOf, Memory, MemoriesAlike, SameChange}
 
 -- a byte is one of the two of its word
 pub byte-of-word : (s t : List ℕ) (i : ℕ) → wordOf s (i / 2) ≡ wordOf t (i / 2) → getD s i 0 ≡ getD t i 0

@@ -19,8 +19,8 @@ use Rattle.ground.specs.Bytes.{byteAt, wordAt, Bytes}
 use Rattle.sheet.specs.Limits.{keyLimit}
 use Rattle.sheet.specs.Sheet.{readOf, saidOf}
 use Rattle.tag.specs.Runs.{Event}
-use Rattle.claims.specs.Names.{namedIn}
-use Rattle.claims.specs.Silence.{SetupsAlike, Memory, MemoriesAlike, SameAnswers, answers}
+use Rattle.silence.specs.Names.{namedIn}
+use Rattle.silence.specs.Silence.{SetupsAlike, Memory, MemoriesAlike, SameAnswers, answers}
 
 -- Two bodies of a record 03: KeyID, MAC present and MPI are the same, ENC_key and MAC_key where the KeyID is named.
 -- Where the MAC key is absent its bytes are no key, but zeros by rule, and are the same too.

@@ -15,7 +15,7 @@ use Rattle.tag.specs.States.{poweredUp, awake}
 use Rattle.tag.specs.Answers.{Answer}
 use Rattle.tag.specs.Runs.{Event, run}
 use Rattle.tag.specs.Plays.{Doing, Left, Plays, eventsOf}
-use Rattle.claims.specs.Names.{namedIn, Open}
+use Rattle.silence.specs.Names.{namedIn, Open}
 
 -- ---- set up alike
 

@@ -3,10 +3,8 @@
 use mathlib.Core.Path.{_≡_, refl, ap, _∙_, subst}
 use mathlib.Core.List.{List, [], _∷_}
 use Prim.Native.Nat.{ℕ}
-use contract.Lifetimes.{Lfts}
-use borrow.Fn.Kinds.{Dens, resT, endedOf}
-use denote.Triple.Clauses.{AtExit}
 use denote.Ref.{now}
+use Rattle.ground.specs.Contracts.{Says}
 use Rattle.tag.specs.declared.Tag.{Tag}
 use Rattle.tag.specs.States.{KeyedTag, keyed, keyless, awake, poweredUp}
 use Rattle.tag.specs.Answers.{Answer}
@@ -20,23 +18,19 @@ use Rattle.tag.proofs.step.Reads as step
 use Rattle.tag.proofs.step.Kinds as step-kinds
 
 -- A call, as the run has it, is the contract that the checker reads from the source of `step`.
-pub call-is-step : (κs : Lfts 6) (a : Dens κs step-kinds.ps) (r : resT step-kinds.r κs .Denot)
-    (e : AtExit (endedOf 6 step-kinds.ps step-kinds.r) κs)
-    → step.Post κs a r e
-    ≡ Called (now (a .1 .0)) (a .0) (now (a .1 .1 .1 .1 .1 .0)) (now (a .1 .1 .1 .1 .1 .1 .0))
+pub call-is-step : Says 6 step-kinds.ps step-kinds.r step.Post
+    (λ κs a r e. Called (now (a .1 .0)) (a .0) (now (a .1 .1 .1 .1 .1 .0)) (now (a .1 .1 .1 .1 .1 .1 .0))
     (record { message = now (a .1 .1 .0); draws = now (a .1 .1 .1 .0); room = now (a .1 .1 .1 .1 .0) })
     (record {
       stepped = r;
       room = now (e .1 .1 .1 .1 .0);
       identity = now (e .1 .1 .1 .1 .1 .0);
       user = now (e .1 .1 .1 .1 .1 .1 .0);
-    })
+    }))
 call-is-step κs a r e = refl
 
 -- A power-up, as the run has it, leaves the tag that the contract of `power_up` gives.
-pub wake-is-power-up : (κs : Lfts 0) (a : Dens κs power-up-kinds.ps) (r : resT power-up-kinds.r κs .Denot)
-    (e : AtExit (endedOf 0 power-up-kinds.ps power-up-kinds.r) κs)
-    → power-up.Post κs a r e ≡ (r ≡ awake (a .0))
+pub wake-is-power-up : Says 0 power-up-kinds.ps power-up-kinds.r power-up.Post (λ κs a r e. r ≡ awake (a .0))
 wake-is-power-up κs a r e = refl
 
 module _ (keys identity user : List ℕ) (tag : Tag) where

@@ -1,0 +1,4 @@
+pub mod Answered
+pub mod Contracts
+pub mod Silence
+pub mod Recovery

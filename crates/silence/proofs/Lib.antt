@@ -1,0 +1,12 @@
+pub mod SilenceRecords
+pub mod SilenceStores
+pub mod SilenceWords
+pub mod SilenceJudged
+pub mod SilenceSteps
+pub mod Silence
+pub mod SilenceExamples
+pub mod SheetsAlike
+pub mod SheetsRead
+pub mod SheetsExamples
+pub mod Traces
+pub mod SilenceShown
