@@ -1,20 +1,16 @@
 -- The premises of recovery and of Fixed hold: on the bench of examples an IAM1 is taken, and the reader recovers the
 -- challenge. No cipher is computed.
 use mathlib.Core.Path.{_≡_, sym, ap, refl, subst}
-use mathlib.Core.Bool.{Bool, true, false}
-use mathlib.Core.List.{List, [], _∷_}
-use Prim.Native.Nat.{ℕ, zero, suc, _<_}
+use mathlib.Core.Bool.{false}
+use mathlib.Core.List.{List, []}
+use Prim.Native.Nat.{ℕ, zero, suc}
 use native.Mathlib.Omega.{arith}
-use borrow.Author.Tests.{ltb-true}
-use lib.Dec.{ltb, lit<}
-use Rattle.ground.specs.Choice.{both}
+use lib.Dec.{lit<}
 use Rattle.ground.specs.Checks.{judgedTo}
-use Rattle.frames.proofs.Range.{both-left, both-right}
 use lib.ListN.{length, take, replicate}
 use Rattle.modes.specs.Room.{over}
 use Rattle.sheet.specs.Limits.{keyLimit, profileLimit}
-use Rattle.ground.specs.Bytes.{Bytes as SheetBytes, Bytes, byteAt}
-use Rattle.ground.proofs.Bytes.{bytes-none, bytes-cons}
+use Rattle.ground.specs.Bytes.{Bytes, byteAt}
 use Rattle.sheet.specs.declared.Reading.{Reading}
 use Rattle.sheet.specs.KeyTable.{keysIn, recordsIn}
 use Rattle.sheet.specs.Records.{keyOf}
@@ -42,22 +38,11 @@ use Rattle.reader.specs.Own.{fieldsFit, ownFits}
 use Rattle.claims.specs.Fixed.{trndIn, remade}
 use Rattle.claims.specs.Recovery.{keyidUsed, keyUsed, Shares, Fit, due}
 use Rattle.claims.proofs.Bench.{key, terms, table, setup, its-setup, sheet, sheet-read, said, bench, user, drawn}
-use Rattle.claims.proofs.Bench.{brings, iam1}
+use Rattle.claims.proofs.Bench.{brings, iam1, answered, are-bytes}
 use Rattle.claims.proofs.Fixed.{fixed}
 use Rattle.claims.proofs.RecoveryCode.{recovery-code}
-use Rattle.claims.proofs.ShutOut.{answered}
 
 -- the setup is one that a sheet says
-abbrev below : List ℕ → Bool
-below [] = true
-below (x ∷ s) = both (ltb x 256) (below s)
-
-are-bytes : (s : List ℕ) → below s ≡ true → SheetBytes s
-are-bytes [] e = bytes-none
-are-bytes (x ∷ s) e =
-    bytes-cons x s (ltb-true x 256 (both-left (ltb x 256) (below s) e))
-    (are-bytes s (both-right (ltb x 256) (below s) e))
-
 within : Within keyLimit setup
 within =
     let taken = ap (λ (r : Reading). r .verdict) sheet-read in
