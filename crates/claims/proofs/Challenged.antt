@@ -94,7 +94,7 @@ module _ (s : Start) (h : HasRecord s) where
     iam1-taken = iam1-answered (callAt s iam1) (keyed (woke s .tag) (s .table)) (h .keyid)
         (record { bench = lends s h 0; there = feature; turn = refl }) (h .there) refl
 
-    pub iam1-leads : reached s (steps (nothing s h ∷ iam1 ∷ [])) ≡ waiting IamInit (replicate 4 0)
+    pub iam1-leads : reached s (steps (nothing ∷ iam1 ∷ [])) ≡ waiting IamInit (replicate 4 0)
     unfolding steps replied
     iam1-leads = ap (λ (t : Start). next t (Step iam1)) (rests s h) ∙ ap (onward (woke s)) iam1-taken
 
@@ -121,7 +121,7 @@ module _ (s : Start) (h : HasRecord s) where
     mam1-taken = mam1-answered (callAt s mam1) (keyed (woke s .tag) (s .table)) (h .keyid) (drawn 0)
         (record { bench = lends s h 0; there = feature; turn = refl }) (h .there) refl refl
 
-    pub mam1-leads : reached s (steps (nothing s h ∷ mam1 ∷ [])) ≡ waiting MamInit (drop 6 (drawn 0))
+    pub mam1-leads : reached s (steps (nothing ∷ mam1 ∷ [])) ≡ waiting MamInit (drop 6 (drawn 0))
     unfolding steps replied
     mam1-leads = ap (λ (t : Start). next t (Step mam1)) (rests s h) ∙ ap (onward (woke s)) mam1-taken
 

@@ -128,7 +128,7 @@ fits : iam3Fits keys custom 0 0 8 ≡ true
 unfolding iam3Fits modeFits readerServes protModeOf hasMac purposeFits dataFits dataLength blockBytes customFits
 fits = refl
 
-writable : Writable setup (keyWith 0 (setup .keys)) custom 0
+pub writable : Writable setup (keyWith 0 (setup .keys)) custom 0
 unfolding setup terms modeSupported modeServed modeOffered protModeOf hasMac keyWith slotNamed permitted sizeOffered
     overruns lastWord
     profileEnd blockAsked wordsAsked addressOf stepOf someLocked meetsAny keyLimit profileLimit lockLimit

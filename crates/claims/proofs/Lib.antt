@@ -18,6 +18,7 @@ pub mod Reached
 pub mod ReplyLength
 pub mod EncKeys
 pub mod Taken
+pub mod SheetStarts
 pub mod Challenged
 pub mod Served
 pub mod ShutOut
@@ -25,6 +26,7 @@ pub mod NeverStores
 pub mod FalseTags
 pub mod Entered
 pub mod Inhabited
+pub mod ShutOutExamples
 pub mod Ways
 pub mod SilenceRecords
 pub mod SilenceStores

@@ -54,7 +54,7 @@ module _ (s : Start) (w : HasWritable s) where
   unfolding blockAsked
   some = omega (arith, asked-some (slotNamed (setupAt s .profiles) (w .custom .profile) .profile) (w .custom))
 
-  stored : answerAt (reached s (steps (nothing s (w .holder) ∷ iam1 s (w .holder) ∷ []))) (iam3 s w words)
+  stored : answerAt (reached s (steps (nothing ∷ iam1 s (w .holder) ∷ []))) (iam3 s w words)
       ≡ answerWith (setupAt s) (letIn (callAt s (iam3 s w words)) 0
       (storedIn Identity block words (s .identity)) (storedIn User block words (s .user)))
   unfolding blockAsked
@@ -67,7 +67,7 @@ module _ (s : Start) (w : HasWritable s) where
 pub never-stores : ShutOut HasWritable NeverStores
 unfolding letIn
 never-stores s w p says standard =
-    let before = nothing s (w .holder) ∷ iam1 s (w .holder) ∷ [] in
+    let before = nothing ∷ iam1 s (w .holder) ∷ [] in
     let b = iam3 s w (words s w) in
     let same = of-last s p standard (steps before) b (λ (x : Left). (x .identity ≡ s .identity) × (x .user ≡ s .user))
     (says before b) in

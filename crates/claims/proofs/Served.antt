@@ -41,7 +41,9 @@ pub record Serves (kind : Kind) (s : Start) : Type 0 where
 -- the number of an answer, where the run leads to the start t
 number : {s t : Start} {a : Answer} (b : Brought) → s ≡ t → answerAt t b ≡ a
     → numberGiven (answerAt s b .outcome) ≡ numberGiven (a .outcome)
-number b e q = ap (λ (t : Start). numberGiven (answerAt t b .outcome)) e ∙ ap (λ (x : Answer). numberGiven (x .outcome)) q
+number b e q =
+    ap (λ (t : Start). numberGiven (answerAt t b .outcome)) e
+    ∙ ap (λ (x : Answer). numberGiven (x .outcome)) q
 
 tam1-served : (s : Start) → HasRecord s → Serves Tam1 s
 unfolding steps tam1Made tam1Message kindOf tamKind
@@ -63,12 +65,13 @@ tam2-served s r =
       custom = r .custom;
       protmode = r .protmode;
     } in
-    let b = brings (tam2Made (r .holder .keyid) (drawn 0) (r .rev) (r .custom) (r .protmode)) 0 in
+    let keyid = r .holder .keyid in
+    let b = brings (tam2Made keyid (drawn 0) (r .rev) (r .custom) (r .protmode)) 0 in
     record {
       before = [];
       message = b;
       begins = tam2-shape f refl (omega arith) .1;
-      taken = number b refl (tam2-answered (callAt s b) (keyed (s .tag) (s .table)) (r .holder .keyid) (drawn 0) (r .rev)
+      taken = number b refl (tam2-answered (callAt s b) (keyed (s .tag) (s .table)) keyid (drawn 0) (r .rev)
           (r .custom) (r .protmode) (record { bench = lends s (r .holder) 0; there = refl; turn = refl })
           (r .holder .there) refl (r .nameable) (r .readable) refl);
     }
@@ -76,7 +79,7 @@ tam2-served s r =
 iam1-served : (s : Start) → HasFeature Iam1 s → Serves Iam1 s
 unfolding steps iam1Made iam1Message kindOf iamKind replied
 iam1-served s h = record {
-  before = nothing s (h .holder) ∷ [];
+  before = nothing ∷ [];
   message = iam1 s (h .holder);
   begins = refl;
   taken = number (iam1 s (h .holder)) (rests s (h .holder)) (iam1-taken s (h .holder) (h .feature));
@@ -85,7 +88,7 @@ iam1-served s h = record {
 iam2-served : (s : Start) → HasFeature Iam1 s → Serves Iam2 s
 unfolding iam2Made iam2Message kindOf iamKind letIn
 iam2-served s h = record {
-  before = nothing s (h .holder) ∷ iam1 s (h .holder) ∷ [];
+  before = nothing ∷ iam1 s (h .holder) ∷ [];
   message = iam2 s (h .holder);
   begins = refl;
   taken = number (iam2 s (h .holder)) (iam1-leads s (h .holder) (h .feature))
@@ -98,7 +101,7 @@ iam3-served s w =
     let n = dataLength (w .custom .blocksize) (w .custom .blockcount) in
     let words : List ℕ = replicate n 0 in
     record {
-      before = nothing s (w .holder) ∷ iam1 s (w .holder) ∷ [];
+      before = nothing ∷ iam1 s (w .holder) ∷ [];
       message = iam3 s w words;
       begins = iam3-begins s w words;
       taken = number (iam3 s w words) (iam1-leads s (w .holder) (w .iam1))
@@ -108,7 +111,7 @@ iam3-served s w =
 mam1-served : (s : Start) → HasFeature Mam1 s → Serves Mam1 s
 unfolding steps mam1Made mam1Message kindOf mamKind replied
 mam1-served s h = record {
-  before = nothing s (h .holder) ∷ [];
+  before = nothing ∷ [];
   message = mam1 s (h .holder);
   begins = refl;
   taken = number (mam1 s (h .holder)) (rests s (h .holder)) (mam1-taken s (h .holder) (h .feature));
@@ -117,7 +120,7 @@ mam1-served s h = record {
 mam2-served : (s : Start) → HasFeature Mam1 s → Serves Mam2 s
 unfolding mam2Made mam2Message kindOf mamKind letIn
 mam2-served s h = record {
-  before = nothing s (h .holder) ∷ mam1 s (h .holder) ∷ [];
+  before = nothing ∷ mam1 s (h .holder) ∷ [];
   message = mam2 s (h .holder);
   begins = refl;
   taken = number (mam2 s (h .holder)) (mam1-leads s (h .holder) (h .feature))

@@ -14,7 +14,8 @@ use Rattle.tag.specs.States.{keyed}
 use Rattle.tag.specs.Plays.{Doing, Left}
 use Rattle.reader_build.specs.Builds.{tam1Made}
 use Rattle.claims.specs.Starts.{HasRecord, Takes}
-use Rattle.claims.specs.ShutOut.{steps, lastOf, seen, layoutLength, RefusesEverything, OneFixedReply, LaterForShow, MadeUpLength, ShutOut}
+use Rattle.claims.specs.ShutOut.{steps, lastOf, seen, layoutLength, ShutOut}
+use Rattle.claims.specs.ShutOut.{RefusesEverything, OneFixedReply, LaterForShow, MadeUpLength}
 use Rattle.claims.proofs.Reached.{callAt, leftAt, reached, stays-all, last-is, of-last}
 use Rattle.claims.proofs.ReplyLength.{answer-long}
 use Rattle.claims.proofs.Taken.{tam1, tam1Answered, tam1-seen, tam1-tells}

@@ -41,6 +41,10 @@ pub drawn-bytes : (n : ℕ) → n < 256 → Bytes (drawn n)
 drawn-bytes n h zero = h
 drawn-bytes n h (suc i) = zeros-bytes 9 i
 
+-- an empty message
+abbrev pub nothing : Brought
+nothing = brings [] 0
+
 module _ (s : Start) (h : HasRecord s) where
   -- the bench lends what it must
   pub lends : (n : ℕ) → judged (lendingChecks (setupAt s .sizes) (length (drawn n)) (length (replicate {A = ℕ} 172 0))
@@ -50,9 +54,6 @@ module _ (s : Start) (h : HasRecord s) where
       (passes _ _ (eq-eqb _ _ (h .user)) ends))))
 
   -- ---- the empty message
-
-  abbrev pub nothing : Brought
-  nothing = brings [] 0
 
   pub rests : onward s (answerAt s nothing) ≡ woke s
   unfolding effectOf ofMessage refused

@@ -7,13 +7,17 @@ use lib.ListN.{length}
 use Rattle.ground.specs.Bytes.{Bytes}
 use Rattle.memory.specs.Areas.{wordBytes, areaOf, within}
 use Rattle.sheet.specs.declared.Key.{Key}
+use Rattle.sheet.specs.KeyTable.{keyTable}
+use Rattle.sheet.specs.Limits.{keyLimit}
 use Rattle.sheet.specs.Setups.{Setup, setupOf}
+use Rattle.sheet.specs.Sheet.{Accepted, readOf, saidOf}
 use Rattle.keytable.specs.Named.{hasKey, keyWith}
 use Rattle.frames.specs.declared.Custom.{Custom}
 use Rattle.frames.specs.declared.Kind.{Kind}
 use Rattle.frames.specs.declared.Kind.the-variants.{Tam1, Tam2, Iam1, Iam2, Iam3, Mam1, Mam2, Unsupported}
 use Rattle.frames.specs.Fields.{customFits}
 use Rattle.offer.specs.Records.{offered, blockAsked}
+use Rattle.entry.specs.declared.Session.{Session}
 use Rattle.tag.specs.declared.Tag.{Tag}
 use Rattle.claims.specs.Entry.{Writable}
 use Rattle.claims.specs.Openings.{Readable}
@@ -80,3 +84,40 @@ Takes Iam3 s = HasWritable s
 Takes Mam1 s = HasFeature Mam1 s
 Takes Mam2 s = HasFeature Mam1 s
 Takes Unsupported s = ⊥
+
+-- ---- from sheets
+
+-- A sheet that is taken, lent with areas of its sizes.
+pub record SheetLent (sheet identity user : List ℕ) : Type 0 where
+  pub bytes : Bytes sheet
+  pub taken : Accepted keyLimit sheet
+  pub identityLength : length identity ≡ saidOf keyLimit sheet .sizes .identity * wordBytes
+  pub userLength : length user ≡ saidOf keyLimit sheet .sizes .user * wordBytes
+
+-- The tag of a sheet, in whatever session.
+abbrev pub startOf : List ℕ → List ℕ → List ℕ → Session → Start
+startOf sheet identity user session = record {
+  table = keyTable sheet (readOf keyLimit sheet .keys);
+  tag = record { terms = readOf keyLimit sheet .terms; session = session };
+  identity = identity;
+  user = user;
+}
+
+-- The tag of every sheet with a key record has one.
+abbrev pub SheetHasRecord : Type 0
+SheetHasRecord =
+    (sheet identity user : List ℕ) (session : Session) (keyid : ℕ)
+    → SheetLent sheet identity user
+    → hasKey keyid (saidOf keyLimit sheet .keys) ≡ true
+    → HasRecord (startOf sheet identity user session)
+
+-- The tag of every sheet with IAM3, and with a permitted, unlocked block in a profile, has one.
+abbrev pub SheetHasWritable : Type 0
+SheetHasWritable =
+    (sheet identity user : List ℕ) (session : Session) (keyid : ℕ) (custom : Custom) (protmode : ℕ)
+    → SheetLent sheet identity user
+    → hasKey keyid (saidOf keyLimit sheet .keys) ≡ true
+    → saidOf keyLimit sheet .features .iam3 ≡ true
+    → customFits custom ≡ true
+    → Writable (saidOf keyLimit sheet) (keyWith keyid (saidOf keyLimit sheet .keys)) custom protmode
+    → HasWritable (startOf sheet identity user session)
