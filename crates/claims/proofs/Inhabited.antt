@@ -30,7 +30,7 @@ use Rattle.reader_judge.specs.Judged.{judgementOf}
 use Rattle.claims.specs.Answered.{Among, sheetNumbers, TagRefused, JudgeRefused}
 use Rattle.claims.proofs.Answered.{tag-answers, sheet-answers, record-answers, chain-answers, layer-answers}
 use Rattle.claims.proofs.AnsweredReader.{judge-answers, builder-answers}
-use Rattle.claims.proofs.Bench.{terms, table, sheet, bench, user, brings, unanswered}
+use Rattle.claims.proofs.Bench.{terms, table, bench, user, brings, unanswered}
 
 called : Called table bench [] user (brings [] 0) unanswered
 unfolding effectOf judgedTo lendingChecks ofMessage refused bench terms cleared

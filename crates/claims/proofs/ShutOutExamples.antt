@@ -25,8 +25,7 @@ use Rattle.tag.specs.Plays.{Brought, Step}
 use Rattle.claims.specs.Entry.{Writable}
 use Rattle.claims.specs.Starts.{Start, HasRecord, HasFeature, HasReadable, HasWritable, Takes, SheetLent, startOf}
 use Rattle.claims.specs.ShutOut.{StandardOn}
-use Rattle.claims.proofs.Bench.{terms, table, setup, sheet, sheet-read, said, bench, user}
-use Rattle.claims.proofs.Bench.{are-bytes}
+use Rattle.claims.proofs.Bench.{terms, table, setup, sheet, sheet-read, said, bench, user, are-bytes}
 use Rattle.claims.proofs.Entered.{custom, writable}
 use Rattle.claims.proofs.FalseTags.{refuser, refuser-is, repeater, repeater-is}
 use Rattle.claims.proofs.FalseTags.{non-storer, non-storer-is, pretender, pretender-is}
