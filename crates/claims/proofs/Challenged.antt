@@ -45,13 +45,13 @@ use Rattle.claims.proofs.Openings.{iam1-answered, mam1-answered}
 use Rattle.claims.proofs.Reached.{callAt, answerAt, onward, woke, next, reached}
 use Rattle.claims.proofs.Taken.{lends, nothing, rests, drawn-bytes}
 
-ten : Array 10 (drawn 0)
+pub ten : Array 10 (drawn 0)
 ten = record { long = refl; bytes = drawn-bytes 0 (omega arith) }
 
-four : Array 4 (replicate 4 0)
+pub four : Array 4 (replicate 4 0)
 four = record { long = refl; bytes = zeros-bytes 4 }
 
-purpose-0 : purposeFits 0 ≡ true
+pub purpose-0 : purposeFits 0 ≡ true
 unfolding purposeFits
 purpose-0 = refl
 

@@ -1,5 +1,5 @@
--- The five false tags are there: five programs, and each is what its name says, on every tag. In what its name does not
--- say it does as the standard's, as far as it can; at power-up each does as it should.
+-- The five false tags are there: five programs, and each is what its name says, on every tag. Three of them are in all
+-- else the standard's tag, or begin as it does; at power-up each does as it should.
 use mathlib.Core.Path.{_≡_, refl, sym, ap, _∙_, subst}
 use mathlib.Core.List.{List, [], _∷_, map}
 use Prim.Native.Nat.{ℕ, suc}

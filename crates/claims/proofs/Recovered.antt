@@ -25,6 +25,7 @@ use Rattle.ground.specs.Checks.{judgedTo}
 use Rattle.keytable.specs.Named.{hasKey, keyWith}
 use Rattle.offer.specs.Records.{offered}
 use Rattle.offer.specs.Judged.{lendingChecks, openingChecks}
+use Rattle.offer.proofs.Bytes.{zeros-bytes}
 use Rattle.tag.specs.Answers.{Call, refused, replied, ifFine, iam1Answer, byKind, inOrder, ofMessage, effectOf}
 use Rattle.tag.specs.Answers.{answerOf}
 use Rattle.tag.specs.Reactions.{lent}
@@ -49,11 +50,6 @@ within =
     subst (Within keyLimit) said (accepted keyLimit sheet (are-bytes sheet refl) taken .0)
 
 -- bytes
-zeros : (n : ℕ) → Bytes (replicate n 0)
-zeros zero i = lit< tt
-zeros (suc n) zero = lit< tt
-zeros (suc n) (suc i) = zeros n i
-
 asked : Bytes iam1
 asked zero = lit< tt
 asked (suc zero) = lit< tt
@@ -75,11 +71,11 @@ unfolding bench
 fit = record {
   setup = subst (Within keyLimit) (sym its-setup) within;
   message = asked;
-  draws = zeros 10;
+  draws = zeros-bytes 10;
   identity =
       λ i. lit< tt;
-  user = zeros 8;
-  enc = zeros 16;
+  user = zeros-bytes 8;
+  enc = zeros-bytes 16;
 }
 
 shares : Shares keys (keyUsed tag iam1)
@@ -108,5 +104,5 @@ taken = refl
 pub reply-fixed : drawn 0 ≡ remade key iam1 (trndIn keys (drawn 0)) (judgementOf keys iam1 (drawn 0) 144)
     (kindOf (byteAt iam1 0))
 reply-fixed =
-    fixed keys key iam1 (drawn 0) 144 (record { has = record { enc = refl; mackey = refl }; mac = refl }) (zeros 16)
-    (zeros 10) taken
+    fixed keys key iam1 (drawn 0) 144 (record { has = record { enc = refl; mackey = refl }; mac = refl })
+    (zeros-bytes 16) (zeros-bytes 10) taken

@@ -56,7 +56,7 @@ unfolding tam1Made tam1Message
 later-for-show ds s h p says standard =
     let t = reached s ds in
     let k = stays-all ds s h in
-    let like = says (tam1 t k 0 0) (tam1 t k 0 1) (record { kind = refl; long = refl; draws = refl; room = refl }) in
+    let like = says (tam1 t k 0 0) (tam1 t k 0 1) (record { begins = refl; long = refl; draws = refl; room = refl }) in
     let e = sym (shown 0) ∙ ap first like ∙ shown 1 in
     let z = tam1-tells t k 0 0 0 1 (omega arith) (omega arith) (omega arith) (omega arith) e .1 in
     omega arith

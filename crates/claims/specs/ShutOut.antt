@@ -1,7 +1,7 @@
 -- Demand 2 shuts out false tags (the scope paper, "What we hold a promise to"). A program is what is left of every run
 -- of calls; it is the standard's tag where each run is one of the calls that the contracts of `tag::step` and
--- `tag::power_up` allow (`Plays`). There is one such program, and none of the five below is it: whichever tag they are
--- false on, if only it has what the message takes by which they show.
+-- `tag::power_up` allow (`Plays`). There is one such program, and none of the five below is it. What a program does on
+-- one tag shuts it out, whichever tag that is, if only it has what the message takes by which the program shows.
 use mathlib.Core.Path.{_≡_}
 use mathlib.Core.List.{List, [], _∷_, _++_, map}
 use Prim.Native.Nat.{ℕ}
@@ -74,16 +74,17 @@ NeverStores s p = Always s p (λ b x. (x .identity ≡ s .identity) × (x .user 
 abbrev pub seen : Left → Outcome × List ℕ
 seen x = (x .stepped .outcome, take (replyLength (x .stepped .outcome)) (x .room))
 
--- Two messages of one kind and length, brought with the same draws and the same room.
+-- Two messages of one length with the same first byte, so of one kind, and the same second, where the KeyID stands;
+-- brought with the same draws and the same room.
 pub record LooksLike (b c : Brought) : Type 0 where
-  pub kind : kindOf (byteAt (b .message) 0) ≡ kindOf (byteAt (c .message) 0)
+  pub begins : take 2 (b .message) ≡ take 2 (c .message)
   pub long : length (b .message) ≡ length (c .message)
   pub draws : b .draws ≡ c .draws
   pub room : b .room ≡ c .room
 
--- The tag that answers its first message truly and a later one for show: of what it sees in the later one it takes
--- notice of the kind and the length, but of nothing else. `ds` is what came before, one message or more; whatever it
--- made of that.
+-- The tag that answers its first message truly and a later one for show: of what is sent in the later one it takes
+-- notice of the kind, the KeyID and the length, but of nothing else. `ds` is what came before, one message or more,
+-- however it answered that.
 abbrev pub LaterForShow : List Doing → Start → Program → Type 0
 LaterForShow ds s p =
     (b c : Brought) → LooksLike b c → map seen (lastOf p s ds b) ≡ map seen (lastOf p s ds c)

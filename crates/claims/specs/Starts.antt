@@ -74,7 +74,7 @@ pub record HasWritable (s : Start) : Type 0 where
   pub lies : (let block = blockAsked (setupAt s .profiles) custom in
       within block (areaOf (block .area) (s .identity) (s .user)) ≡ true)
 
--- What a tag has to have so that some message of the kind is taken, sooner or later. No tag takes another kind.
+-- What a tag has to have so that some message of the kind is taken, sooner or later. A message of no kind never is.
 abbrev pub Takes : Kind → Start → Type 0
 Takes Tam1 s = HasRecord s
 Takes Tam2 s = HasReadable s
