@@ -1,10 +1,16 @@
--- One tag for examples: the tag of a sheet with IAM1, IAM2, IAM3 and MAM, ProtMode 0, a user area of four words, a key
--- record of KeyID 00 and one profile, which it may use.
+-- One tag for examples: the tag of a sheet with Rev 1, IAM1, IAM2, IAM3 and MAM, ProtMode 0, a user area of four words,
+-- a key record of KeyID 00 and one profile, which it may use.
 use mathlib.Core.Path.{_≡_, refl, ap, _∙_}
-use mathlib.Core.Bool.{true, false}
+use mathlib.Core.Bool.{Bool, true, false}
 use mathlib.Core.List.{List, [], _∷_, _++_}
 use Prim.Native.Nat.{ℕ}
+use borrow.Author.Tests.{ltb-true}
+use lib.Dec.{ltb}
 use lib.ListN.{set, replicate}
+use Rattle.ground.specs.Bytes.{Bytes}
+use Rattle.ground.specs.Choice.{both}
+use Rattle.ground.proofs.Bytes.{bytes-none, bytes-cons}
+use Rattle.modes.specs.Room.{over}
 use Rattle.memory.specs.declared.Area.the-variants.{User}
 use Rattle.sheet.specs.declared.Key.{Key}
 use Rattle.sheet.specs.declared.Terms.{Terms}
@@ -20,9 +26,13 @@ use Rattle.sheet.specs.Records.{keyRule, keyOf, profileRule, slotOf}
 use Rattle.sheet.specs.Judgement.{tooMany, openedOf, withFeatures, withSizes, withKey, withProfile, recordOf}
 use Rattle.sheet.specs.Judgement.{judgedOf}
 use Rattle.sheet.specs.Sheet.{after, walk, readOf, whole, saidOf}
+use Rattle.frames.proofs.Range.{both-left, both-right}
+use Rattle.offer.specs.declared.TagFault.the-variants.{OtherError}
+use Rattle.offer.specs.declared.Outcome.the-variants.{Replied, Refused}
+use Rattle.entry.specs.declared.State.the-variants.{IamInit}
 use Rattle.tag.specs.declared.Tag.{Tag}
 use Rattle.tag.specs.States.{awake}
-use Rattle.tag.specs.Plays.{Brought}
+use Rattle.tag.specs.Plays.{Brought, Left}
 
 abbrev pub key : Key
 key = record { id = 0; mac = false; mpi = 1; enc = replicate 16 0; mackey = replicate 16 0 }
@@ -32,7 +42,7 @@ terms = record {
   features = record {
     blocksize1 = false;
     rev0 = false;
-    rev1 = false;
+    rev1 = true;
     iam = true;
     iam3 = true;
     mam = true;
@@ -67,7 +77,7 @@ its-setup = refl
 -- its sheet
 abbrev pub sheet : List ℕ
 sheet =
-    0x01 ∷ 0x38 ∷ 0x01
+    0x01 ∷ 0x3C ∷ 0x01
     ∷ 0x02 ∷ 0x00 ∷ 0x00 ∷ 0x00 ∷ 0x04
     ∷ table
     ++ (0x04 ∷ 0x00 ∷ 0x01 ∷ 0x00 ∷ 0x00 ∷ 0x00 ∷ 0x04
@@ -100,3 +110,39 @@ brings message n = record { message = message; draws = drawn n; room = replicate
 -- IAM1 for KeyID 00
 abbrev pub iam1 : List ℕ
 iam1 = 0x40 ∷ 0x00 ∷ []
+
+-- what an IAM1 with these draws leaves: they are its reply, and its challenge
+abbrev pub answered : ℕ → Left
+answered n = record {
+  stepped = record {
+    outcome = Replied 10;
+    tag = record {
+      terms = terms;
+      session = record { state = IamInit; keyid = 0; tchallenge = drawn n; ichallenge = replicate 4 0 };
+    };
+  };
+  room = over (drawn n) (replicate 172 0);
+  identity = [];
+  user = user;
+}
+
+-- what an empty message leaves: number 1
+abbrev pub unanswered : Left
+unanswered = record {
+  stepped = record { outcome = Refused OtherError; tag = bench };
+  room = replicate 172 0;
+  identity =
+      [];
+  user = user;
+}
+
+-- written out, bytes are seen to be bytes
+abbrev below : List ℕ → Bool
+below [] = true
+below (x ∷ s) = both (ltb x 256) (below s)
+
+pub are-bytes : (s : List ℕ) → below s ≡ true → Bytes s
+are-bytes [] e = bytes-none
+are-bytes (x ∷ s) e =
+    bytes-cons x s (ltb-true x 256 (both-left (ltb x 256) (below s) e))
+    (are-bytes s (both-right (ltb x 256) (below s) e))

@@ -28,6 +28,7 @@ use Rattle.tag.specs.States.{KeyedTag, holding, poweredUp}
 use Rattle.tag.specs.States.{afterIam1, afterMam1, inTurn}
 use Rattle.ground.specs.Checks.{judgedTo}
 use Rattle.offer.specs.Judged.{lendingChecks}
+use Rattle.offer.proofs.Bytes.{zeros-bytes}
 use Rattle.keytable.specs.Named.{keyWith}
 use Rattle.offer.specs.Records.{offered, sizeOffered, modeOffered, modeServed, modeSupported, slotNamed, blockAsked}
 use Rattle.tag.specs.Answers.{Call, effectOf, answerWith, answerOf, ofMessage, inOrder, refused, letIn}
@@ -36,16 +37,11 @@ use Rattle.tag.specs.Reactions.{lent}
 use Rattle.reader.specs.declared.Keys.{Keys}
 use Rattle.reader.specs.Own.{modeFits, modeServed as readerServes}
 use Rattle.reader_build.specs.Builds.{purposeFits, dataFits, iam2Made, mam2Made, iam3Made, iam3Fits}
-use Rattle.claims.specs.Entry.{Array, Knows, Waits, Writable}
+use Rattle.claims.specs.Entry.{Knows, Waits, Writable}
 use Rattle.claims.proofs.Entry.{iam2-enters, mam2-enters}
 use Rattle.claims.proofs.EntryIam3.{iam3-enters}
 use Rattle.claims.proofs.Bench.{terms, setup, user, drawn}
-
--- zeros are bytes
-zeros : (n i : ℕ) → getD {A = ℕ} (replicate n 0) i 0 < 256
-zeros zero i = omega arith
-zeros (suc n) zero = omega arith
-zeros (suc n) (suc i) = zeros n i
+use Rattle.claims.proofs.Challenged.{ten, four, purpose-0}
 
 -- the tag after an IAM1 or a MAM1 whose draws are zeros, and a call
 abbrev pub waiting : State → KeyedTag
@@ -61,17 +57,10 @@ keys = record { enc = replicate 16 0; mac = false; mackey = replicate 16 0 }
 
 knows : (state : State) → Knows keys (keyWith (waiting state .session .keyid) (waiting state .setup .keys))
 unfolding setup terms keyWith keyLimit
-knows state = record { has = record { enc = refl; mackey = refl }; array = record { long = refl; bytes = zeros 16 } }
-
-ten : Array 10 (drawn 0)
-ten = record { long = refl; bytes = zeros 10 }
-
-four : Array 4 (replicate 4 0)
-four = record { long = refl; bytes = zeros 4 }
-
-purpose-0 : purposeFits 0 ≡ true
-unfolding purposeFits
-purpose-0 = refl
+knows state = record {
+  has = record { enc = refl; mackey = refl };
+  array = record { long = refl; bytes = zeros-bytes 16 };
+}
 
 -- ---- IAM2 and MAM2
 
@@ -115,7 +104,7 @@ words = 1 ∷ replicate 7 0
 
 words-bytes : (i : ℕ) → getD words i 0 < 256
 words-bytes zero = omega arith
-words-bytes (suc i) = zeros 7 i
+words-bytes (suc i) = zeros-bytes 7 i
 
 unfoldable pub iam3 : List ℕ
 iam3 = iam3Made keys custom 0 0 (replicate 4 0) (drawn 0) words
@@ -128,7 +117,7 @@ fits : iam3Fits keys custom 0 0 8 ≡ true
 unfolding iam3Fits modeFits readerServes protModeOf hasMac purposeFits dataFits dataLength blockBytes customFits
 fits = refl
 
-writable : Writable setup (keyWith 0 (setup .keys)) custom 0
+pub writable : Writable setup (keyWith 0 (setup .keys)) custom 0
 unfolding setup terms modeSupported modeServed modeOffered protModeOf hasMac keyWith slotNamed permitted sizeOffered
     overruns lastWord
     profileEnd blockAsked wordsAsked addressOf stepOf someLocked meetsAny keyLimit profileLimit lockLimit

@@ -1,58 +1,80 @@
--- The tag that never stores, shut out: after an IAM1 and an IAM3 the user area holds the reader's words.
-use mathlib.Core.Path.{_≡_, sym, ap, _∙_, subst}
+-- The tag that never stores, shut out: after an empty message, an IAM1 and an IAM3 the block holds the reader's words,
+-- and these are others than stood there.
+use mathlib.Core.Path.{_≡_, sym, ap, ap₂, _∙_}
 use mathlib.Core.List.{List, [], _∷_}
-use Prim.Native.Nat.{ℕ}
+use Prim.Native.Nat.{ℕ, zero, suc, _<_}
 use native.Mathlib.Omega.{arith}
-use lib.ListN.{getD}
-use Rattle.memory.specs.Address.{sameArea, areaNumber, addressOf, stepOf}
-use Rattle.memory.specs.Areas.{storedIn, written, within}
-use Rattle.sheet.specs.Limits.{keyLimit, profileLimit}
-use Rattle.sheet.specs.KeyTable.{keysIn, recordsIn}
-use Rattle.sheet.specs.Records.{keyOf}
-use Rattle.frames.specs.Asked.{blockAsked as wordsAsked}
-use Rattle.frames.specs.Kinds.{kindOf, iamKind}
-use Rattle.frames.specs.Lengths.{lengthFits}
-use Rattle.frames.specs.Messages.{iam1Of}
-use Rattle.entry.specs.declared.State.the-variants.{IamInit}
-use Rattle.entry.specs.Sessions.{cleared}
-use Rattle.tag.specs.States.{atRest, inTurn}
-use Rattle.ground.specs.Checks.{judgedTo}
-use Rattle.keytable.specs.Named.{hasKey}
-use Rattle.offer.specs.Records.{offered, slotNamed, blockAsked}
-use Rattle.offer.specs.Judged.{lendingChecks, openingChecks}
-use Rattle.tag.specs.Answers.{Answer, effectOf, answerOf, ofMessage, inOrder, byKind, iam1Answer, ifFine, replied}
-use Rattle.tag.specs.Answers.{refused, letIn}
-use Rattle.tag.specs.Runs.{answerTo, run}
-use Rattle.tag.specs.Reactions.{steppedOf}
-use Rattle.tag.specs.Plays.{Doing, Step, Left, eventsOf, leftOf, leftAll}
-use Rattle.claims.specs.ShutOut.{Program, Standard, steps, Each, NeverStores, ShutOut}
-use Rattle.claims.proofs.Bench.{terms, table, setup, bench, user, brings, iam1}
-use Rattle.claims.proofs.Entered.{waiting, call, words, iam3, iam3-entered}
-use Rattle.claims.proofs.ShutOut.{is-defined, answered}
+use lib.Dec.{lit<}
+use lib.ListN.{getD, replicate, length-replicate, getD-replicate}
+use Rattle.ground.specs.Bytes.{Bytes, byteAt}
+use Rattle.memory.specs.declared.Area.the-variants.{Identity, User}
+use Rattle.memory.specs.declared.Block.{Block}
+use Rattle.memory.specs.Areas.{byteCount, windowOf, storedIn}
+use Rattle.memory.proofs.Stores.{window-stored}
+use Rattle.frames.proofs.Asked.{asked-bytes, asked-some}
+use Rattle.offer.specs.Records.{slotNamed, blockAsked}
+use Rattle.tag.specs.Answers.{Answer, letIn, answerWith}
+use Rattle.tag.specs.Plays.{Left}
+use Rattle.claims.specs.Starts.{Start, setupAt, HasWritable}
+use Rattle.claims.specs.ShutOut.{steps, NeverStores, ShutOut}
+use Rattle.claims.proofs.Reached.{callAt, answerAt, reached, of-last}
+use Rattle.claims.proofs.Taken.{nothing}
+use Rattle.claims.proofs.Challenged.{iam1, iam1-leads, iam3, iam3-taken}
 
--- the words are stored
-stored : answerOf (call iam3) (waiting IamInit) .user ≡ words
-unfolding letIn setup terms profileLimit slotNamed blockAsked wordsAsked addressOf stepOf storedIn written within
-    sameArea areaNumber
-stored = ap (λ (a : Answer). a .user) iam3-entered
+-- another byte
+abbrev other : ℕ → ℕ
+other zero = 1
+other (suc n) = 0
 
--- the run: an IAM1, and the IAM3
-module _ (p : Program) (h : Standard p) where
-  abbrev ds : List Doing
-  ds = Step (brings iam1 0) ∷ Step (brings iam3 0) ∷ []
+other-byte : (n : ℕ) → other n < 256
+other-byte zero = lit< tt
+other-byte (suc n) = lit< tt
 
-  left : p table bench [] user ds
-      ≡ answered 0 ∷ leftOf steppedOf (Step (brings iam3 0)) (answerOf (call iam3) (waiting IamInit)) ∷ []
-  unfolding leftAll run answerTo eventsOf setup terms keysIn recordsIn keyOf bench cleared atRest inTurn judgedTo
-      offered hasKey lendingChecks openingChecks effectOf ofMessage inOrder byKind iam1Answer ifFine replied refused
-      kindOf iamKind lengthFits iam1Of keyLimit profileLimit
-  left = is-defined p h table bench [] user ds
+is-other : (n : ℕ) → n ≡ other n → ⊥
+is-other zero e = omega arith
+is-other (suc n) e = omega arith
 
-pub never-stores : ShutOut NeverStores
-unfolding Each steps
-never-stores p says h =
-    let e = subst (λ (xs : List Left). Each (λ x. (x .identity ≡ []) × (x .user ≡ user)) xs) (left p h)
-    (says table bench [] user (brings iam1 0 ∷ brings iam3 0 ∷ [])) in
-    let same : words ≡ user = sym stored ∙ e .1 .0 .1 in
-    let z : _≡_ {A = ℕ} 1 0 = ap (λ (l : List ℕ). getD l 0 0) same in
-    omega arith
+many-bytes : (n k : ℕ) → k < 256 → Bytes (replicate n k)
+many-bytes zero k h i = lit< tt
+many-bytes (suc n) k h zero = h
+many-bytes (suc n) k h (suc i) = many-bytes n k h i
+
+module _ (s : Start) (w : HasWritable s) where
+  abbrev block : Block
+  block = blockAsked (setupAt s .profiles) (w .custom)
+
+  -- as many bytes as the block has, and other ones
+  abbrev there : ℕ
+  there = byteAt (windowOf (s .identity) (s .user) block) 0
+
+  abbrev words : List ℕ
+  words = replicate (byteCount block) (other there)
+
+  some : 0 < byteCount block
+  unfolding blockAsked
+  some = omega (arith, asked-some (slotNamed (setupAt s .profiles) (w .custom .profile) .profile) (w .custom))
+
+  stored : answerAt (reached s (steps (nothing ∷ iam1 s (w .holder) ∷ []))) (iam3 s w words)
+      ≡ answerWith (setupAt s) (letIn (callAt s (iam3 s w words)) 0
+      (storedIn Identity block words (s .identity)) (storedIn User block words (s .user)))
+  unfolding blockAsked
+  stored =
+      ap (λ (t : Start). answerAt t (iam3 s w words)) (iam1-leads s (w .holder) (w .iam1))
+      ∙ iam3-taken s w words (many-bytes (byteCount block) (other there) (other-byte there))
+      (length-replicate (byteCount block) (other there)
+      ∙ sym (asked-bytes (slotNamed (setupAt s .profiles) (w .custom .profile) .profile) (w .custom)))
+
+pub never-stores : ShutOut HasWritable NeverStores
+unfolding letIn
+never-stores s w p says standard =
+    let before = nothing ∷ iam1 s (w .holder) ∷ [] in
+    let b = iam3 s w (words s w) in
+    let same = of-last s p standard (steps before) b (λ (x : Left). (x .identity ≡ s .identity) × (x .user ≡ s .user))
+    (says before b) in
+    let i = sym (ap (λ (a : Answer). a .identity) (stored s w)) ∙ same .0 in
+    let u = sym (ap (λ (a : Answer). a .user) (stored s w)) ∙ same .1 in
+    let window = sym (ap₂ (λ (x y : List ℕ). windowOf x y (block s w)) i u)
+    ∙ window-stored (block s w) (words s w) (s .identity) (s .user) (w .lies)
+    (length-replicate (byteCount (block s w)) (other (there s w))) in
+    is-other (there s w) (ap (λ (l : List ℕ). getD l 0 0) window
+    ∙ getD-replicate (byteCount (block s w)) 0 (other (there s w)) 0 (some s w))

@@ -42,7 +42,7 @@ two-bytes c h (suc zero) = omega arith
 two-bytes c h (suc (suc i)) = lit< tt
 
 module _ (k : ℕ) (middle challenge : List ℕ) (four : length middle ≡ 4) where
-  plain-block : k ≤ 0xFFFF → Bytes middle → Ten challenge → Block (twoBytes k ++ (middle ++ challenge))
+  pub plain-block : k ≤ 0xFFFF → Bytes middle → Ten challenge → Block (twoBytes k ++ (middle ++ challenge))
   plain-block l h t =
       let s = middle ++ challenge in
       let n : length s ≡ 14 = omega (arith, length-append middle challenge, t .ten) in

@@ -1,20 +1,16 @@
 -- The premises of recovery and of Fixed hold: on the bench of examples an IAM1 is taken, and the reader recovers the
 -- challenge. No cipher is computed.
 use mathlib.Core.Path.{_≡_, sym, ap, refl, subst}
-use mathlib.Core.Bool.{Bool, true, false}
-use mathlib.Core.List.{List, [], _∷_}
-use Prim.Native.Nat.{ℕ, zero, suc, _<_}
+use mathlib.Core.Bool.{false}
+use mathlib.Core.List.{List, []}
+use Prim.Native.Nat.{ℕ, zero, suc}
 use native.Mathlib.Omega.{arith}
-use borrow.Author.Tests.{ltb-true}
-use lib.Dec.{ltb, lit<}
-use Rattle.ground.specs.Choice.{both}
+use lib.Dec.{lit<}
 use Rattle.ground.specs.Checks.{judgedTo}
-use Rattle.frames.proofs.Range.{both-left, both-right}
 use lib.ListN.{length, take, replicate}
 use Rattle.modes.specs.Room.{over}
 use Rattle.sheet.specs.Limits.{keyLimit, profileLimit}
-use Rattle.ground.specs.Bytes.{Bytes as SheetBytes, Bytes, byteAt}
-use Rattle.ground.proofs.Bytes.{bytes-none, bytes-cons}
+use Rattle.ground.specs.Bytes.{Bytes, byteAt}
 use Rattle.sheet.specs.declared.Reading.{Reading}
 use Rattle.sheet.specs.KeyTable.{keysIn, recordsIn}
 use Rattle.sheet.specs.Records.{keyOf}
@@ -29,6 +25,7 @@ use Rattle.ground.specs.Checks.{judgedTo}
 use Rattle.keytable.specs.Named.{hasKey, keyWith}
 use Rattle.offer.specs.Records.{offered}
 use Rattle.offer.specs.Judged.{lendingChecks, openingChecks}
+use Rattle.offer.proofs.Bytes.{zeros-bytes}
 use Rattle.tag.specs.Answers.{Call, refused, replied, ifFine, iam1Answer, byKind, inOrder, ofMessage, effectOf}
 use Rattle.tag.specs.Answers.{answerOf}
 use Rattle.tag.specs.Reactions.{lent}
@@ -42,33 +39,17 @@ use Rattle.reader.specs.Own.{fieldsFit, ownFits}
 use Rattle.claims.specs.Fixed.{trndIn, remade}
 use Rattle.claims.specs.Recovery.{keyidUsed, keyUsed, Shares, Fit, due}
 use Rattle.claims.proofs.Bench.{key, terms, table, setup, its-setup, sheet, sheet-read, said, bench, user, drawn}
-use Rattle.claims.proofs.Bench.{brings, iam1}
+use Rattle.claims.proofs.Bench.{brings, iam1, answered, are-bytes}
 use Rattle.claims.proofs.Fixed.{fixed}
 use Rattle.claims.proofs.RecoveryCode.{recovery-code}
-use Rattle.claims.proofs.ShutOut.{answered}
 
 -- the setup is one that a sheet says
-abbrev below : List ℕ → Bool
-below [] = true
-below (x ∷ s) = both (ltb x 256) (below s)
-
-are-bytes : (s : List ℕ) → below s ≡ true → SheetBytes s
-are-bytes [] e = bytes-none
-are-bytes (x ∷ s) e =
-    bytes-cons x s (ltb-true x 256 (both-left (ltb x 256) (below s) e))
-    (are-bytes s (both-right (ltb x 256) (below s) e))
-
 within : Within keyLimit setup
 within =
     let taken = ap (λ (r : Reading). r .verdict) sheet-read in
     subst (Within keyLimit) said (accepted keyLimit sheet (are-bytes sheet refl) taken .0)
 
 -- bytes
-zeros : (n : ℕ) → Bytes (replicate n 0)
-zeros zero i = lit< tt
-zeros (suc n) zero = lit< tt
-zeros (suc n) (suc i) = zeros n i
-
 asked : Bytes iam1
 asked zero = lit< tt
 asked (suc zero) = lit< tt
@@ -90,11 +71,11 @@ unfolding bench
 fit = record {
   setup = subst (Within keyLimit) (sym its-setup) within;
   message = asked;
-  draws = zeros 10;
+  draws = zeros-bytes 10;
   identity =
       λ i. lit< tt;
-  user = zeros 8;
-  enc = zeros 16;
+  user = zeros-bytes 8;
+  enc = zeros-bytes 16;
 }
 
 shares : Shares keys (keyUsed tag iam1)
@@ -123,5 +104,5 @@ taken = refl
 pub reply-fixed : drawn 0 ≡ remade key iam1 (trndIn keys (drawn 0)) (judgementOf keys iam1 (drawn 0) 144)
     (kindOf (byteAt iam1 0))
 reply-fixed =
-    fixed keys key iam1 (drawn 0) 144 (record { has = record { enc = refl; mackey = refl }; mac = refl }) (zeros 16)
-    (zeros 10) taken
+    fixed keys key iam1 (drawn 0) 144 (record { has = record { enc = refl; mackey = refl }; mac = refl })
+    (zeros-bytes 16) (zeros-bytes 10) taken

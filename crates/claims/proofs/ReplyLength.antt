@@ -1,5 +1,5 @@
 -- The layout fixes the length of every reply.
-use mathlib.Core.Path.{_≡_, refl, sym, _∙_}
+use mathlib.Core.Path.{_≡_, refl, sym, ap, _∙_, subst}
 use mathlib.Core.Bool.{Bool, true, false}
 use mathlib.Core.List.{List, [], _∷_}
 use Prim.Native.Nat.{ℕ}
@@ -13,10 +13,12 @@ use Rattle.sheet.specs.Setups.{Setup}
 use Rattle.frames.specs.declared.Kind.{Kind}
 use Rattle.frames.specs.declared.Kind.the-variants.{Tam1, Tam2, Iam1, Iam2, Iam3, Mam1, Mam2, Unsupported}
 use Rattle.frames.specs.Kinds.{kindOf}
+use Rattle.frames.specs.Lengths.{emptyReplyLength}
 use Rattle.frames.specs.Messages.{tam1Of, tam2Of, mam1Of}
 use Rattle.offer.specs.declared.TagFault.{TagFault}
-use Rattle.offer.specs.declared.TagFault.the-variants.{OtherError, NotSupported, OutOfTurn}
-use Rattle.offer.specs.declared.Outcome.the-variants.{Replied}
+use Rattle.offer.specs.declared.TagFault.the-variants.{OtherError, NotSupported, MemoryOverrun, MemoryWriteError}
+use Rattle.offer.specs.declared.TagFault.the-variants.{OutOfTurn, ProofWrong, BenchFault}
+use Rattle.offer.specs.Outcomes.{numberOf, numberGiven, replyLength}
 use Rattle.entry.specs.declared.Session.{Session}
 use Rattle.tag.specs.States.{KeyedTag, keyed}
 use Rattle.offer.specs.declared.Checked.{Checked}
@@ -47,30 +49,41 @@ use Rattle.tag.specs.Answers.{
   ifFine,
   effectOf,
 }
-use Rattle.tag.specs.Reactions.{lent}
+use Rattle.tag.specs.Plays.{Left}
 use Rattle.tag.proofs.Cases.{fine-case}
 use Rattle.offer.proofs.Lines.{first-holds}
 use Rattle.tam.proofs.ReplyLengths.{tam1-long, tam2-length}
 use Rattle.entry.proofs.Mam1Reply.{mam1-long}
 use Rattle.tam.proofs.Tam2Asked.{words-most}
-use Rattle.claims.specs.ShutOut.{layoutLength, LengthFixed}
+use Rattle.claims.specs.ShutOut.{Each, layoutLength, LengthTold, LengthFixed, LengthsFixed}
+use Rattle.claims.proofs.Reached.{callAt, reached, last-is}
 
--- what a message does that, where it is a reply, has k bytes
+-- the number of a refusal is none
+pub some-number : (f : TagFault) → numberOf f ≡ 0 → ⊥
+some-number OtherError e = omega arith
+some-number NotSupported e = omega arith
+some-number MemoryOverrun e = omega arith
+some-number MemoryWriteError e = omega arith
+some-number OutOfTurn e = omega arith
+some-number ProofWrong e = omega arith
+some-number BenchFault e = omega arith
+
+-- what a message does that, where it is taken, is told to send k bytes
 abbrev Long : ℕ → Effect → Type 0
-Long k e = (n : ℕ) → e .outcome ≡ Replied n → n ≡ k
+Long k e = numberGiven (e .outcome) ≡ 0 → replyLength (e .outcome) ≡ k
 
 module _ (c : Call) where
   refusal-long : (k : ℕ) (s : Session) (f : TagFault) → Long k (refused c f s)
   unfolding refused
-  refusal-long k s f n e = let z : _≡_ {A = ℕ} 0 1 = cc in absurd (omega arith)
+  refusal-long k s f e = absurd (some-number f e)
 
   reply-long : (k : ℕ) (reply : List ℕ) (s : Session) → length reply ≡ k → Long k (replied c reply s)
   unfolding replied
-  reply-long k reply s h n e = let q : length reply ≡ n = cc in sym q ∙ h
+  reply-long k reply s h e = h
 
-  entry-long : (k purpose : ℕ) (identity user : List ℕ) → Long k (letIn c purpose identity user)
+  entry-long : (purpose : ℕ) (identity user : List ℕ) → Long emptyReplyLength (letIn c purpose identity user)
   unfolding letIn
-  entry-long k purpose identity user n e = let z : _≡_ {A = ℕ} 0 1 = cc in absurd (omega arith)
+  entry-long purpose identity user e = refl
 
   fine-long : (k : ℕ) (v : Checked) (e : Effect) → Long k e → Long k (ifFine c v e)
   fine-long k = fine-case c (Long k) (refusal-long k cleared)
@@ -90,11 +103,11 @@ module _ (c : Call) where
         (windowOf (c .identity) (c .user) (blockAsked (setup .profiles) (f .custom))) (c .draws)
         (words-most (setup .profiles) (f .custom) (c .identity) (c .user))))
     kind-long Iam1 = fine-long _ _ _ (reply-long _ _ _ ten)
-    kind-long Iam2 = fine-long _ _ _ (entry-long _ _ _ _)
-    kind-long Iam3 = fine-long _ _ _ (entry-long _ _ _ _)
+    kind-long Iam2 = fine-long _ _ _ (entry-long _ _ _)
+    kind-long Iam3 = fine-long _ _ _ (entry-long _ _ _)
     kind-long Mam1 = fine-long _ _ _ (reply-long _ _ _
         (mam1-long (keyWith (mam1Of (c .message) .keyid) (setup .keys)) (mam1Of (c .message)) (c .draws) ten))
-    kind-long Mam2 = fine-long _ _ _ (entry-long _ _ _ _)
+    kind-long Mam2 = fine-long _ _ _ (entry-long _ _ _)
     kind-long Unsupported = refusal-long _ cleared NotSupported
 
     message-long : (m : List ℕ) → c .message ≡ m
@@ -120,10 +133,18 @@ module _ (c : Call) where
         (c .message) refl
     bench-long (Wrong f) e = refusal-long _ (tag .session) f
 
-    answer-long : Long (layoutLength (kindOf (byteAt (c .message) 0)) (c .message)) (effectOf c tag)
+    pub answer-long : Long (layoutLength (kindOf (byteAt (c .message) 0)) (c .message)) (effectOf c tag)
     unfolding effectOf
     answer-long = bench-long verdict refl
 
 pub length-fixed : LengthFixed
-length-fixed table tag identity user b x n h e =
-    answer-long (lent (b .message) (b .draws) (b .room) identity user) (keyed tag table) n (sym (h .outcome) ∙ e)
+length-fixed s b x h e =
+    ap replyLength (h .outcome)
+    ∙ answer-long (callAt s b) (keyed (s .tag) (s .table)) (sym (h .number) ∙ e)
+
+pub lengths-fixed : LengthsFixed
+unfolding Each
+lengths-fixed s p h ds b =
+    let t = reached s ds in
+    subst (λ (xs : List Left). Each (LengthTold b) xs) (sym (last-is s p h ds b))
+    (answer-long (callAt t b) (keyed (t .tag) (t .table)), tt)

@@ -1,157 +1,76 @@
--- The five false tags, shut out: each against a run of one or two calls on one tag. No cipher is computed, since the
--- reply to an IAM1 is the ten draws.
-use mathlib.Core.Path.{_≡_, refl, sym, ap, _∙_, subst}
-use mathlib.Core.List.{List, [], _∷_}
+-- False tags, shut out on every tag that has what a message takes: by a TAM1, which every tag with a key record takes
+-- in every state, and of a made-up length by a message of its kind.
+use mathlib.Core.Path.{_≡_, refl, sym, ap, _∙_}
+use mathlib.Core.List.{List, [], _∷_, map}
 use Prim.Native.Nat.{ℕ}
 use native.Mathlib.Omega.{arith}
-use lib.ListN.{take, drop, getD, replicate}
-use Rattle.modes.specs.Room.{over}
-use Rattle.sheet.specs.Limits.{keyLimit, profileLimit}
-use Rattle.frames.specs.Kinds.{kindOf, iamKind}
-use Rattle.frames.specs.Lengths.{lengthFits}
-use Rattle.frames.specs.Messages.{iam1Of}
-use Rattle.offer.specs.declared.TagFault.the-variants.{OtherError}
-use Rattle.offer.specs.declared.Outcome.the-variants.{Replied, Refused}
-use Rattle.entry.specs.declared.State.the-variants.{IamInit}
-use Rattle.tag.specs.declared.Tag.{Tag}
-use Rattle.sheet.specs.KeyTable.{keysIn, recordsIn}
-use Rattle.sheet.specs.Records.{keyOf}
-use Rattle.entry.specs.Sessions.{cleared}
-use Rattle.tag.specs.States.{keyed, poweredUp, atRest, inTurn}
-use Rattle.ground.specs.Checks.{judgedTo}
-use Rattle.keytable.specs.Named.{hasKey}
-use Rattle.offer.specs.Records.{offered}
-use Rattle.offer.specs.Judged.{lendingChecks, openingChecks}
-use Rattle.tag.specs.Answers.{effectOf, ofMessage, inOrder, byKind, iam1Answer, ifFine, replied, refused}
-use Rattle.tag.specs.Runs.{answerTo, run}
-use Rattle.tag.specs.Reactions.{steppedOf}
-use Rattle.tag.specs.Plays.{Doing, Step, Wake, Left, OneByOne, Plays, eventsOf, leftAll}
-use Rattle.tag.proofs.Played.{played}
-use Rattle.claims.specs.ShutOut.{
-  Program,
-  Standard,
-  OneTag,
-  SomeTag,
-  steps,
-  Each,
-  RefusesEverything,
-  OneFixedReply,
-  LaterForShow,
-  MadeUpLength,
-  ShutOut,
-}
-use Rattle.claims.proofs.Bench.{terms, table, bench, user, drawn, brings, iam1}
+use lib.ListN.{length, take}
+use Rattle.frames.specs.declared.Kind.{Kind}
+use Rattle.frames.specs.Messages.{tam1Message}
+use Rattle.offer.specs.declared.Outcome.{Outcome}
+use Rattle.offer.specs.declared.Outcome.the-variants.{Replied}
+use Rattle.offer.specs.Outcomes.{replyLength}
+use Rattle.tag.specs.States.{keyed}
+use Rattle.tag.specs.Plays.{Doing, Left}
+use Rattle.reader_build.specs.Builds.{tam1Made}
+use Rattle.claims.specs.Starts.{HasRecord, Takes}
+use Rattle.claims.specs.ShutOut.{steps, lastOf, seen, layoutLength, ShutOut}
+use Rattle.claims.specs.ShutOut.{RefusesEverything, OneFixedReply, LaterForShow, MadeUpLength}
+use Rattle.claims.proofs.Reached.{callAt, leftAt, reached, stays-all, last-is, of-last}
+use Rattle.claims.proofs.ReplyLength.{answer-long}
+use Rattle.claims.proofs.Taken.{tam1, tam1Answered, tam1-seen, tam1-tells}
+use Rattle.claims.proofs.Served.{serves}
 
--- ---- there is one standard's tag
-
-abbrev pub defined : Program
-defined table tag identity user ds = leftAll steppedOf ds (run (keyed tag table) identity user (eventsOf ds))
-
-pub one-tag : OneTag
-one-tag p q hp hq table tag identity user ds =
-    played ds _ table tag identity user (hp table tag identity user ds)
-    ∙ sym (played ds _ table tag identity user (hq table tag identity user ds))
-
-plays : (ds : List Doing) (table : List ℕ) (tag : Tag) (identity user : List ℕ)
-    → Plays table tag identity user ds (defined table tag identity user ds)
-unfolding OneByOne leftAll run answerTo poweredUp eventsOf
-plays [] table tag identity user = tt
-plays (Step b ∷ ds) table tag identity user = (
-  record { outcome = refl; number = refl; next = refl; reply = refl; identity = refl; user = refl },
-  plays ds _ _ _
-      _,
-)
-plays (Wake ∷ ds) table tag identity user = (refl, plays ds _ _ _ _)
-
-pub some-tag : SomeTag
-some-tag = record { program = defined; standard = λ table tag identity user ds. plays ds table tag identity user }
-
--- what holds of a program that is the standard's, holds of the definition's run
-module _ (p : Program) (h : Standard p) (table : List ℕ) (tag : Tag) (identity user : List ℕ) (ds : List Doing) where
-  pub is-defined : p table tag identity user ds ≡ defined table tag identity user ds
-  is-defined = played ds _ table tag identity user (h table tag identity user ds)
-
--- ---- the runs
-
--- what an IAM1 with these draws leaves: they are its reply, and its challenge
-abbrev pub answered : ℕ → Left
-answered n = record {
-  stepped = record {
-    outcome = Replied 10;
-    tag = record {
-      terms = terms;
-      session = record { state = IamInit; keyid = 0; tchallenge = drawn n; ichallenge = replicate 4 0 };
-    };
-  };
-  room = over (drawn n) (replicate 172 0);
-  identity = [];
-  user = user;
-}
-
--- what an empty message leaves: number 1
-abbrev pub unanswered : Left
-unanswered = record {
-  stepped = record { outcome = Refused OtherError; tag = bench };
-  room = replicate 172 0;
-  identity =
-      [];
-  user = user;
-}
-
-one-call : (n : ℕ) → defined table bench [] user (Step (brings iam1 n) ∷ []) ≡ answered n ∷ []
-unfolding leftAll run answerTo eventsOf terms keysIn recordsIn keyOf bench cleared atRest inTurn judgedTo offered hasKey
-    lendingChecks openingChecks effectOf ofMessage inOrder byKind iam1Answer ifFine replied refused kindOf iamKind
-    lengthFits iam1Of keyLimit profileLimit
-one-call n = refl
-
-two-calls : (n : ℕ) → defined table bench [] user (Step (brings [] 0) ∷ Step (brings iam1 n) ∷ []) ≡ unanswered ∷
-    answered n ∷ []
-unfolding leftAll run answerTo eventsOf terms keysIn recordsIn keyOf bench cleared atRest inTurn judgedTo offered hasKey
-    lendingChecks openingChecks effectOf ofMessage inOrder byKind iam1Answer ifFine replied refused kindOf iamKind
-    lengthFits iam1Of keyLimit profileLimit
-two-calls n = refl
-
--- ---- the programs
-
--- of one call
-module _ (p : Program) (h : Standard p) (n : ℕ) (P : Left → Type 0) where
-  of-one : Each P (p table bench [] user (Step (brings iam1 n) ∷ [])) → P (answered n)
-  unfolding Each
-  of-one e = subst (λ (xs : List Left). Each P xs) (is-defined p h table bench [] user (Step (brings iam1 n) ∷ [])
-      ∙ one-call n) e .0
-
-pub refuses-everything : ShutOut RefusesEverything
+pub refuses-everything : ShutOut HasRecord RefusesEverything
 unfolding steps
-refuses-everything p says h = of-one p h 0 (λ x. (n : ℕ) → x .stepped .outcome ≡ Replied n → ⊥)
-    (says table bench [] user (brings iam1 0 ∷ [])) 10 refl
+refuses-everything s h p says standard =
+    of-last s p standard [] (tam1 s h 0 0) (λ x. (n : ℕ) → x .stepped .outcome ≡ Replied n → ⊥)
+    (says [] (tam1 s h 0 0)) (length (tam1Answered s h 0 0))
+    (ap (λ (x : Outcome × List ℕ). x .0) (tam1-seen s h 0 0))
 
--- the first draw tells two replies apart
-apart : drawn 0 ≡ drawn 1 → ⊥
-apart e = let z : _≡_ {A = ℕ} 0 1 = ap (λ (l : List ℕ). getD l 0 0) e in omega arith
-
-pub one-fixed-reply : (reply : List ℕ) → ShutOut (OneFixedReply reply)
+-- two TAM1 with other draws
+pub one-fixed-reply : (reply : List ℕ) → ShutOut HasRecord (OneFixedReply reply)
 unfolding steps
-one-fixed-reply reply p says h = apart (sym (sent 0) ∙ sent 1)
+one-fixed-reply reply s h p says standard =
+    let z = tam1-tells s h 0 0 1 0 (omega arith) (omega arith) (omega arith) (omega arith) (sent 0 ∙ sym (sent 1)) .0 in
+    omega arith
   where
-    sent : (n : ℕ) → reply ≡ drawn n
-    sent n = sym (of-one p h n (λ x. (k : ℕ) → x .stepped .outcome ≡ Replied k → take k (x .room) ≡ reply)
-        (says table bench [] user (brings iam1 n ∷ [])) 10 refl)
+    sent : (n : ℕ) → tam1Answered s h n 0 ≡ reply
+    sent n =
+        let x = leftAt s (tam1 s h n 0) in
+        let told = ap (λ (y : Outcome × List ℕ). y .0) (tam1-seen s h n 0) in
+        sym (ap (λ (y : Outcome × List ℕ). y .1) (tam1-seen s h n 0))
+        ∙ ap (λ (o : Outcome). take (replyLength o) (x .room)) told
+        ∙ of-last s p standard [] (tam1 s h n 0)
+        (λ (x : Left). (k : ℕ) → x .stepped .outcome ≡ Replied k → take k (x .room) ≡ reply)
+        (says [] (tam1 s h n 0)) (length (tam1Answered s h n 0)) told
 
-pub made-up-length : ShutOut MadeUpLength
-unfolding kindOf iamKind
-made-up-length p says h = of-one p h 0 (λ x. x .stepped .outcome ≡ Replied 10 → ⊥)
-    (says table bench [] user (brings iam1 0) 0x40 (0x00 ∷ []) refl refl) refl
+-- the first reply that is seen
+abbrev first : List (Outcome × List ℕ) → List ℕ
+first [] = []
+first (x ∷ xs) = x .1
 
-pub later-for-show : ShutOut LaterForShow
-unfolding steps
-later-for-show p says h = apart (ap first (sym (later 0)
-    ∙ says table bench [] user (brings [] 0) (brings iam1 0 ∷ []) (brings iam1 1 ∷ []) refl
-    ∙ later 1))
+-- two TAM1 with other challenges
+pub later-for-show : (ds : List Doing) → ShutOut HasRecord (LaterForShow ds)
+unfolding tam1Made tam1Message
+later-for-show ds s h p says standard =
+    let t = reached s ds in
+    let k = stays-all ds s h in
+    let like = says (tam1 t k 0 0) (tam1 t k 0 1) (record { begins = refl; long = refl; draws = refl; room = refl }) in
+    let e = sym (shown 0) ∙ ap first like ∙ shown 1 in
+    let z = tam1-tells t k 0 0 0 1 (omega arith) (omega arith) (omega arith) (omega arith) e .1 in
+    omega arith
   where
-    later : (n : ℕ) → drop 1 (p table bench [] user (Step (brings [] 0) ∷ Step (brings iam1 n) ∷ [])) ≡ answered n ∷ []
-    later n = ap (drop 1) (is-defined p h table bench [] user (Step (brings [] 0) ∷ Step (brings iam1 n) ∷ [])
-        ∙ two-calls n)
+    shown : (i : ℕ) → first (map seen (lastOf p s ds (tam1 (reached s ds) (stays-all ds s h) 0 i)))
+        ≡ tam1Answered (reached s ds) (stays-all ds s h) 0 i
+    shown i =
+        ap (λ (xs : List Left). first (map seen xs)) (last-is s p standard ds _)
+        ∙ ap (λ (x : Outcome × List ℕ). x .1) (tam1-seen (reached s ds) (stays-all ds s h) 0 i)
 
-    first : List Left → List ℕ
-    first [] = []
-    first (x ∷ xs) = take 10 (x .room)
+pub made-up-length : (kind : Kind) → ShutOut (Takes kind) (MadeUpLength kind)
+made-up-length kind s h p says standard =
+    let v = serves kind s h in
+    let t = reached s (steps (v .before)) in
+    let long = answer-long (callAt t (v .message)) (keyed (t .tag) (t .table)) (v .taken) in
+    of-last s p standard (steps (v .before)) (v .message) _ (says (v .before) (v .message)) (v .begins) (v .taken)
+    (long ∙ ap (λ (k : Kind). layoutLength k (v .message .message)) (v .begins))

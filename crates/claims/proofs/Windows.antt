@@ -66,7 +66,7 @@ module _ (setup : Setup) (identity user : List ℕ) (draws room : ℕ)
   area-long Identity = bench-identity
   area-long User = bench-user
 
-  holds-profile : (c : Custom) → Within keyLimit setup → slotNamed (setup .profiles) (c .profile) .present ≡ true
+  pub holds-profile : (c : Custom) → Within keyLimit setup → slotNamed (setup .profiles) (c .profile) .present ≡ true
       → profileEnd (slotNamed (setup .profiles) (c .profile) .profile) * 2 ≤ length
       (areaOf (blockAsked (setup .profiles) c .area) identity user)
   unfolding blockAsked wordsAsked addressOf slotNamed

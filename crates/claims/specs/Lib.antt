@@ -5,6 +5,7 @@ pub mod Openings
 pub mod Recovery
 pub mod Answered
 pub mod Edges
+pub mod Starts
 pub mod ShutOut
 pub mod Ways
 pub mod Fixed
