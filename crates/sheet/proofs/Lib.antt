@@ -13,6 +13,8 @@ pub mod Tables
 pub mod States
 pub mod KeyTables
 pub mod RoundTrip
+pub mod Ends
+pub mod Refusals
 pub mod Runs
 pub mod Forth
 pub mod Lists

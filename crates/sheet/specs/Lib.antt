@@ -5,6 +5,7 @@ pub mod KeyTable
 pub mod Setups
 pub mod Judgement
 pub mod Sheet
+pub mod Refusals
 pub mod KeysMet
 pub mod Writer
 pub mod Within
