@@ -15,6 +15,8 @@ pub mod KeyTables
 pub mod RoundTrip
 pub mod Ends
 pub mod Refusals
+pub mod Counts
+pub mod PaperNumbers
 pub mod Runs
 pub mod Forth
 pub mod Lists

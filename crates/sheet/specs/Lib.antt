@@ -6,6 +6,7 @@ pub mod Setups
 pub mod Judgement
 pub mod Sheet
 pub mod Refusals
+pub mod PaperNumbers
 pub mod KeysMet
 pub mod Writer
 pub mod Within

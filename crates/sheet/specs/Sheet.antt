@@ -91,3 +91,7 @@ readNumber limit s = verdictNumber (readOf limit s .verdict)
 
 unfoldable pub readPlace : ℕ → List ℕ → ℕ
 readPlace limit s = verdictPlace (readOf limit s .verdict)
+
+-- a sheet that is refused by this number, at this place
+abbrev pub RefusedBy : ℕ → List ℕ → ℕ → ℕ → Type 0
+RefusedBy limit s number place = (readNumber limit s ≡ number) × (readPlace limit s ≡ place)
