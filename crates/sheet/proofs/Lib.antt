@@ -24,3 +24,4 @@ pub mod Sound
 pub mod Canonical
 pub mod Sheets
 pub mod Lengths
+pub mod Longest
