@@ -12,6 +12,7 @@ pub mod Back
 pub mod Tables
 pub mod States
 pub mod KeyTables
+pub mod OneRecord
 pub mod RoundTrip
 pub mod Ends
 pub mod Refusals
@@ -25,3 +26,6 @@ pub mod Canonical
 pub mod Sheets
 pub mod Lengths
 pub mod Longest
+pub mod ExamplesFeatures
+pub mod ExamplesValues
+pub mod ExamplesMany
