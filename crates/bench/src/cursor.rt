@@ -48,9 +48,10 @@ pub fn moved<'a>(cursor: Cursor<'a>, n: usize) -> Cursor<'a>
     }
 }
 
-/// What the sheet says from the cursor's place on, or the first refusal with its place.
+/// What the sheet says from the cursor's place on, or the first refusal with its place. From a cursor behind the end
+/// that is the sheet's length.
 ///
-/// Ruled out: a reader that starts again at the sheet's first byte; places that are counted from the cursor.
+/// Ruled out: a reader that starts again at the sheet's first byte; a refusal at a place past the sheet.
 pub fn rest<'a>(cursor: Cursor<'a>, gathered: Gathered) -> Reading
     ensures { λ r. ⌜ ReadAs r (readFrom keyLimit (now (cursor .entry .sheet)) (cursor .entry .at) gathered) ⌝ }
 {

@@ -30,7 +30,7 @@ use Rattle.sheet.specs.declared.Gathered.{Gathered}
 use Rattle.sheet.proofs.Rules.{profile-place}
 use Rattle.sheet.proofs.Judgements.{key-room, lock-room}
 use Rattle.sheet.proofs.Walks.{Took, took-features, took-sizes, took-key, took-profile, took-lock, Step}
-use Rattle.sheet.proofs.Runs.{codeOf, kind-code}
+use Rattle.sheet.proofs.Ends.{codeOf, kind-code}
 use Rattle.sheet.proofs.Tables.{longer}
 use Rattle.sheet.proofs.States.{marks-of, up-to, profile-marks, lock-marks, slot-gathered, lock-gathered}
 use Rattle.sheet.proofs.Sound.{Fine, Sound, none, first, more, opening, body}

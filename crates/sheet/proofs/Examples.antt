@@ -20,7 +20,7 @@ use Rattle.sheet.specs.Records.{keyRule, keyOf, profileRule, slotOf, loc
 use Rattle.sheet.specs.Judgement.{tooMany, openedOf, recordOf, judgedOf}
 use Rattle.sheet.specs.Judgement.{withFeatures, withSizes, withKey, withProfile, withLock}
 use Rattle.sheet.specs.Sheet.{after, walk, readOf, saidOf, whole, refusedAt}
-use Rattle.sheet.specs.Sheet.{verdictNumber, verdictPlace, readNumber, readPlace}
+use Rattle.sheet.specs.Sheet.{verdictNumber, readNumber, RefusedBy}
 use Rattle.sheet.specs.declared.SheetFault.the-variants.{Cut, Unknown, Order, Value, Many, Tail}
 use Rattle.sheet.specs.declared.Key.{Key}
 use Rattle.sheet.specs.declared.Sizes.{Sizes}
@@ -28,6 +28,7 @@ use Rattle.sheet.specs.declared.Terms.{Terms}
 use Rattle.sheet.specs.declared.Reading.{Reading}
 use Rattle.sheet.specs.Writer.{featuresBody, sizesBody, keyBody, keysWritten}
 use Rattle.sheet.specs.Within.{Key16, KeyFine, KeysRise}
+use Rattle.sheet.proofs.Verdicts.{refused-told}
 use Rattle.sheet.proofs.Bits.{tab}
 use Rattle.sheet.proofs.RoundTrip.{many-keys}
 
@@ -61,23 +62,15 @@ unfolding saidOf keyTable emptySetup
 said-11 limit = ap (λ (r : Reading). setupOf (r .terms) (keyTable smallest (r .keys))) (example-11 limit)
 
 -- the same three by number and place
-abbrev number-of : Reading → ℕ
-number-of r = verdictNumber (r .verdict)
-
-abbrev place-of : Reading → ℕ
-place-of r = verdictPlace (r .verdict)
-
 pub number-11 : (limit : ℕ) → readNumber limit smallest ≡ 0
 unfolding readNumber
-number-11 limit = ap number-of (example-11 limit)
+number-11 limit = ap (λ (r : Reading). verdictNumber (r .verdict)) (example-11 limit)
 
-pub number-12 : (limit : ℕ) → (readNumber limit [] ≡ 30) × (readPlace limit [] ≡ 0)
-unfolding readNumber readPlace
-number-12 limit = (ap number-of (example-12 limit), ap place-of (example-12 limit))
+pub number-12 : (limit : ℕ) → RefusedBy limit [] 30 0
+number-12 limit = refused-told limit [] Cut 0 (example-12 limit)
 
-pub number-13 : (limit : ℕ) (t : List ℕ) → (readNumber limit (0x02 ∷ t) ≡ 32) × (readPlace limit (0x02 ∷ t) ≡ 0)
-unfolding readNumber readPlace
-number-13 limit t = (ap number-of (example-13 limit t), ap place-of (example-13 limit t))
+pub number-13 : (limit : ℕ) (t : List ℕ) → RefusedBy limit (0x02 ∷ t) 32 0
+number-13 limit t = refused-told limit (0x02 ∷ t) Order 0 (example-13 limit t)
 
 -- 01 00 is 30 at 0
 pub cut-first : (limit : ℕ) → readOf limit (0x01 ∷ 0x00 ∷ []) ≡ refusedAt Cut 0
@@ -166,11 +159,11 @@ keys-from n (suc m) t = 0x03 ∷ n ∷ replicate 35 0 ++ keys-from (n + 1) m t
 plain : ℕ → Key
 plain n = record { id = n; mac = false; mpi = 0; enc = replicate 16 0; mackey = replicate 16 0 }
 
-numbered : ℕ → ℕ → List Key
+pub numbered : ℕ → ℕ → List Key
 numbered n zero = []
 numbered n (suc m) = plain n ∷ numbered (n + 1) m
 
-numbered-length : (n m : ℕ) → length (numbered n m) ≡ m
+pub numbered-length : (n m : ℕ) → length (numbered n m) ≡ m
 unfolding numbered
 numbered-length n zero = refl
 numbered-length n (suc m) = ap suc (numbered-length (n + 1) m)
@@ -181,7 +174,7 @@ plain-fine n h =
     let z : Key16 (replicate 16 0) = record { sixteen = refl; bytes = zeros-bytes 16 } in
     record { id = h; mpi = omega arith; enc = z; mackey = z; absent = λ e. refl }
 
-numbered-rise : (n m : ℕ) → n + m ≤ 256 → KeysRise n (numbered n m)
+pub numbered-rise : (n m : ℕ) → n + m ≤ 256 → KeysRise n (numbered n m)
 unfolding numbered plain
 numbered-rise n zero h = tt
 numbered-rise n (suc m) h =

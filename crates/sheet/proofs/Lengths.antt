@@ -19,6 +19,8 @@ use Rattle.ground.specs.Bytes.{Bytes, twoBytes, bitOf}
 use Rattle.ground.proofs.Bytes.{bytes-none, bytes-cons, bytes-join, two-bytes}
 use Rattle.ground.proofs.Choice.{both-true}
 use Rattle.sheet.specs.Limits.{keyLimit, profileLimit, lockLimit, wordLimit, longestSheet}
+use Rattle.sheet.specs.Kinds.{keysAt}
+use Rattle.sheet.specs.KeyTable.{keyRecord}
 use Rattle.sheet.specs.Setups.{Setup, noSlot, noLock}
 use Rattle.sheet.specs.Records.{inside, wordsIn}
 use Rattle.sheet.specs.Sheet.{Accepted}
@@ -58,26 +60,29 @@ joined-length : (a b k p l : List ℕ)
     ≡ length a + length b + length k + length p + length l + 2
 joined-length a b k p l = simp length-append (omega arith)
 
-pub written-length : (limit : ℕ) (s : Setup) → Within limit s → length (written s) ≤ longestSheet limit
-unfolding written longestSheet
-written-length limit s w =
+-- the length of what is written, of which only that of the profiles is open: an absent one has no record
+pub written-long : (limit : ℕ) (s : Setup) → Within limit s
+    → length (written s)
+    ≡ keysAt + keyRecord * length (s .keys) + length (profilesWritten 0 (s .profiles)) + 6 * s .locks .count + 1
+unfolding written
+written-long limit s w =
     let ks = s .keys in
-    let ss = s .profiles in
     let ls = take (s .locks .count) (s .locks .table) in
     omega (
       arith,
-      joined-length (featuresBody (s .features)) (sizesBody (s .sizes)) (keysWritten ks) (profilesWritten 0 ss)
-          (locksWritten ls),
+      joined-length (featuresBody (s .features)) (sizesBody (s .sizes)) (keysWritten ks)
+          (profilesWritten 0 (s .profiles)) (locksWritten ls),
       features-length (s .features),
       sizes-length (s .sizes),
       keys-length 0 ks (w .keys),
-      w .few,
-      slots-length 0 ss,
-      w .slots,
       locks-length ls,
       used-length noLock lockLimit (s .locks .count) (s .locks .table) (w .lock-table),
-      w .lock-table .few,
     )
+
+pub written-length : (limit : ℕ) (s : Setup) → Within limit s → length (written s) ≤ longestSheet limit
+unfolding longestSheet
+written-length limit s w =
+    omega (arith, written-long limit s w, w .few, slots-length 0 (s .profiles), w .slots, w .lock-table .few)
 
 -- no accepted sheet is longer
 pub longest : (limit : ℕ) (s : List ℕ) → Bytes s → Accepted limit s → length s ≤ longestSheet limit

@@ -12,7 +12,12 @@ pub mod Back
 pub mod Tables
 pub mod States
 pub mod KeyTables
+pub mod OneRecord
 pub mod RoundTrip
+pub mod Ends
+pub mod Refusals
+pub mod Counts
+pub mod PaperNumbers
 pub mod Runs
 pub mod Forth
 pub mod Lists
@@ -20,3 +25,7 @@ pub mod Sound
 pub mod Canonical
 pub mod Sheets
 pub mod Lengths
+pub mod Longest
+pub mod ExamplesFeatures
+pub mod ExamplesValues
+pub mod ExamplesMany

@@ -1,27 +1,25 @@
 -- What is written of a setup within the rules reads back: the reader refuses no sheet that it should take.
 use mathlib.Core.Path.{_≡_, refl, sym, ap, _∙_}
-use mathlib.Core.Bool.{true, false}
+use mathlib.Core.Bool.{true}
 use mathlib.Core.Logic.{inl, inr}
 use mathlib.Core.List.{List, [], _∷_, _++_, append-assoc, append-nil}
 use Prim.Native.Nat.{ℕ, _+_, _*_, _≤_, _<_}
 use native.Mathlib.Omega.{arith}
 use native.Mathlib.Nat.{le-of-eq, le-refl, sub-self}
 use lib.ListN.{length, take, length-append}
-use lib.Seq.{take-at, drop-at}
-use borrow.Author.Tests.{le-leb, lt-leb, le-ltb, ne-eqb}
+use borrow.Author.Tests.{le-leb, lt-leb}
 use Rattle.memory.specs.declared.Lock.{Lock}
 use Rattle.ground.specs.Choice.{implies}
 use Rattle.sheet.specs.Limits.{profileLimit, lockLimit, wordLimit}
-use Rattle.sheet.specs.Kinds.{kindOf, isUnknown, bodyLength, inOrder, keysAt}
+use Rattle.sheet.specs.Kinds.{kindOf, inOrder, keysAt}
 use Rattle.sheet.specs.KeyTable.{keyRecord, keyTable}
 use Rattle.sheet.specs.Setups.{Setup, setupOf, termsOf, noSlot, noLock, emptyTerms, noMarks, nothingGathered}
-use Rattle.sheet.specs.Judgement.{tooMany, openedOf, taken, recordOf, judgedOf}
+use Rattle.sheet.specs.Judgement.{tooMany, recordOf}
 use Rattle.sheet.specs.Judgement.{withFeatures, withSizes, withKey, withProfile, withLock}
-use Rattle.sheet.specs.Sheet.{whole, ends, after, walk, readOf, refusedAt, Accepted, saidOf}
+use Rattle.sheet.specs.Sheet.{whole, walk, readOf, refusedAt, Accepted, saidOf}
 use Rattle.sheet.specs.Writer.{areaByte, featuresBody, sizesBody, keyBody, profileBody, lockBody}
 use Rattle.sheet.specs.Writer.{keysWritten, profilesWritten, locksWritten, written}
 use Rattle.sheet.specs.Within.{KeysRise, SlotFine, SlotsFine, LocksRise, Within}
-use Rattle.sheet.specs.declared.Kind.{Kind}
 use Rattle.sheet.specs.declared.Kind.the-variants.{FeatureRecord, SizeRecord, KeyRecord}
 use Rattle.sheet.specs.declared.Kind.the-variants.{ProfileRecord, LockRecord}
 use Rattle.sheet.specs.declared.SheetFault.the-variants.{Many}
@@ -32,7 +30,7 @@ use Rattle.sheet.specs.declared.Slot.{Slot}
 use Rattle.sheet.specs.declared.Terms.{Terms}
 use Rattle.sheet.specs.declared.Gathered.{Gathered}
 use Rattle.sheet.specs.declared.Reading.{Reading}
-use Rattle.sheet.proofs.Walks.{pass}
+use Rattle.sheet.proofs.OneRecord.{order-on, go-on, one-too-many, end-walk}
 use Rattle.sheet.proofs.Bits.{two-back}
 use Rattle.sheet.proofs.Tables.{longer, filled-empty, filled-all, used-length, used-filled}
 use Rattle.sheet.proofs.States.{marks-of, terms-of, state, slot-gathered, lock-gathered}
@@ -41,31 +39,6 @@ use Rattle.sheet.proofs.Back.{features-length, features-back, features-
 use Rattle.sheet.proofs.Back.{sizes-length, sizes-back, sizes-fine}
 use Rattle.sheet.proofs.Back.{key-length, key-fine, profile-length, profile-back, profile-fine}
 use Rattle.sheet.proofs.Back.{lock-length, lock-back, lock-fine}
-
--- a kind from 03 on may follow each that is not above it
-order-on : (last b : ℕ) → 2 ≤ last → last ≤ b → 3 ≤ b → inOrder last b ≡ true
-unfolding inOrder
-order-on last b l h t =
-    let n0 = ne-eqb last 0 (λ e. (let z : ⊥ = omega arith in z)) in
-    let n1 = ne-eqb last 1 (λ e. (let z : ⊥ = omega arith in z)) in
-    rw (n0, n1, le-leb 3 b t) (le-leb last b h)
-
--- One record of kind q with the body c, in front of r.
-module _ (limit b : ℕ) (q : Kind) (c r : List ℕ) (k k′ : Gathered) (eq : kindOf b ≡ q) (known : isUnknown q ≡ false)
-    (order : inOrder (k .marks .last) b ≡ true) (few : tooMany limit q k ≡ false) (long : length c ≡ bodyLength q)
-    (takes : recordOf q c k ≡ taken q k′) where
-  fits : bodyLength q ≤ length (c ++ r)
-  fits = rw (length-append c r) (omega arith)
-
-  judged : judgedOf limit (b ∷ c ++ r) k ≡ taken q k′
-  unfolding judgedOf openedOf
-  judged =
-      rw (eq, known, order, few, le-ltb (length (c ++ r)) (bodyLength q) fits, take-at c r (bodyLength q) long) takes
-
-  pub go-on : (at : ℕ) → walk limit (b ∷ c ++ r) 0 at k ≡ walk limit r 0 (at + 1 + bodyLength q) k′
-  unfolding walk after
-  go-on at =
-      rw (judged, eq, pass limit (bodyLength q) (c ++ r) (at + 1) k′ fits, drop-at c r (bodyLength q) long)
 
 -- there is room for x where the whole list fits
 room : {A : Type 0} (before xs all : List A) (x : A) (limit : ℕ) → before ++ x ∷ xs ≡ all → length all ≤ limit
@@ -178,13 +151,8 @@ module _ (limit : ℕ) (f : Features) (z : Sizes) (R : Reading) (r : List ℕ) w
         (locks-walk ls (before ++ x ∷ []) (at + 1 + 5) 5 (areaByte (x .area)) (x .first .0 + x .words)
         (shifted before ls all x e) (w .1) (omega arith) (omega arith))
 
--- the end record
-end-walk : (limit at : ℕ) (k : Gathered) → 2 ≤ k .marks .last → k .marks .last ≤ 5 → walk limit (6 ∷ []) 0 at k ≡ ends k
-unfolding walk after judgedOf openedOf kindOf tooMany recordOf
-end-walk limit at k l h = rw (order-on (k .marks .last) 6 l (omega arith) (omega arith))
-
 -- the two opening records in front of r
-opened : (limit : ℕ) (f : Features) (z : Sizes) (r : List ℕ) → implies (f .iam3) (f .iam) ≡ true
+pub opened : (limit : ℕ) (f : Features) (z : Sizes) (r : List ℕ) → implies (f .iam3) (f .iam) ≡ true
     → z .identity ≤ wordLimit → z .user ≤ wordLimit
     → readOf limit (1 ∷ featuresBody f ++ (2 ∷ sizesBody z ++ r))
     ≡ walk limit r 0 keysAt (state f z (marks-of 2 0 0 0 0 0 0) [] [])
@@ -273,9 +241,10 @@ module _ (limit : ℕ) (s : Setup) (w : Within limit s) where
 -- a key record where there are as many as there may be
 pub past : (limit at : ℕ) (k : Gathered) (t : List ℕ) → 2 ≤ k .marks .last → k .marks .last ≤ 3 → k .marks .keys ≡ limit
     → walk limit (3 ∷ t) 0 at k ≡ refusedAt Many at
-unfolding walk after judgedOf openedOf kindOf tooMany
+unfolding kindOf tooMany
 past limit at k t l h e =
-    rw (order-on (k .marks .last) 3 l h (omega arith), le-leb limit (k .marks .keys) (le-of-eq (sym e)))
+    one-too-many limit 3 at k t refl (order-on (k .marks .last) 3 l h (omega arith))
+    (le-leb limit (k .marks .keys) (le-of-eq (sym e)))
 
 -- One key record more than there may be is 34 where it stands, whatever follows its kind byte: before 30 and 33.
 pub many-keys : (limit : ℕ) (f : Features) (z : Sizes) (ks : List Key) (t : List ℕ)

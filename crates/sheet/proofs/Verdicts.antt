@@ -3,7 +3,10 @@ use mathlib.Core.Path.{_≡_, ap}
 use mathlib.Core.List.{List}
 use Prim.Native.Nat.{ℕ}
 use Rattle.sheet.specs.Judgement.{JudgedAs, judgedOf, findingNumber, judgedNumber}
+use Rattle.sheet.specs.Kinds.{numberOf}
 use Rattle.sheet.specs.Sheet.{ReadAs, readOf, verdictNumber, verdictPlace, readNumber, readPlace}
+use Rattle.sheet.specs.Sheet.{refusedAt, RefusedBy}
+use Rattle.sheet.specs.declared.SheetFault.{SheetFault}
 use Rattle.sheet.specs.declared.Gathered.{Gathered}
 use Rattle.sheet.specs.declared.Judged.{Judged}
 use Rattle.sheet.specs.declared.Reading.{Reading}
@@ -29,3 +32,9 @@ judged-as r x e = (e, ap (λ (q : Judged). findingNumber (q .finding)) e)
 
 pub read-as : (r x : Reading) → r ≡ x → ReadAs r x
 read-as r x e = (e, ap number-of e, ap place-of e)
+
+-- a refusal by name is one by number
+pub refused-told : (limit : ℕ) (s : List ℕ) (f : SheetFault) (place : ℕ) → readOf limit s ≡ refusedAt f place
+    → RefusedBy limit s (numberOf f) place
+unfolding readNumber readPlace
+refused-told limit s f place e = (ap number-of e, ap place-of e)

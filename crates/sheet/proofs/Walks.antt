@@ -4,14 +4,15 @@ use mathlib.Core.Bool.{Bool, true, false}
 use mathlib.Core.List.{List, [], _∷_}
 use Prim.Native.Nat.{ℕ, zero, suc, _+_, _-_, _≤_, _<_}
 use native.Mathlib.Omega.{arith}
-use native.Mathlib.Nat.{le-of-suc-le-suc, not-suc-le-zero}
-use lib.ListN.{length, take, drop, length-drop, drop-of-length-le}
-use lib.Seq.{take-all, drop-drop}
+use native.Mathlib.Nat.{le-of-suc-le-suc, not-suc-le-zero, min-eq-left, min-eq-right}
+use lib.ListN.{length, take, drop, length-drop}
+use lib.Seq.{take-all, drop-drop, drop-length}
 use Rattle.sheet.specs.Kinds.{kindOf, bodyLength, recordLength}
 use Rattle.sheet.specs.Records.{featuresRule, sizesRule, keyRule, profileRule, lockRule}
 use Rattle.sheet.specs.Judgement.{openedOf, onlyIf, takenIf, recordOf, judgedOf}
 use Rattle.sheet.specs.Judgement.{withFeatures, withSizes, withKey, withProfile, withLock}
-use Rattle.sheet.specs.Sheet.{walk, after, ends, refusedAt}
+use Rattle.sheet.specs.Setups.{nothingGathered}
+use Rattle.sheet.specs.Sheet.{walk, after, ends, refusedAt, readFrom, readOf}
 use Rattle.sheet.specs.declared.Kind.{Kind}
 use Rattle.sheet.specs.declared.Kind.the-variants.{FeatureRecord, SizeRecord, KeyRecord, ProfileRecord}
 use Rattle.sheet.specs.declared.Kind.the-variants.{LockRecord, EndRecord, NoRecord}
@@ -96,13 +97,21 @@ step limit b t k n e =
       judged = λ i. record { finding = e i; gathered = judgedOf limit (b ∷ t) k .gathered };
     }
 
+-- where no byte is left
+pub nothing-there : (limit : ℕ) (k : Gathered) → judgedOf limit [] k .finding ≡ Faulty Cut
+unfolding judgedOf
+nothing-there limit k = refl
+
 -- What each finding on the record at which the bytes r start means for the walk.
 module _ (limit at : ℕ) (k : Gathered) where
-  pub walk-faulty : (r : List ℕ) (f : SheetFault) → 0 < length r → judgedOf limit r k .finding ≡ Faulty f
+  pub walk-faulty : (r : List ℕ) (f : SheetFault) → judgedOf limit r k .finding ≡ Faulty f
       → walk limit r 0 at k ≡ refusedAt f at
   unfolding walk after
-  walk-faulty [] f h e = absurd (not-suc-le-zero h)
-  walk-faulty (b ∷ t) f h e = rw e
+  walk-faulty [] f e =
+      let h = nothing-there limit k in
+      let c : Cut ≡ f = cc in
+      ap (λ (g : SheetFault). refusedAt g at) c
+  walk-faulty (b ∷ t) f e = rw e
 
   pub walk-tail : (r : List ℕ) → 1 < length r → judgedOf limit r k .finding ≡ Ended
       → walk limit r 0 at k ≡ refusedAt Tail (at + 1)
@@ -111,19 +120,25 @@ module _ (limit at : ℕ) (k : Gathered) where
   walk-tail (b ∷ []) h e = absurd (omega arith)
   walk-tail (b ∷ x ∷ t) h e = rw e
 
-  pub walk-whole : (r : List ℕ) → length r ≡ 1 → judgedOf limit r k .finding ≡ Ended
+  pub walk-whole : (r : List ℕ) → length r ≤ 1 → judgedOf limit r k .finding ≡ Ended
       → walk limit r 0 at k ≡ ends (judgedOf limit r k .gathered)
   unfolding walk after
-  walk-whole [] h e = absurd (omega arith)
+  walk-whole [] h e =
+      let n = nothing-there limit k in
+      let z : _≡_ {A = ℕ} 0 1 = cc in
+      absurd (omega arith)
   walk-whole (b ∷ []) h e = rw e
   walk-whole (b ∷ x ∷ t) h e = absurd (omega arith)
 
-  pub walk-taken : (r : List ℕ) (n : ℕ) → 0 < length r → judgedOf limit r k .finding ≡ Taken n
+  pub walk-taken : (r : List ℕ) (n : ℕ) → judgedOf limit r k .finding ≡ Taken n
       → (1 ≤ n) × (n ≤ length r) × (walk limit r 0 at k ≡ walk limit (drop n r) 0 (at + n)
       (judgedOf limit r k .gathered))
   unfolding walk after
-  walk-taken [] n h e = absurd (not-suc-le-zero h)
-  walk-taken (b ∷ t) n h e =
+  walk-taken [] n e =
+      let h = nothing-there limit k in
+      let z : _≡_ {A = ℕ} 0 1 = cc in
+      absurd (omega arith)
+  walk-taken (b ∷ t) n e =
       let s = step limit b t k n e in
       let w = s .passed-checks .whole in
       let z = s .size in
@@ -135,33 +150,48 @@ module _ (limit at : ℕ) (k : Gathered) where
 pub rest : (s : List ℕ) (at : ℕ) → take (length s - at) (drop at s) ≡ drop at s
 rest s at = take-all (length s - at) (drop at s) (rw (length-drop at s) (omega arith))
 
+-- a place in the sheet is where it is read from
+pub placed : (limit : ℕ) (s : List ℕ) (at : ℕ) (k : Gathered) → at ≤ length s
+    → readFrom limit s at k ≡ walk limit (drop at s) 0 at k
+placed limit s at k h = ap (λ (p : ℕ). walk limit (drop p s) 0 p k) (min-eq-left h)
+
+-- from its first byte on, with nothing gathered, it is the whole sheet
+pub from-start : (limit : ℕ) (s : List ℕ) → readFrom limit s 0 nothingGathered ≡ readOf limit s
+unfolding readOf
+from-start limit s = placed limit s 0 nothingGathered (omega arith)
+
 -- The same at a place of the sheet s, where j is the judgement on the bytes from there on.
-module _ (limit : ℕ) (s : List ℕ) (at : ℕ) (k : Gathered) (j : Judged) (h : at < length s)
+module _ (limit : ℕ) (s : List ℕ) (at : ℕ) (k : Gathered) (j : Judged) (h : at ≤ length s)
     (judged : j ≡ judgedOf limit (drop at s) k) where
   long : length (drop at s) ≡ length s - at
   long = length-drop at s
 
-  pub read-faulty : (f : SheetFault) → j .finding ≡ Faulty f → walk limit (drop at s) 0 at k ≡ refusedAt f at
-  read-faulty f g = walk-faulty limit at k (drop at s) f (rw long (omega arith)) (rw judged at g)
+  pub read-faulty : (f : SheetFault) → j .finding ≡ Faulty f → readFrom limit s at k ≡ refusedAt f at
+  read-faulty f g = placed limit s at k h ∙ walk-faulty limit at k (drop at s) f (rw judged at g)
 
-  pub read-tail : j .finding ≡ Ended → at + 1 < length s → walk limit (drop at s) 0 at k ≡ refusedAt Tail (at + 1)
-  read-tail g l = walk-tail limit at k (drop at s) (rw long (omega arith)) (rw judged at g)
+  pub read-tail : j .finding ≡ Ended → at + 1 < length s → readFrom limit s at k ≡ refusedAt Tail (at + 1)
+  read-tail g l =
+      placed limit s at k h ∙ walk-tail limit at k (drop at s) (rw long (omega arith)) (rw judged at g)
 
-  pub read-whole : j .finding ≡ Ended → length s ≤ at + 1 → walk limit (drop at s) 0 at k ≡ ends (j .gathered)
+  pub read-whole : j .finding ≡ Ended → length s ≤ at + 1 → readFrom limit s at k ≡ ends (j .gathered)
   read-whole g l =
-      walk-whole limit at k (drop at s) (rw long (omega arith)) (rw judged at g)
+      placed limit s at k h
+      ∙ walk-whole limit at k (drop at s) (rw long (omega arith)) (rw judged at g)
       ∙ ap (λ (x : Judged). ends (x .gathered)) (sym judged)
 
   pub read-taken : (n : ℕ) → j .finding ≡ Taken n
-      → (1 ≤ n) × (at + n ≤ length s)
-      × (walk limit (drop at s) 0 at k ≡ walk limit (drop (at + n) s) 0 (at + n) (j .gathered))
+      → (1 ≤ n) × (at + n ≤ length s) × (readFrom limit s at k ≡ readFrom limit s (at + n) (j .gathered))
   read-taken n g =
-      let t = walk-taken limit at k (drop at s) n (rw long (omega arith)) (rw judged at g) in
+      let t = walk-taken limit at k (drop at s) n (rw judged at g) in
       let l : n ≤ length s - at = rw long at (t .1) in
-      (t .0, omega arith, rw (judged, ← drop-drop n at s) (t .2))
+      let i : at + n ≤ length s = omega arith in
+      let on : walk limit (drop at s) 0 at k ≡ walk limit (drop (at + n) s) 0 (at + n) (j .gathered) =
+      rw (judged, ← drop-drop n at s) (t .2) in
+      (t .0, i, placed limit s at k h ∙ on ∙ sym (placed limit s (at + n) (j .gathered) i))
 
--- where the bytes end
+-- at the sheet's end, and behind it
 pub read-cut : (limit : ℕ) (s : List ℕ) (at : ℕ) (k : Gathered) → length s ≤ at
-    → walk limit (drop at s) 0 at k ≡ refusedAt Cut at
+    → readFrom limit s at k ≡ refusedAt Cut (length s)
 unfolding walk
-read-cut limit s at k h = rw (drop-of-length-le s {i = at} h)
+read-cut limit s at k h =
+    ap (λ (p : ℕ). walk limit (drop p s) 0 p k) (min-eq-right h) ∙ rw (drop-length s)

@@ -5,6 +5,8 @@ pub mod KeyTable
 pub mod Setups
 pub mod Judgement
 pub mod Sheet
+pub mod Refusals
+pub mod PaperNumbers
 pub mod KeysMet
 pub mod Writer
 pub mod Within

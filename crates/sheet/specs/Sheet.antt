@@ -1,10 +1,8 @@
 -- The scope paper, "The tag sheet": a whole sheet. `limit` is how many key records there may be.
 use mathlib.Core.Path.{_≡_}
-use Prim.Native.Nat.{ℕ, zero, suc, _+_}
+use Prim.Native.Nat.{ℕ, zero, suc, _+_, min}
 use mathlib.Core.List.{List, [], _∷_}
 use lib.ListN.{length, drop}
-use lib.Dec.{leb}
-use Rattle.ground.specs.Choice.{pick}
 use Rattle.sheet.specs.Kinds.{kindOf, bodyLength, numberOf}
 use Rattle.sheet.specs.KeyTable.{keyTable}
 use Rattle.sheet.specs.Setups.{Setup, setupOf, emptyTerms, nothingGathered}
@@ -48,13 +46,17 @@ walk limit (b ∷ t) zero at k =
     let j = judgedOf limit (b ∷ t) k in
     after (j .finding) (j .gathered) at t (walk limit t (bodyLength (kindOf b)) (at + 1) (j .gathered))
 
--- The same of the sheet s from a place on. Behind its end no kind byte stands: 30 at that place.
+-- The place that is asked for, and the sheet's end where that would lie behind it: no place is past the sheet.
+abbrev pub placeIn : List ℕ → ℕ → ℕ
+placeIn s at = min at (length s)
+
+-- The sheet s from a place on. At its end no kind byte stands: 30 at its length, also from a place behind it.
 abbrev pub readFrom : ℕ → List ℕ → ℕ → Gathered → Reading
-readFrom limit s at k = walk limit (drop at s) 0 at k
+readFrom limit s at k = walk limit (drop (placeIn s at) s) 0 (placeIn s at) k
 
 -- The place n bytes further on, and no further than the sheet's end.
 abbrev pub furtherOn : List ℕ → ℕ → ℕ → ℕ
-furtherOn s at n = pick (leb (at + n) (length s)) (at + n) (length s)
+furtherOn s at n = placeIn s (at + n)
 
 -- What a reader finds in a sheet: its terms and the number of its key records, or the first refusal with its place.
 unfoldable pub readOf : ℕ → List ℕ → Reading
@@ -89,3 +91,7 @@ readNumber limit s = verdictNumber (readOf limit s .verdict)
 
 unfoldable pub readPlace : ℕ → List ℕ → ℕ
 readPlace limit s = verdictPlace (readOf limit s .verdict)
+
+-- a sheet that is refused by this number, at this place
+abbrev pub RefusedBy : ℕ → List ℕ → ℕ → ℕ → Type 0
+RefusedBy limit s number place = (readNumber limit s ≡ number) × (readPlace limit s ≡ place)

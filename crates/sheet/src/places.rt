@@ -42,9 +42,9 @@ pub fn further(s: &[u8], at: usize, n: usize) -> usize
 }
 
 /// The records from a place on, against what was gathered of those before it: what the sheet says, or the first refusal
-/// with its place.
+/// with its place. From a place behind the end that is the sheet's length.
 ///
-/// Ruled out: a reader that counts its places from where it starts; one that forgets what was gathered.
+/// Ruled out: a reader that counts its places from where it starts; one that refuses at a place past the sheet.
 pub fn read_from(s: &[u8], from: usize, before: Gathered) -> Reading
     ensures { λ r. ⌜ ReadAs r (readFrom keyLimit (now (s .entry)) from before) ⌝ }
 {
@@ -76,5 +76,5 @@ pub fn read_from(s: &[u8], from: usize, before: Gathered) -> Reading
             }
         }
     }
-    crate::refuse(SheetFault::Cut, at)
+    crate::refuse(SheetFault::Cut, s.len())
 }

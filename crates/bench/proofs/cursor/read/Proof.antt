@@ -2,7 +2,7 @@
 -- `rest` with what is gathered before the first record.
 -- All that the proof knows of `open`, `sheet::start` and `rest` is that each meets its contract. A `&[u8]` is Copy:
 -- what the sheet owns is had twice, and one copy is kept for the exit.
-use mathlib.Core.Path.{_≡_, refl, subst}
+use mathlib.Core.Path.{_≡_, refl, subst, _∙_}
 use Prim.Native.Nat.{ℕ}
 use mathlib.Core.List.{List, [], _∷_}
 use lib.ListN.{length}
@@ -43,6 +43,7 @@ use Rattle.sheet.specs.Limits.{keyLimit}
 use Rattle.sheet.specs.Sheet.{readFrom, readOf, ReadAs}
 use Rattle.sheet.specs.declared.Gathered.{Gathered}
 use Rattle.sheet.specs.declared.Reading.{Reading}
+use Rattle.sheet.proofs.Walks.{from-start}
 use Rattle.sheet.proofs.Gathered as K
 use Rattle.sheet.proofs.Gathered.Laws as K′
 use Rattle.sheet.proofs.Reading as S
@@ -87,9 +88,10 @@ module _ {M : Type 1} (𝓤 : URA M) (H : Heap 𝓤) (A : Atoms 𝓤) (mem : Mem
 whole-sheet : (s : RefT (List ℕ)) (r : Cursor) (k : Gathered) (t : Reading) → (r .sheet ≡ s) × (r .at ≡ 0)
     → k ≡ nothingGathered
     → ReadAs t (readFrom keyLimit (now (r .sheet)) (r .at) k) → ReadAs t (readOf keyLimit (now s))
-unfolding readOf
 whole-sheet s r k t e e₂ h =
-    subst (λ (x : Reading). ReadAs t x) (λ i. readFrom keyLimit (now (e .0 i)) (e .1 i) (e₂ i)) h
+    let begun : readFrom keyLimit (now (r .sheet)) (r .at) k ≡ readFrom keyLimit (now s) 0 nothingGathered =
+    λ i. readFrom keyLimit (now (e .0 i)) (e .1 i) (e₂ i) in
+    subst (λ (x : Reading). ReadAs t x) (begun ∙ from-start keyLimit (now s)) h
 
 module _ {M : Type 1} (𝓤 : URA M) (H : Heap 𝓤) (A : Atoms 𝓤) (W : Given 𝓤 H A) (mem : Memory → SProp 𝓤)
     (run : Routine → Fun 𝓤) (κ : Lft) (q : Share) (s : RefT (List ℕ)) where

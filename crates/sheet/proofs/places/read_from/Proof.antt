@@ -1,6 +1,7 @@
 use Prim.Native.Nat.{_-_}
 use mathlib.Core.Path.{_≡_, refl, sym, _∙_}
 use native.Mathlib.Omega.{arith}
+use native.Mathlib.Nat.{le-of-lt}
 use borrow.Author.Needs.{needs}
 use lib.ListN.{length}
 use Rattle.sheet.specs.Limits.{keyLimit}
@@ -33,7 +34,7 @@ returns c =
     let b = c .before .before .before .before .before in
     let l = b .before .before .loop in
     let a = b .before .before .before .before .args in
-    let t = b .before .loop-test .taken in
+    let t = le-of-lt (b .before .loop-test .taken) in
     let j = b .judge-at .ensures .0 in
     let h = read-faulty keyLimit (a .s .now) (l .at) (l .gathered) _ t j _ (c .before .before .f .given .1) in
     read-as _ _ (c .refuse .ensures ∙ sym h ∙ l .inv)
@@ -55,7 +56,7 @@ returns-2 c =
     let b = c .before .before .before .before .before in
     let l = b .before .before .loop in
     let a = b .before .before .before .before .args in
-    let t = b .before .loop-test .taken in
+    let t = le-of-lt (b .before .loop-test .taken) in
     let j = b .judge-at .ensures .0 in
     let e = c .before .before .enum-told .given .1 in
     let h = read-tail keyLimit (a .s .now) (l .at) (l .gathered) _ t j e (c .before .if1 .taken) in
@@ -66,7 +67,7 @@ returns-3 c =
     let b = c .before .before .before .before .before in
     let l = b .before .before .loop in
     let a = b .before .before .before .before .args in
-    let t = b .before .loop-test .taken in
+    let t = le-of-lt (b .before .loop-test .taken) in
     let j = b .judge-at .ensures .0 in
     let e = c .before .before .enum-told .given .1 in
     let h = read-whole keyLimit (a .s .now) (l .at) (l .gathered) _ t j e (c .before .if1 .left) in
@@ -80,7 +81,7 @@ add-at c =
     let b = c .before .before .before .before in
     let l = b .before .before .loop in
     let a = b .before .before .before .before .args in
-    let t = b .before .loop-test .taken in
+    let t = le-of-lt (b .before .loop-test .taken) in
     let j = b .judge-at .ensures .0 in
     let h = read-taken keyLimit (a .s .now) (l .at) (l .gathered) _ t j _ (c .before .f2 .given .1) in
     omega arith
@@ -90,7 +91,7 @@ loop-less c =
     let b = c .before .before .before .before in
     let l = b .before .before .loop in
     let a = b .before .before .before .before .args in
-    let t = b .before .loop-test .taken in
+    let t = le-of-lt (b .before .loop-test .taken) in
     let j = b .judge-at .ensures .0 in
     let h = read-taken keyLimit (a .s .now) (l .at) (l .gathered) _ t j _ (c .before .f2 .given .1) in
     omega arith
@@ -100,7 +101,7 @@ loop-again c =
     let b = c .before .before .before .before in
     let l = b .before .before .loop in
     let a = b .before .before .before .before .args in
-    let t = b .before .loop-test .taken in
+    let t = le-of-lt (b .before .loop-test .taken) in
     let j = b .judge-at .ensures .0 in
     let h = read-taken keyLimit (a .s .now) (l .at) (l .gathered) _ t j _ (c .before .f2 .given .1) in
     sym (h .2) ∙ l .inv
