@@ -10,7 +10,7 @@ use Rattle.sheet.specs.declared.Reading.{Reading}
 use Rattle.sheet.specs.Limits.{keyLimit}
 use Rattle.sheet.specs.Setups.{Setup, emptySetup}
 use Rattle.sheet.specs.Sheet.{Accepted}
-use Rattle.sheet.proofs.Examples.{smallest, example-11, said-11}
+use Rattle.sheet_laws.proofs.Examples.{smallest, example-11, said-11}
 use Rattle.entry.specs.Sessions.{cleared}
 use Rattle.tag.specs.States.{poweredUp}
 use Rattle.tag.specs.Plays.{Doing, LeftWith, eventsOf, leftAll}

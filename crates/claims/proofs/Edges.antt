@@ -12,7 +12,7 @@ use Rattle.memory.specs.Address.{addressOf, stepOf, lastWord, profileEnd, overr
 use Rattle.sheet.specs.Limits.{keyLimit}
 use Rattle.sheet.specs.Sheet.{verdictNumber, verdictPlace, readNumber, readPlace}
 use Rattle.sheet.specs.declared.Reading.{Reading}
-use Rattle.sheet.proofs.Examples.{example-11, example-12, example-13}
+use Rattle.sheet_laws.proofs.Examples.{example-11, example-12, example-13}
 use Rattle.frames.specs.Fields.{sizeOf, selectCustom}
 use Rattle.frames.specs.Messages.{iam3Of}
 use Rattle.claims.specs.Edges.{fieldsOf, wordsOf, asked, sheetOf, Edges}

@@ -14,7 +14,7 @@ use Rattle.sheet.specs.Setups.{nothingGathered, emptyTerms}
 use Rattle.sheet.specs.Judgement.{judgedOf}
 use Rattle.sheet.specs.Limits.{keyLimit}
 use Rattle.sheet.specs.Sheet.{readOf}
-use Rattle.sheet.proofs.Examples.{example-12}
+use Rattle.sheet_laws.proofs.Examples.{example-12}
 use Rattle.offer.specs.declared.TagFault.the-variants.{OtherError}
 use Rattle.entry.specs.Sessions.{cleared}
 use Rattle.ground.specs.Checks.{judgedTo}

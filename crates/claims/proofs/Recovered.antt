@@ -15,7 +15,7 @@ use Rattle.sheet.specs.declared.Reading.{Reading}
 use Rattle.sheet.specs.KeyTable.{keysIn, recordsIn}
 use Rattle.sheet.specs.Records.{keyOf}
 use Rattle.sheet.specs.Within.{Within}
-use Rattle.sheet.proofs.Sheets.{accepted}
+use Rattle.sheet_laws.proofs.Sheets.{accepted}
 use Rattle.frames.specs.Kinds.{kindOf, iamKind}
 use Rattle.frames.specs.Lengths.{lengthFits}
 use Rattle.frames.specs.Messages.{iam1Of}

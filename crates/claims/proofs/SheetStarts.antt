@@ -12,7 +12,7 @@ use Rattle.sheet.specs.KeyTable.{keyRecord, keyTable}
 use Rattle.sheet.specs.Limits.{keyLimit}
 use Rattle.sheet.specs.Sheet.{readOf, saidOf}
 use Rattle.sheet.specs.Within.{Within}
-use Rattle.sheet.proofs.Sheets.{accepted}
+use Rattle.sheet_laws.proofs.Sheets.{accepted}
 use Rattle.frames.proofs.Asked.{asked-some}
 use Rattle.offer.specs.Records.{offered, slotNamed, blockAsked}
 use Rattle.offer.proofs.Bytes.{drop-bytes}

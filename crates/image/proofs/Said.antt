@@ -16,8 +16,8 @@ use Rattle.sheet.specs.KeyTable.{recordCount, recordsIn, keysIn, keyTable}
 use Rattle.sheet.specs.Sheet.{readOf, saidOf, Accepted}
 use Rattle.sheet.specs.Within.{Within}
 use Rattle.sheet.specs.Writer.{keysWritten}
-use Rattle.sheet.proofs.RoundTrip.{written-read, written-table}
-use Rattle.sheet.proofs.Sheets.{accepted}
+use Rattle.sheet_laws.proofs.RoundTrip.{written-read, written-table}
+use Rattle.sheet_laws.proofs.Sheets.{accepted}
 use Rattle.entry.specs.declared.Session.{Session}
 use Rattle.entry.specs.Sessions.{cleared}
 use Rattle.tag.specs.States.{holding}

@@ -20,7 +20,7 @@ use Rattle.sheet.specs.Judgement.{judgedOf}
 use Rattle.sheet.specs.KeyTable.{recordsIn, keysIn, keyTable}
 use Rattle.sheet.specs.KeysMet.{keySaid, metIn, metFrom, keysMet}
 use Rattle.sheet.specs.Sheet.{after, walk, readOf, saidOf}
-use Rattle.sheet.proofs.Sheets.{keys-stand}
+use Rattle.sheet_laws.proofs.Sheets.{keys-stand}
 use Rattle.silence.specs.Names.{namedIn}
 use Rattle.silence.specs.Silence.{RecordsAlike}
 use Rattle.silence.specs.Sheets.{AlikeFrom, SheetsAlike, SheetsReadAlike, SilentSheets}

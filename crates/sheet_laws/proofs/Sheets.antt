@@ -9,28 +9,28 @@ use native.Mathlib.Nat.{le-of-suc-le-suc, not-suc-le-zero}
 use lib.ListN.{length, take, drop, replicate, length-append, length-replicate, take-append-drop}
 use lib.Seq.{take-append-seam, drop-append-seam}
 use Rattle.ground.specs.Bytes.{Bytes}
 use Rattle.sheet.specs.Limits.{profileLimit, lockLimit}
 use Rattle.sheet.specs.Kinds.{kindOf, bodyLength, inOrder}
 use Rattle.sheet.specs.KeyTable.{keysIn, keyTable}
 use Rattle.sheet.specs.Setups.{Setup, noSlot, noLock, noMarks, nothingGathered}
 use Rattle.sheet.specs.Judgement.{judgedOf, openedOf, tooMany, recordOf, withFeatures}
 use Rattle.sheet.specs.Sheet.{Accepted, readOf, saidOf}
 use Rattle.sheet.specs.KeysMet.{keySaid, metFrom, keysMet}
 use Rattle.sheet.specs.Writer.{featuresBody, sizesBody, keysWritten, profilesWritten, locksWritten, written}
 use Rattle.sheet.specs.Within.{Table, Within}
 use Rattle.sheet.specs.declared.Key.{Key}
 use Rattle.sheet.specs.declared.Slot.{Slot}
 use Rattle.sheet.specs.declared.Terms.{Terms}
 use Rattle.sheet.specs.declared.Reading.{Reading}
 use Rattle.sheet.specs.declared.Gathered.{Gathered}
-use Rattle.sheet.proofs.Tables.{filled}
+use Rattle.sheet_laws.proofs.Tables.{filled}
 use Rattle.sheet.proofs.Back.{features-length, sizes-length}
 use Rattle.sheet.proofs.KeyTables.{keys-back, table-back}
-use Rattle.sheet.proofs.Lists.{slots-join, slots-absent, written-absent, written-join}
+use Rattle.sheet_laws.proofs.Lists.{slots-join, slots-absent, written-absent, written-join}
 use Rattle.sheet.proofs.Walks.{Step}
-use Rattle.sheet.proofs.Runs.{Run, run}
-use Rattle.sheet.proofs.Sound.{Sound, none, first, more, opening}
-use Rattle.sheet.proofs.Canonical.{sound-step}
+use Rattle.sheet_laws.proofs.Runs.{Run, run}
+use Rattle.sheet_laws.proofs.Sound.{Sound, none, first, more, opening}
+use Rattle.sheet_laws.proofs.Canonical.{sound-step}
 
 -- a table that was filled from the front
 module _ {A : Type 0} (z : A) (limit : ℕ) (xs : List A) (few : length xs ≤ limit) where

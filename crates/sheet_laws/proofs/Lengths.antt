@@ -18,24 +18,24 @@ use Rattle.ground.specs.Choice.{pick, both}
 use Rattle.ground.specs.Bytes.{Bytes, twoBytes, bitOf}
 use Rattle.ground.proofs.Bytes.{bytes-none, bytes-cons, bytes-join, two-bytes}
 use Rattle.ground.proofs.Choice.{both-true}
 use Rattle.sheet.specs.Limits.{keyLimit, profileLimit, lockLimit, wordLimit, longestSheet}
 use Rattle.sheet.specs.Kinds.{keysAt}
 use Rattle.sheet.specs.KeyTable.{keyRecord}
 use Rattle.sheet.specs.Setups.{Setup, noSlot, noLock}
 use Rattle.sheet.specs.Records.{inside, wordsIn}
 use Rattle.sheet.specs.Sheet.{Accepted}
 use Rattle.sheet.specs.Writer.{byteOf, areaByte, featuresBody, sizesBody, keyBody, profileBody, lockBody}
 use Rattle.sheet.specs.Writer.{keysWritten, profilesWritten, locksWritten, written}
 use Rattle.sheet.specs.Within.{KeysRise, SlotFine, SlotsFine, LocksRise, Within}
 use Rattle.sheet.specs.declared.Features.{Features}
 use Rattle.sheet.specs.declared.Sizes.{Sizes}
 use Rattle.sheet.specs.declared.Key.{Key}
 use Rattle.sheet.specs.declared.Slot.{Slot}
 use Rattle.sheet.proofs.Bits.{bit-small, byte-low}
 use Rattle.sheet.proofs.Back.{features-length, sizes-length, profile-length, lock-length}
 use Rattle.sheet.proofs.KeyTables.{keys-length}
-use Rattle.sheet.proofs.Tables.{used-length}
-use Rattle.sheet.proofs.Sheets.{accepted}
+use Rattle.sheet_laws.proofs.Tables.{used-length}
+use Rattle.sheet_laws.proofs.Sheets.{accepted}
 
 -- lengths
 slot-length : (t : Bool) (n : ℕ) (p : Profile) → length (pick t (4 ∷ profileBody n p) []) ≤ 7

@@ -10,35 +10,35 @@ use lib.ListN.{length, take, length-append}
 use borrow.Author.Tests.{le-leb, lt-leb}
 use Rattle.memory.specs.declared.Lock.{Lock}
 use Rattle.ground.specs.Choice.{implies}
 use Rattle.sheet.specs.Limits.{profileLimit, lockLimit, wordLimit}
 use Rattle.sheet.specs.Kinds.{kindOf, inOrder, keysAt}
 use Rattle.sheet.specs.KeyTable.{keyRecord, keyTable}
 use Rattle.sheet.specs.Setups.{Setup, setupOf, termsOf, noSlot, noLock, emptyTerms, noMarks, nothingGathered}
 use Rattle.sheet.specs.Judgement.{tooMany, recordOf}
 use Rattle.sheet.specs.Judgement.{withFeatures, withSizes, withKey, withProfile, withLock}
 use Rattle.sheet.specs.Sheet.{whole, walk, readOf, refusedAt, Accepted, saidOf}
 use Rattle.sheet.specs.Writer.{areaByte, featuresBody, sizesBody, keyBody, profileBody, lockBody}
 use Rattle.sheet.specs.Writer.{keysWritten, profilesWritten, locksWritten, written}
 use Rattle.sheet.specs.Within.{KeysRise, SlotFine, SlotsFine, LocksRise, Within}
 use Rattle.sheet.specs.declared.Kind.the-variants.{FeatureRecord, SizeRecord, KeyRecord}
 use Rattle.sheet.specs.declared.Kind.the-variants.{ProfileRecord, LockRecord}
 use Rattle.sheet.specs.declared.SheetFault.the-variants.{Many}
 use Rattle.sheet.specs.declared.Features.{Features}
 use Rattle.sheet.specs.declared.Sizes.{Sizes}
 use Rattle.sheet.specs.declared.Key.{Key}
 use Rattle.sheet.specs.declared.Slot.{Slot}
 use Rattle.sheet.specs.declared.Terms.{Terms}
 use Rattle.sheet.specs.declared.Gathered.{Gathered}
 use Rattle.sheet.specs.declared.Reading.{Reading}
-use Rattle.sheet.proofs.OneRecord.{order-on, go-on, one-too-many, end-walk}
+use Rattle.sheet_laws.proofs.OneRecord.{order-on, go-on, one-too-many, end-walk}
 use Rattle.sheet.proofs.Bits.{two-back}
-use Rattle.sheet.proofs.Tables.{longer, filled-empty, filled-all, used-length, used-filled}
-use Rattle.sheet.proofs.States.{marks-of, terms-of, state, slot-gathered, lock-gathered}
+use Rattle.sheet_laws.proofs.Tables.{longer, filled-empty, filled-all, used-length, used-filled}
+use Rattle.sheet_laws.proofs.States.{marks-of, terms-of, state, slot-gathered, lock-gathered}
 use Rattle.sheet.proofs.KeyTables.{keys-back, table-back}
 use Rattle.sheet.proofs.Back.{features-length, features-back, features-fine}
 use Rattle.sheet.proofs.Back.{sizes-length, sizes-back, sizes-fine}
 use Rattle.sheet.proofs.Back.{key-length, key-fine, profile-length, profile-back, profile-fine}
 use Rattle.sheet.proofs.Back.{lock-length, lock-back, lock-fine}
 
 -- there is room for x where the whole list fits
 room : {A : Type 0} (before xs all : List A) (x : A) (limit : ℕ) → before ++ x ∷ xs ≡ all → length all ≤ limit

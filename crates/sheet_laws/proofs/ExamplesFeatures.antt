@@ -8,18 +8,18 @@ use native.Mathlib.Omega.{arith}
 use lib.Dec.{ltb}
 use borrow.Author.Tests.{le-ltb}
 use Rattle.ground.specs.Choice.{both}
 use Rattle.sheet.specs.Limits.{wordLimit}
 use Rattle.sheet.specs.Kinds.{kindOf, inOrder}
 use Rattle.sheet.specs.Setups.{emptyTerms, noMarks, nothingGathered}
 use Rattle.sheet.specs.Records.{feature, featuresRule, featuresOf, sizesRule, sizesOf}
 use Rattle.sheet.specs.Judgement.{tooMany, openedOf, recordOf, judgedOf, withFeatures, withSizes}
 use Rattle.sheet.specs.Sheet.{after, walk, readOf, whole, RefusedBy}
 use Rattle.sheet.specs.declared.Kind.the-variants.{FeatureRecord}
 use Rattle.sheet.specs.declared.SheetFault.the-variants.{Value}
 use Rattle.sheet.specs.declared.Features.{Features}
 use Rattle.sheet.specs.declared.Reading.{Reading}
 use Rattle.sheet.proofs.Verdicts.{refused-told}
-use Rattle.sheet.proofs.OneRecord.{go-on, stop-at}
+use Rattle.sheet_laws.proofs.OneRecord.{go-on, stop-at}
 
 -- what record 01 says, bit by bit
 abbrev pub flags : Bool → Bool → Bool → Bool → Bool → Bool → Bool → Bool → Bool → Bool → Features

@@ -5,17 +5,17 @@ use Prim.Native.Nat.{ℕ, _+_, _-_, _≤_, _<_}
 use lib.ListN.{length, replicate}
 use Rattle.memory.specs.declared.Lock.{Lock}
 use Rattle.ground.specs.Bytes.{byteAt, wordAt}
 use Rattle.sheet.specs.Limits.{profileLimit, lockLimit}
 use Rattle.sheet.specs.Setups.{noSlot, noLock}
 use Rattle.sheet.specs.Records.{slotOf, lockOf}
 use Rattle.sheet.specs.Judgement.{withProfile, withLock}
 use Rattle.sheet.specs.declared.Features.{Features}
 use Rattle.sheet.specs.declared.Sizes.{Sizes}
 use Rattle.sheet.specs.declared.Slot.{Slot}
 use Rattle.sheet.specs.declared.Terms.{Terms}
 use Rattle.sheet.specs.declared.Marks.{Marks}
 use Rattle.sheet.specs.declared.Gathered.{Gathered}
-use Rattle.sheet.proofs.Tables.{filled, longer, filled-more, filled-far}
+use Rattle.sheet_laws.proofs.Tables.{filled, longer, filled-more, filled-far}
 
 abbrev pub marks-of : ℕ → ℕ → ℕ → ℕ → ℕ → ℕ → ℕ → Marks
 marks-of last keys profiles id number area word = record {

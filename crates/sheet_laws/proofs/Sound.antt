@@ -6,19 +6,19 @@ use Prim.Native.Nat.{ℕ, _≤_}
 use lib.ListN.{length}
 use Rattle.memory.specs.declared.Lock.{Lock}
 use Rattle.ground.specs.Choice.{implies}
 use Rattle.sheet.specs.Limits.{profileLimit, lockLimit, wordLimit}
 use Rattle.sheet.specs.Setups.{nothingGathered}
 use Rattle.sheet.specs.Judgement.{withFeatures}
 use Rattle.sheet.specs.Writer.{featuresBody, sizesBody, keysWritten, profilesWritten, locksWritten}
 use Rattle.sheet.specs.Within.{KeysRise, SlotsFine, LocksRise}
 use Rattle.sheet.specs.declared.Features.{Features}
 use Rattle.sheet.specs.declared.Sizes.{Sizes}
 use Rattle.sheet.specs.declared.Key.{Key}
 use Rattle.sheet.specs.declared.Slot.{Slot}
 use Rattle.sheet.specs.declared.Marks.{Marks}
 use Rattle.sheet.specs.declared.Gathered.{Gathered}
-use Rattle.sheet.proofs.States.{state}
-use Rattle.sheet.proofs.Lists.{nextKey, nextArea, nextWord}
+use Rattle.sheet_laws.proofs.States.{state}
+use Rattle.sheet_laws.proofs.Lists.{nextKey, nextArea, nextWord}
 
 -- the lists read so far keep the rules, and the marks are what they leave
 pub record Fine (limit : ℕ) (f : Features) (z : Sizes) (m : Marks) (ks : List Key) (ss : List Slot) (ls : List Lock)

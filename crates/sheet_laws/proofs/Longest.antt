@@ -12,17 +12,17 @@ use Rattle.memory.specs.Address.{areaNumber}
 use Rattle.memory.specs.declared.Area.the-variants.{Identity}
 use Rattle.memory.specs.declared.Lock.{Lock}
 use Rattle.ground.specs.Bytes.{Bytes}
 use Rattle.sheet.specs.Limits.{keyLimit, profileLimit, lockLimit, wordLimit, longestSheet}
 use Rattle.sheet.specs.Setups.{Setup, noFeatures}
 use Rattle.sheet.specs.Records.{inside, wordsIn}
 use Rattle.sheet.specs.Sheet.{Accepted}
 use Rattle.sheet.specs.Writer.{profileBody, profilesWritten, written}
 use Rattle.sheet.specs.Within.{SlotsFine, LockFine, LocksRise, Within}
 use Rattle.sheet.specs.declared.Sizes.{Sizes}
 use Rattle.sheet.specs.declared.Slot.{Slot}
-use Rattle.sheet.proofs.RoundTrip.{written-reads}
-use Rattle.sheet.proofs.Lengths.{written-long, written-bytes, longest-is}
-use Rattle.sheet.proofs.Examples.{numbered, numbered-length, numbered-rise}
+use Rattle.sheet_laws.proofs.RoundTrip.{written-reads}
+use Rattle.sheet_laws.proofs.Lengths.{written-long, written-bytes, longest-is}
+use Rattle.sheet_laws.proofs.Examples.{numbered, numbered-length, numbered-rise}
 
 -- an area of a word for each lock
 abbrev words : Sizes

@@ -7,17 +7,17 @@ use Prim.Native.Nat.{ℕ, zero, suc, _+_, _*_, _≤_, _<_}
 use native.Mathlib.Omega.{arith}
 use native.Mathlib.Nat.{le-refl}
 use borrow.Author.Tests.{le-leb, lt-leb, lt-ltb}
 use Rattle.sheet.specs.Limits.{profileLimit, lockLimit}
 use Rattle.sheet.specs.Kinds.{kindOf}
 use Rattle.sheet.specs.Records.{wordsIn, inside, profileRule, lockRule}
 use Rattle.sheet.specs.Judgement.{tooMany, recordOf, withProfile, withLock}
 use Rattle.sheet.specs.Sheet.{walk, RefusedBy}
 use Rattle.sheet.specs.declared.Kind.the-variants.{ProfileRecord, LockRecord}
 use Rattle.sheet.specs.declared.SheetFault.the-variants.{Many}
 use Rattle.sheet.specs.declared.Gathered.{Gathered}
 use Rattle.sheet.proofs.Verdicts.{refused-told}
-use Rattle.sheet.proofs.OneRecord.{order-on, go-on, one-too-many}
-use Rattle.sheet.proofs.ExamplesValues.{opening, sixteen, begun, behind-opening}
+use Rattle.sheet_laws.proofs.OneRecord.{order-on, go-on, one-too-many}
+use Rattle.sheet_laws.proofs.ExamplesValues.{opening, sixteen, begun, behind-opening}
 
 -- m records, numbered from n on, in front of t
 pub rows : (ℕ → List ℕ) → ℕ → ℕ → List ℕ → List ℕ

@@ -10,27 +10,27 @@ use lib.ListN.{length, set, replicate}
 use Rattle.memory.specs.declared.Area.the-variants.{Identity, User}
 use Rattle.ground.specs.Bytes.{Bytes}
 use Rattle.octets.specs.Alike.{allZero}
 use Rattle.sheet.specs.Limits.{keyLimit, profileLimit, lockLimit, wordLimit}
 use Rattle.sheet.specs.Kinds.{kindOf, inOrder}
 use Rattle.sheet.specs.KeyTable.{recordsIn, keysIn, keyTable}
 use Rattle.sheet.specs.Setups.{setupOf, noFeatures, noSlot, noLock, emptyTerms, emptySetup, noMarks}
 use Rattle.sheet.specs.Setups.{nothingGathered}
 use Rattle.sheet.specs.Records.{areaOf, wordsIn, inside, featuresRule, featuresOf, sizesRule, sizesOf}
 use Rattle.sheet.specs.Records.{keyRule, keyOf, profileRule, slotOf, lockRule, lockOf}
 use Rattle.sheet.specs.Judgement.{tooMany, openedOf, recordOf, judgedOf}
 use Rattle.sheet.specs.Judgement.{withFeatures, withSizes, withKey, withProfile, withLock}
 use Rattle.sheet.specs.Sheet.{after, walk, readOf, saidOf, whole, refusedAt}
 use Rattle.sheet.specs.Sheet.{verdictNumber, readNumber, RefusedBy}
 use Rattle.sheet.specs.declared.SheetFault.the-variants.{Cut, Unknown, Order, Value, Many, Tail}
 use Rattle.sheet.specs.declared.Key.{Key}
 use Rattle.sheet.specs.declared.Sizes.{Sizes}
 use Rattle.sheet.specs.declared.Terms.{Terms}
 use Rattle.sheet.specs.declared.Reading.{Reading}
 use Rattle.sheet.specs.Writer.{featuresBody, sizesBody, keyBody, keysWritten}
 use Rattle.sheet.specs.Within.{Key16, KeyFine, KeysRise}
 use Rattle.sheet.proofs.Verdicts.{refused-told}
 use Rattle.sheet.proofs.Bits.{tab}
-use Rattle.sheet.proofs.RoundTrip.{many-keys}
+use Rattle.sheet_laws.proofs.RoundTrip.{many-keys}
 
 zeros-bytes : (n : ℕ) → Bytes (replicate n 0)
 zeros-bytes zero i = omega arith

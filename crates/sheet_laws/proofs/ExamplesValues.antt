@@ -11,25 +11,25 @@ use lib.Seq.{drop-at, take-all}
 use lib.Dec.{leb}
 use borrow.Author.Tests.{lt-leb}
 use Rattle.octets.specs.Alike.{allZero}
 use Rattle.sheet.specs.Limits.{keyLimit, lockLimit, wordLimit}
 use Rattle.sheet.specs.Kinds.{kindOf, inOrder}
 use Rattle.sheet.specs.Setups.{noFeatures, noMarks, nothingGathered}
 use Rattle.sheet.specs.Records.{wordsIn, inside, featuresRule, keyRule, lockRule}
 use Rattle.sheet.specs.Judgement.{tooMany, openedOf, recordOf, judgedOf, withFeatures, withLock}
 use Rattle.sheet.specs.Sheet.{walk, readOf, RefusedBy, Accepted}
 use Rattle.sheet.specs.Writer.{featuresBody, sizesBody}
 use Rattle.sheet.specs.declared.Kind.the-variants.{FeatureRecord, KeyRecord, LockRecord}
 use Rattle.sheet.specs.declared.SheetFault.the-variants.{Order, Value}
 use Rattle.sheet.specs.declared.Finding.the-variants.{Faulty}
 use Rattle.sheet.specs.declared.Sizes.{Sizes}
 use Rattle.sheet.specs.declared.Gathered.{Gathered}
 use Rattle.sheet.specs.declared.Reading.{Reading}
 use Rattle.sheet.proofs.Verdicts.{refused-told}
 use Rattle.sheet.proofs.Walks.{walk-faulty}
-use Rattle.sheet.proofs.States.{marks-of, state}
-use Rattle.sheet.proofs.OneRecord.{go-on, stop-at, end-walk}
-use Rattle.sheet.proofs.RoundTrip.{opened}
-use Rattle.sheet.proofs.ExamplesFeatures.{both-false}
+use Rattle.sheet_laws.proofs.States.{marks-of, state}
+use Rattle.sheet_laws.proofs.OneRecord.{go-on, stop-at, end-walk}
+use Rattle.sheet_laws.proofs.RoundTrip.{opened}
+use Rattle.sheet_laws.proofs.ExamplesFeatures.{both-false}
 
 -- the two opening records, with 16 words in each area
 abbrev pub opening : List ℕ → List ℕ

@@ -13,34 +13,34 @@ use Rattle.memory.specs.declared.Lock.{Lock}
 use Rattle.ground.specs.Bytes.{Bytes, byteAt}
 use Rattle.ground.proofs.Bytes.{bytes-tail, bytes-take, bytes-drop}
 use Rattle.ground.proofs.Choice.{both-true}
 use Rattle.sheet.specs.Limits.{profileLimit, lockLimit}
 use Rattle.sheet.specs.Kinds.{kindOf, bodyLength, inOrder}
 use Rattle.sheet.specs.Setups.{noLock, emptyTerms, noMarks, nothingGathered}
 use Rattle.sheet.specs.Records.{featuresRule, featuresOf, sizesRule, sizesOf, keyRule, keyOf}
 use Rattle.sheet.specs.Records.{profileRule, slotOf, lockRule, lockOf}
 use Rattle.sheet.specs.Judgement.{tooMany, withFeatures, withSizes, withKey, withProfile, withLock}
 use Rattle.sheet.specs.KeysMet.{keySaid}
 use Rattle.sheet.specs.Writer.{featuresBody, keyBody, profileBody, lockBody}
 use Rattle.sheet.specs.Writer.{keysWritten, profilesWritten, locksWritten}
 use Rattle.sheet.specs.declared.Kind.{Kind}
 use Rattle.sheet.specs.declared.Kind.the-variants.{KeyRecord, LockRecord}
 use Rattle.sheet.specs.declared.Key.{Key}
 use Rattle.sheet.specs.declared.Slot.{Slot}
 use Rattle.sheet.specs.declared.Gathered.{Gathered}
 use Rattle.sheet.proofs.Rules.{profile-place}
 use Rattle.sheet.proofs.Judgements.{key-room, lock-room}
 use Rattle.sheet.proofs.Walks.{Took, took-features, took-sizes, took-key, took-profile, took-lock, Step}
 use Rattle.sheet.proofs.Ends.{codeOf, kind-code}
-use Rattle.sheet.proofs.Tables.{longer}
-use Rattle.sheet.proofs.States.{marks-of, up-to, profile-marks, lock-marks, slot-gathered, lock-gathered}
-use Rattle.sheet.proofs.Sound.{Fine, Sound, none, first, more, opening, body}
-use Rattle.sheet.proofs.Forth.{features-iam, features-forth, sizes-low, sizes-forth}
-use Rattle.sheet.proofs.Forth.{key-rises, key-within, key-forth, profile-rises, profile-within, profile-forth}
-use Rattle.sheet.proofs.Forth.{lock-within, lock-forth, area-05}
+use Rattle.sheet_laws.proofs.Tables.{longer}
+use Rattle.sheet_laws.proofs.States.{marks-of, up-to, profile-marks, lock-marks, slot-gathered, lock-gathered}
+use Rattle.sheet_laws.proofs.Sound.{Fine, Sound, none, first, more, opening, body}
+use Rattle.sheet_laws.proofs.Forth.{features-iam, features-forth, sizes-low, sizes-forth}
+use Rattle.sheet_laws.proofs.Forth.{key-rises, key-within, key-forth, profile-rises, profile-within, profile-forth}
+use Rattle.sheet_laws.proofs.Forth.{lock-within, lock-forth, area-05}
 use Rattle.sheet.proofs.Back.{features-back}
-use Rattle.sheet.proofs.Lists.{keys-more, next-key, keys-written}
-use Rattle.sheet.proofs.Lists.{locks-more, next-area, next-word, locks-written}
-use Rattle.sheet.proofs.Lists.{up-length, up-fine, up-written}
+use Rattle.sheet_laws.proofs.Lists.{keys-more, next-key, keys-written}
+use Rattle.sheet_laws.proofs.Lists.{locks-more, next-area, next-word, locks-written}
+use Rattle.sheet_laws.proofs.Lists.{up-length, up-fine, up-written}
 
 -- a kind behind the opening records is at least 03, and at least the one before
 order-back : (last b : ℕ) → 2 ≤ last → inOrder last b ≡ true → (3 ≤ b) × (last ≤ b)

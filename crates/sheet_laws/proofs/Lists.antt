@@ -8,14 +8,14 @@ use native.Mathlib.Omega.{arith}
 use lib.ListN.{length, replicate, length-append, length-replicate}
 use Rattle.memory.specs.declared.Lock.{Lock}
 use Rattle.ground.specs.Choice.{pick}
 use Rattle.sheet.specs.Setups.{noSlot}
 use Rattle.sheet.specs.Writer.{areaByte, keyBody, profileBody, lockBody}
 use Rattle.sheet.specs.Writer.{keysWritten, profilesWritten, locksWritten}
 use Rattle.sheet.specs.Within.{KeyFine, KeysRise, SlotFine, SlotsFine, LockFine, LocksRise}
 use Rattle.sheet.specs.declared.Sizes.{Sizes}
 use Rattle.sheet.specs.declared.Key.{Key}
 use Rattle.sheet.specs.declared.Slot.{Slot}
-use Rattle.sheet.proofs.States.{up-to}
+use Rattle.sheet_laws.proofs.States.{up-to}
 
 -- keys
 abbrev pub nextKey : ℕ → List Key → ℕ

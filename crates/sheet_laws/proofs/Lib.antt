@@ -1,0 +1,16 @@
+pub mod Examples
+pub mod Tables
+pub mod States
+pub mod OneRecord
+pub mod RoundTrip
+pub mod Runs
+pub mod Forth
+pub mod Lists
+pub mod Sound
+pub mod Canonical
+pub mod Sheets
+pub mod Lengths
+pub mod Longest
+pub mod ExamplesFeatures
+pub mod ExamplesValues
+pub mod ExamplesMany
