@@ -1,15 +1,11 @@
 -- No second answer fits the contracts of the functions over a cursor.
 use mathlib.Core.Path.{_≡_, refl}
-use lib.ListN.{drop}
 use denote.Ref.{now}
 use Rattle.ground.specs.OneAnswer.{OneAnswer, one}
 use Rattle.sheet.specs.Limits.{keyLimit}
-use Rattle.sheet.specs.Judgement.{judgedOf, JudgedAs}
-use Rattle.sheet.specs.Sheet.{readFrom, furtherOn, ReadAs}
+use Rattle.sheet.specs.Sheet.{readFrom, ReadAs}
 use Rattle.bench.specs.OneWalked.{OneWalked}
 use Rattle.bench.proofs.cursor.open as opened
-use Rattle.bench.proofs.cursor.judge as judge
-use Rattle.bench.proofs.cursor.moved as moved
 use Rattle.bench.proofs.cursor.rest as rest
 use Rattle.bench.proofs.cursor.read.Reads as read
 use Rattle.bench.proofs.cursor.read.Kinds as read-kinds
@@ -17,17 +13,6 @@ use Rattle.bench.proofs.cursor.read.Kinds as read-kinds
 pub opened-one : OneWalked opened.ended (λ M. opened.clauses {M = M})
     (λ κs a r e. (r .sheet ≡ a .0) × (r .at ≡ 0))
 opened-one = (
-  (λ M 𝓤 H A mem run κs a g r e. refl),
-  (λ κs a x y v w p q. ((λ j. record { sheet = one (p .0) (q .0) j; at = one (p .1) (q .1) j }), refl)),
-)
-
-pub judge-one : OneWalked judge.ended (λ M. judge.clauses {M = M})
-    (λ κs a r e. JudgedAs r (judgedOf keyLimit (drop (a .0 .at) (now (a .0 .sheet))) (a .1 .0)))
-judge-one = ((λ M 𝓤 H A mem run κs a g r e. refl), (λ κs a x y v w p q. (one (p .0) (q .0), refl)))
-
-pub moved-one : OneWalked moved.ended (λ M. moved.clauses {M = M})
-    (λ κs a r e. (r .sheet ≡ a .0 .sheet) × (r .at ≡ furtherOn (now (a .0 .sheet)) (a .0 .at) (a .1 .0)))
-moved-one = (
   (λ M 𝓤 H A mem run κs a g r e. refl),
   (λ κs a x y v w p q. ((λ j. record { sheet = one (p .0) (q .0) j; at = one (p .1) (q .1) j }), refl)),
 )

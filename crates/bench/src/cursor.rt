@@ -1,14 +1,11 @@
 // A cursor that keeps the sheet and its place. What stands at a place is said once, of slice and number, in
 // sheet::places.
 use sheet::Gathered;
-use sheet::Judged;
 use sheet::Reading;
 use sheet::places;
 ghost use mathlib.Core.Path.{_≡_};
-ghost use lib.ListN.{drop};
 ghost use Rattle.sheet.specs.Limits.{keyLimit};
-ghost use Rattle.sheet.specs.Judgement.{judgedOf, JudgedAs};
-ghost use Rattle.sheet.specs.Sheet.{readFrom, readOf, furtherOn, ReadAs};
+ghost use Rattle.sheet.specs.Sheet.{readFrom, readOf, ReadAs};
 
 /// A lent sheet, and a place in it.
 pub struct Cursor<'a> {
@@ -23,29 +20,6 @@ pub fn open<'a>(sheet: &'a [u8]) -> Cursor<'a>
     ensures { λ r. ⌜ (r .sheet ≡ sheet .entry) × (r .at ≡ 0) ⌝ }
 {
     Cursor { sheet, at: 0 }
-}
-
-/// The record at the cursor's place, judged against what was gathered of those before it.
-///
-/// Ruled out: a judge that always looks at the sheet's first record; one that judges against nothing gathered.
-pub fn judge<'a>(cursor: Cursor<'a>, gathered: Gathered) -> Judged
-    ensures { λ r. ⌜ JudgedAs r (judgedOf keyLimit (drop (cursor .entry .at) (now (cursor .entry .sheet))) gathered) ⌝ }
-{
-    places::judge_at(cursor.sheet, cursor.at, gathered)
-}
-
-/// The cursor so many bytes further on, and no further than the sheet's end.
-///
-/// Ruled out: a cursor that stays; a cursor that leaves its sheet.
-pub fn moved<'a>(cursor: Cursor<'a>, n: usize) -> Cursor<'a>
-    ensures { λ r. ⌜ (r .sheet ≡ cursor .entry .sheet)
-        × (r .at ≡ furtherOn (now (cursor .entry .sheet)) (cursor .entry .at) n) ⌝ }
-{
-    let at = places::further(cursor.sheet, cursor.at, n);
-    Cursor {
-        sheet: cursor.sheet,
-        at,
-    }
 }
 
 /// What the sheet says from the cursor's place on, or the first refusal with its place. From a cursor behind the end

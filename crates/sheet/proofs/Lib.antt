@@ -4,7 +4,7 @@ pub mod Rules
 pub mod Judgements
 pub mod Verdicts
 pub mod Walks
-pub mod Further
+pub mod AtPlaces
 pub mod Unique
 pub mod Bits
 pub mod Back

@@ -9,8 +9,6 @@ use Rattle.sheet.proofs.judge.Reads as judge
 use Rattle.sheet.proofs.judge.Kinds as judge-kinds
 use Rattle.sheet.proofs.places.judge_at.Reads as judge-at
 use Rattle.sheet.proofs.places.judge_at.Kinds as judge-at-kinds
-use Rattle.sheet.proofs.places.further.Reads as further
-use Rattle.sheet.proofs.places.further.Kinds as further-kinds
 use Rattle.sheet.proofs.places.read_from.Reads as read-from
 use Rattle.sheet.proofs.places.read_from.Kinds as read-from-kinds
 use Rattle.sheet.proofs.read.Reads as read
@@ -40,9 +38,6 @@ read-one κs a x y v w p q = (one (p .0) (q .0), refl)
 
 pub judge-at-one : OneAnswer 1 judge-at-kinds.ps judge-at-kinds.r judge-at.Post
 judge-at-one κs a x y v w p q = (one (p .0) (q .0), refl)
-
-pub further-one : OneAnswer 1 further-kinds.ps further-kinds.r further.Post
-further-one κs a x y v w p q = (one p q, refl)
 
 pub read-from-one : OneAnswer 1 read-from-kinds.ps read-from-kinds.r read-from.Post
 read-from-one κs a x y v w p q = (one (p .0) (q .0), refl)

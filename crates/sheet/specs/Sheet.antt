@@ -54,10 +54,6 @@ placeIn s at = min at (length s)
 abbrev pub readFrom : ℕ → List ℕ → ℕ → Gathered → Reading
 readFrom limit s at k = walk limit (drop (placeIn s at) s) 0 (placeIn s at) k
 
--- The place n bytes further on, and no further than the sheet's end.
-abbrev pub furtherOn : List ℕ → ℕ → ℕ → ℕ
-furtherOn s at n = placeIn s (at + n)
-
 -- What a reader finds in a sheet: its terms and the number of its key records, or the first refusal with its place.
 unfoldable pub readOf : ℕ → List ℕ → Reading
 readOf limit s = walk limit s 0 0 nothingGathered

@@ -1,4 +1,4 @@
-// A sheet from a place on: the record that stands there, the place behind it, and what the rest says.
+// A sheet from a place on: the record that stands there, and what the rest says.
 use crate::Finding;
 use crate::Gathered;
 use crate::Judged;
@@ -9,7 +9,7 @@ ghost use mathlib.Core.Path.{_≡_};
 ghost use lib.ListN.{drop};
 ghost use Rattle.sheet.specs.Limits.{keyLimit};
 ghost use Rattle.sheet.specs.Judgement.{judgedOf, JudgedAs};
-ghost use Rattle.sheet.specs.Sheet.{readFrom, furtherOn, ReadAs};
+ghost use Rattle.sheet.specs.Sheet.{readFrom, ReadAs};
 
 /// The record at a place, judged against what was gathered of those before it. Behind the sheet's end there is none: it
 /// is cut short.
@@ -23,22 +23,6 @@ pub fn judge_at(s: &[u8], at: usize, gathered: Gathered) -> Judged
         return crate::judge(&s[0..0], gathered);
     }
     crate::judge(&s[at..], gathered)
-}
-
-/// The place so many bytes further on, and the sheet's end where that would lie behind it.
-///
-/// Ruled out: a place that runs past the end; one that starts anew at the sheet's first byte.
-pub fn further(s: &[u8], at: usize, n: usize) -> usize
-    ensures { λ r. ⌜ r ≡ furtherOn (now (s .entry)) at n ⌝ }
-{
-    let end = s.len();
-    if end < at {
-        return end;
-    }
-    if end - at < n {
-        return end;
-    }
-    at + n
 }
 
 /// The records from a place on, against what was gathered of those before it: what the sheet says, or the first refusal

@@ -1,6 +1,6 @@
 use Rattle.sheet.specs.Limits.{keyLimit}
 use Rattle.sheet.proofs.Verdicts.{judged-as}
-use Rattle.sheet.proofs.Further.{judged-at, judged-behind}
+use Rattle.sheet.proofs.AtPlaces.{judged-at, judged-behind}
 use borrow.Author.Needs.{needs}
 use Rattle.sheet.proofs.places.judge_at.Statement.{statement}
 use Rattle.sheet.proofs.places.judge_at.Tie as tie
