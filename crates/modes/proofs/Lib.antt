@@ -2,6 +2,7 @@ pub mod Chains
 pub mod Mac
 pub mod Rooms
 pub mod Whole
+pub mod Parts
 pub mod Undone
 pub mod Results
 pub mod MacBytes

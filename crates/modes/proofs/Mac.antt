@@ -1,9 +1,10 @@
 -- The MAC's chain, block by block; and the doubling, byte by byte.
 use mathlib.Core.Path.{_≡_, refl, sym, ap, _∙_, subst}
-use mathlib.Core.List.{List, _∷_}
-use Prim.Native.Nat.{ℕ, _+_, _*_, _/_, _%_, _≤_, _<_}
+use mathlib.Core.List.{List, [], _∷_, _++_}
+use Prim.Native.Nat.{ℕ, _+_, _-_, _*_, _/_, _%_, _≤_, _<_}
 use native.Mathlib.Omega.{arith}
 use lib.ListN.{length, getD, set, take, drop, length-drop, List·getD-eq-default}
+use lib.Seq.{drop-drop}
 use lib.Bits.{bitXor, xor-shifted, xor-zero-r}
 use Rattle.field.specs.Block.{xor}
 use Rattle.field.proofs.Table.{same-at, entry-at}
@@ -12,30 +13,52 @@ use Rattle.aes.specs.AesEnc.{aesEnc}
 use Rattle.modes.specs.Blocks.{wholeBlocks}
 use Rattle.modes.specs.Cmac.{lastByte, shiftedLeft, doubled, masked, macChain}
 use Rattle.modes.proofs.Chains.{no-block, first-and-rest}
+use Rattle.modes.proofs.Whole.{whole-parts, whole-last}
 
-pub mac-last : (key k1 c s : List ℕ) → 16 ≤ length s → length s < 32
-    → macChain key c (masked k1 (wholeBlocks s)) ≡ aesEnc key (xor c (xor k1 (take 16 s)))
-unfolding macChain masked
-mac-last key k1 c s h l =
-    ap (λ (bs : List (List ℕ)). macChain key c (masked k1 bs))
-    (first-and-rest s h ∙ ap {B = List (List ℕ)} (λ bs. take 16 s ∷ bs)
-    (no-block (drop 16 s) (omega (arith, length-drop 16 s))))
-
--- K1 is not added to a block that another follows
-masked-more : (k1 m : List ℕ) (s : List ℕ) → 16 ≤ length s
-    → masked k1 (m ∷ wholeBlocks s) ≡ m ∷ masked k1 (wholeBlocks s)
-unfolding masked
-masked-more k1 m s h =
-    ap (λ (bs : List (List ℕ)). masked k1 (m ∷ bs)) (first-and-rest s h)
-    ∙ ap {B = List (List ℕ)} (λ bs. m ∷ masked k1 bs) (sym (first-and-rest s h))
-
-pub mac-more : (key k1 c s : List ℕ) → 32 ≤ length s
-    → macChain key c (masked k1 (wholeBlocks s)) ≡ macChain key (aesEnc key (xor c (take 16 s)))
-    (masked k1 (wholeBlocks (drop 16 s)))
+pub mac-none : (key c s : List ℕ) → length s < 16 → macChain key c (wholeBlocks s) ≡ c
 unfolding macChain
-mac-more key k1 c s h =
-    ap (macChain key c) (ap (masked k1) (first-and-rest s (omega arith))
-    ∙ masked-more k1 (take 16 s) (drop 16 s) (omega (arith, length-drop 16 s)))
+mac-none key c s h = ap (macChain key c) (no-block s h)
+
+pub mac-more : (key c s : List ℕ) → 16 ≤ length s
+    → macChain key c (wholeBlocks s) ≡ macChain key (aesEnc key (xor c (take 16 s))) (wholeBlocks (drop 16 s))
+unfolding macChain
+mac-more key c s h = ap (macChain key c) (first-and-rest s h)
+
+-- the chain over two parts
+mac-parts : (key : List ℕ) (bs cs : List (List ℕ)) (c : List ℕ)
+    → macChain key c (bs ++ cs) ≡ macChain key (macChain key c bs) cs
+unfolding macChain
+mac-parts key [] cs c = refl
+mac-parts key (b ∷ bs) cs c = mac-parts key bs cs (aesEnc key (xor c b))
+
+-- the rest of s, chained to what the chain over the part from `at` to `end` gave, completes it
+pub mac-part : (key c s : List ℕ) (at end : ℕ) → (end - at) % 16 ≡ 0 → at ≤ end → end ≤ length s
+    → macChain key (macChain key c (wholeBlocks (take (end - at) (drop at s)))) (wholeBlocks (drop end s))
+    ≡ macChain key c (wholeBlocks (drop at s))
+mac-part key c s at end w l h =
+    let t : List ℕ = drop at s in
+    let n = end - at in
+    let p : at + n ≡ end = omega arith in
+    ap (λ (l : List ℕ). macChain key (macChain key c (wholeBlocks (take n t))) (wholeBlocks l))
+    (sym (drop-drop n at s ∙ ap (λ (i : ℕ). drop i s) p))
+    ∙ sym (ap (macChain key c) (whole-parts n t w (omega (arith, length-drop at s)))
+    ∙ mac-parts key (wholeBlocks (take n t)) (wholeBlocks (drop n t)) c)
+
+-- K1 is added to the last block alone
+masked-last : (k1 : List ℕ) (bs : List (List ℕ)) (m : List ℕ) → masked k1 (bs ++ (m ∷ [])) ≡ bs ++ (xor k1 m ∷ [])
+unfolding masked
+masked-last k1 [] m = refl
+masked-last k1 (b ∷ []) m = refl
+masked-last k1 (b ∷ c ∷ bs) m = ap {B = List (List ℕ)} (λ ms. b ∷ ms) (masked-last k1 (c ∷ bs) m)
+
+-- the chain over all blocks but the last, and then the last
+pub mac-last : (key k1 c s : List ℕ) (n : ℕ) → n % 16 ≡ 0 → length s ≡ n + 16
+    → macChain key c (masked k1 (wholeBlocks s))
+    ≡ aesEnc key (xor (macChain key c (wholeBlocks (take n s))) (xor k1 (drop n s)))
+unfolding macChain
+mac-last key k1 c s n w e =
+    ap (macChain key c) (ap (masked k1) (whole-last n s w e) ∙ masked-last k1 (wholeBlocks (take n s)) (drop n s))
+    ∙ mac-parts key (wholeBlocks (take n s)) (xor k1 (drop n s) ∷ []) c
 
 -- ---- the doubling
 

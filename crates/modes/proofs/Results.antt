@@ -1,15 +1,22 @@
 -- The results of the forms over AES-ENC are bytes, as many as came in.
-use mathlib.Core.Path.{_≡_, _∙_}
+use mathlib.Core.Path.{_≡_, refl, _∙_}
 use mathlib.Core.List.{List}
 use Prim.Native.Nat.{ℕ, _%_}
 use native.Mathlib.Omega.{arith}
 use lib.ListN.{length}
 use Rattle.ground.specs.Bytes.{Bytes}
+use Rattle.field.specs.Block.{xor}
 use Rattle.field.proofs.Block.{Block}
+use Rattle.aes.specs.Cipher.{cipher}
 use Rattle.aes.specs.AesEnc.{aesEnc}
 use Rattle.aes.proofs.Forward.{enc-block}
 use Rattle.modes.specs.Cbc.{cbcEncAes, cbcDecAes}
 use Rattle.modes.proofs.Undone.{enc-bytes, dec-bytes, enc-length, dec-length}
+
+-- AES-ENC of anything has sixteen bytes
+pub aes-enc-sixteen : (key s : List ℕ) → length (aesEnc key s) ≡ 16
+unfolding aesEnc cipher xor
+aes-enc-sixteen key s = refl
 
 module _ (iv key s : List ℕ) (v : Bytes iv) (k : Bytes key) (h : Bytes s) where
   forward : (b : List ℕ) → Block b → Block (aesEnc key b)

@@ -1,11 +1,11 @@
 -- Blocks and bytes: a list of whole blocks is its blocks joined, and blocks that are joined come apart again.
 use mathlib.Core.Path.{_≡_, refl, sym, ap, ap₂, _∙_, subst}
-use mathlib.Core.List.{List, [], _∷_, _++_}
+use mathlib.Core.List.{List, [], _∷_, _++_, append-assoc}
 use Prim.Native.Nat.{ℕ, zero, suc, _+_, _*_, _/_, _%_, _≤_, _<_}
 use native.Mathlib.Omega.{arith}
 use lib.Dec.{lit<}
 use lib.ListN.{length, take, drop, length-append, length-drop, take-append-drop}
-use lib.Seq.{take-at, drop-at, length-take-le, getD-drop}
+use lib.Seq.{take-all, take-at, drop-at, take-append-le, drop-append-le, length-take-le, getD-drop}
 use Rattle.ground.specs.Bytes.{Bytes}
 use Rattle.field.proofs.Block.{Block}
 use Rattle.modes.specs.Blocks.{blocks, wholeBlocks, joined}
@@ -80,3 +80,40 @@ blocks-count (suc n) s = ap suc (blocks-count n (drop 16 s))
 pub whole-count : (s : List ℕ) → length (wholeBlocks s) ≡ length s / 16
 unfolding wholeBlocks
 whole-count s = blocks-count (length s / 16) s
+
+-- ---- parts
+
+pub joined-append : (bs cs : List (List ℕ)) → joined (bs ++ cs) ≡ joined bs ++ joined cs
+unfolding joined
+joined-append [] cs = refl
+joined-append (b ∷ bs) cs =
+    ap (λ (l : List ℕ). b ++ l) (joined-append bs cs) ∙ sym (append-assoc b (joined bs) (joined cs))
+
+blocks-append : (n : ℕ) (a b : List ℕ) → n * 16 ≡ length a → wholeBlocks (a ++ b) ≡ wholeBlocks a ++ wholeBlocks b
+blocks-append zero [] b e = ap (λ (bs : List (List ℕ)). bs ++ wholeBlocks b) (sym (no-block [] (lit< tt)))
+blocks-append zero (x ∷ a) b e = absurd (let z : ⊥ = omega arith in z)
+blocks-append (suc n) a b e =
+    let h : 16 ≤ length a = omega arith in
+    first-and-rest (a ++ b) (omega (arith, length-append a b))
+    ∙ ap₂ {C = List (List ℕ)} (λ x y. x ∷ wholeBlocks y) (take-append-le 16 a b h) (drop-append-le 16 a b h)
+    ∙ ap {B = List (List ℕ)} (λ bs. take 16 a ∷ bs)
+    (blocks-append n (drop 16 a) b (omega (arith, length-drop 16 a)))
+    ∙ ap (λ (bs : List (List ℕ)). bs ++ wholeBlocks b) (sym (first-and-rest a h))
+
+-- the blocks of two parts, where the first is whole blocks
+pub whole-parts : (n : ℕ) (s : List ℕ) → n % 16 ≡ 0 → n ≤ length s
+    → wholeBlocks s ≡ wholeBlocks (take n s) ++ wholeBlocks (drop n s)
+whole-parts n s e h =
+    ap wholeBlocks (sym (take-append-drop n s))
+    ∙ blocks-append (n / 16) (take n s) (drop n s) (omega (arith, length-take-le n s h))
+
+-- the last block apart
+pub whole-last : (n : ℕ) (s : List ℕ) → n % 16 ≡ 0 → length s ≡ n + 16
+    → wholeBlocks s ≡ wholeBlocks (take n s) ++ (drop n s ∷ [])
+whole-last n s e h =
+    let one : length (drop n s) ≡ 16 = length-drop n s ∙ omega arith in
+    whole-parts n s e (omega arith)
+    ∙ ap (λ (bs : List (List ℕ)). wholeBlocks (take n s) ++ bs)
+    (first-and-rest (drop n s) (omega arith)
+    ∙ ap₂ {C = List (List ℕ)} (λ x y. x ∷ y) (take-all 16 (drop n s) (omega arith))
+    (no-block (drop 16 (drop n s)) (omega (arith, length-drop 16 (drop n s)))))

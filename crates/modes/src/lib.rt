@@ -1,12 +1,16 @@
 // What is built on AES-ENC: chaining (ISO/IEC 29167-10 3.1.8 and 3.1.11; SP 800-38A) and the MAC (3.1.1 and 3.1.13; SP
 // 800-38B).
 ghost use mathlib.Core.Path.{_≡_};
-ghost use Prim.Native.Nat.{_≤_};
+ghost use Prim.Native.Nat.{_≤_, _%_};
 ghost use lib.ListN.{length};
 ghost use Rattle.modes.specs.Blocks.{wholeBlocks};
 ghost use Rattle.modes.specs.Cbc.{cbcEncAes, cbcDecAes};
-ghost use Rattle.modes.specs.Cmac.{doubled, subkey1, masked, macChain, cmac96};
+ghost use Rattle.modes.specs.Cmac.{doubled, subkey1, macChain, cmac, cmac96};
 ghost use Rattle.modes.specs.Room.{Into, chains, macs, over, numberOf};
+
+// The bytes of a part: sixteen blocks, and the suite's longest input has ten. A chain calls itself for each block of
+// one part, and a loop goes from part to part, so that no input takes more stack than the frames of sixteen blocks.
+pub const PART: usize = 256;
 
 // The answer of a call that writes into a lent room. Refused: nothing was written.
 pub enum Chaining {
@@ -43,7 +47,7 @@ pub fn cbc_enc_aes(iv: [u8; 16], key: [u8; 16], input: &[u8], room: &mut [u8]) -
         (cbcEncAes iv key (now (input .entry))) (now (room .entry)) r (now (room .exit)) ⌝ }
 {
     if takes(input.len(), room.len()) {
-        enc_chain(iv, key, input, room);
+        enc_parts(iv, key, input, room);
         return Chaining::Done;
     }
     Chaining::Refused
@@ -56,7 +60,7 @@ pub fn cbc_dec_aes(iv: [u8; 16], key: [u8; 16], input: &[u8], room: &mut [u8]) -
         (cbcDecAes iv key (now (input .entry))) (now (room .entry)) r (now (room .exit)) ⌝ }
 {
     if takes(input.len(), room.len()) {
-        dec_chain(iv, key, input, room);
+        dec_parts(iv, key, input, room);
         return Chaining::Done;
     }
     Chaining::Refused
@@ -78,9 +82,26 @@ pub fn cmac_96(key: [u8; 16], input: &[u8], room: &mut [u8]) -> Chaining
     if room.len() < 12 {
         return Chaining::Refused;
     }
-    let mac = mac_chain(key, first_subkey(key), [0u8; 16], input);
+    let mac = cmac(key, input);
     bytes::copy(&mac[..12], room);
     Chaining::Done
+}
+
+// Enciphers an input of any length, part by part: the first block of each is chained to the last output block of the
+// part before it.
+fn enc_parts(iv: [u8; 16], key: [u8; 16], input: &[u8], room: &mut [u8])
+    requires { ⌜ length (now input) ≤ length (now room) ⌝ }
+    ensures { λ _. ⌜ now (room .exit) ≡ over (cbcEncAes iv key (now (input .entry))) (now (room .entry)) ⌝ }
+{
+    let mut chained = iv;
+    let mut at = 0;
+    while PART < input.len() - at {
+        let end = at + PART;
+        enc_chain(chained, key, &input[at..end], &mut room[at..end]);
+        chained = field::first_block(&room[end - 16..end]);
+        at = end;
+    }
+    enc_chain(chained, key, &input[at..], &mut room[at..]);
 }
 
 // Enciphers the blocks of the input into the room, each chained to the output block before it, until none is left.
@@ -94,6 +115,23 @@ fn enc_chain(iv: [u8; 16], key: [u8; 16], input: &[u8], room: &mut [u8])
         bytes::copy(&output, &mut *room);
         enc_chain(output, key, &input[16..], &mut room[16..]);
     }
+}
+
+// Deciphers, by AES-ENC, an input of any length, part by part: the first block of each is chained to the last input
+// block of the part before it.
+fn dec_parts(iv: [u8; 16], key: [u8; 16], input: &[u8], room: &mut [u8])
+    requires { ⌜ length (now input) ≤ length (now room) ⌝ }
+    ensures { λ _. ⌜ now (room .exit) ≡ over (cbcDecAes iv key (now (input .entry))) (now (room .entry)) ⌝ }
+{
+    let mut chained = iv;
+    let mut at = 0;
+    while PART < input.len() - at {
+        let end = at + PART;
+        dec_chain(chained, key, &input[at..end], &mut room[at..end]);
+        chained = field::first_block(&input[end - 16..end]);
+        at = end;
+    }
+    dec_chain(chained, key, &input[at..], &mut room[at..]);
 }
 
 // Deciphers, by AES-ENC, the blocks of the input into the room, each chained to the input block before it, until none
@@ -110,21 +148,42 @@ fn dec_chain(iv: [u8; 16], key: [u8; 16], input: &[u8], room: &mut [u8])
     }
 }
 
-// The MAC's chain over the blocks of the input, with K1 added to the last, until none is left.
-fn mac_chain(key: [u8; 16], k1: [u8; 16], c: [u8; 16], input: &[u8]) -> [u8; 16]
-    requires { ⌜ 16 ≤ length (now input) ⌝ }
-    ensures { λ r. ⌜ r ≡ macChain key c (masked k1 (wholeBlocks (now (input .entry)))) ⌝ }
+// The CMAC of whole blocks, at least one: the chain over all but the last, and then the last with K1 added to it.
+fn cmac(key: [u8; 16], input: &[u8]) -> [u8; 16]
+    requires { ⌜ (16 ≤ length (now input)) × (length (now input) % 16 ≡ 0) ⌝ }
+    ensures { λ r. ⌜ r ≡ cmac key (now (input .entry)) ⌝ }
 {
-    let block = field::first_block(input);
-    if input.len() < 32 {
-        return aes::encrypt(key, field::xor(c, field::xor(k1, block)));
+    let at = input.len() - 16;
+    let c = mac_parts(key, [0u8; 16], &input[..at]);
+    let last = field::first_block(&input[at..]);
+    aes::encrypt(key, field::xor(c, field::xor(first_subkey(key), last)))
+}
+
+// The MAC's chain over an input of any length, part by part: the first block of each is chained to what the part before
+// it gave.
+fn mac_parts(key: [u8; 16], c: [u8; 16], input: &[u8]) -> [u8; 16]
+    ensures { λ r. ⌜ r ≡ macChain key c (wholeBlocks (now (input .entry))) ⌝ }
+{
+    let mut chained = c;
+    let mut at = 0;
+    while PART < input.len() - at {
+        let end = at + PART;
+        let given = mac_chain(key, chained, &input[at..end]);
+        chained = given;
+        at = end;
     }
-    mac_chain(
-        key,
-        k1,
-        aes::encrypt(key, field::xor(c, block)),
-        &input[16..],
-    )
+    mac_chain(key, chained, &input[at..])
+}
+
+// The MAC's chain over the blocks of the input, until none is left.
+fn mac_chain(key: [u8; 16], c: [u8; 16], input: &[u8]) -> [u8; 16]
+    ensures { λ r. ⌜ r ≡ macChain key c (wholeBlocks (now (input .entry))) ⌝ }
+{
+    if input.len() < 16 {
+        return c;
+    }
+    let block = field::first_block(input);
+    mac_chain(key, aes::encrypt(key, field::xor(c, block)), &input[16..])
 }
 
 // K1 of SP 800-38B, section 6.1.

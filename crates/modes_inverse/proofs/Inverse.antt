@@ -1,19 +1,26 @@
 -- Each DEC form of chaining undoes its ENC form, on every key, initialization vector and whole number of blocks; and
 -- the results of the forms over AES-DEC are bytes, as many as came in.
-use mathlib.Core.Path.{_≡_, _∙_}
+use mathlib.Core.Path.{_≡_, refl, _∙_}
 use mathlib.Core.List.{List}
 use Prim.Native.Nat.{ℕ, _%_}
 use native.Mathlib.Omega.{arith}
 use lib.ListN.{length}
 use Rattle.ground.specs.Bytes.{Bytes}
+use Rattle.field.specs.Block.{xor}
 use Rattle.field.proofs.Block.{Block}
 use Rattle.aes.specs.AesEnc.{aesEnc}
 use Rattle.aes.proofs.Forward.{enc-block}
 use Rattle.aes_inverse.specs.AesDec.{aesDec}
+use Rattle.aes_inverse.specs.InvCipher.{invCipher}
 use Rattle.aes_inverse.proofs.Inverse.{dec-block, dec-enc, enc-dec}
 use Rattle.modes.specs.Cbc.{cbcEncAes, cbcDecAes}
 use Rattle.modes.proofs.Undone.{enc-bytes, dec-bytes, enc-length, dec-length, chain-undone}
 use Rattle.modes_inverse.specs.CbcInv.{cbcDecAesInv, cbcEncAesInv}
+
+-- AES-DEC of anything has sixteen bytes
+pub aes-dec-sixteen : (key s : List ℕ) → length (aesDec key s) ≡ 16
+unfolding aesDec invCipher xor
+aes-dec-sixteen key s = refl
 
 module _ (iv key s : List ℕ) (v : Bytes iv) (k : Bytes key) (h : Bytes s) where
   forward : (b : List ℕ) → Block b → Block (aesEnc key b)

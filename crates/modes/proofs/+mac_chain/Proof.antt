@@ -1,8 +1,9 @@
 use native.Mathlib.Omega.{arith}
+use mathlib.Core.Path.{sym}
 use Rattle.field.proofs.Block.{first-block-is}
 use Rattle.modes.proofs.Chains.{tail-part}
-use Rattle.modes.proofs.Mac.{mac-last, mac-more}
-use Prim.Native.Nat.{_/_}
+use Rattle.modes.proofs.Mac.{mac-none, mac-more}
+use Prim.Native.Nat.{_/_, _≤_}
 use lib.ListN.{length}
 use borrow.Author.Needs.{needs}
 use Prim.Native.Nat.{ℕ, _<_}
@@ -18,7 +19,7 @@ use Rattle.modes.proofs.+mac_chain.{statement}
 use Rattle.modes.proofs.+mac_chain.Tie.{close}
 
 abbrev μ-mac-chain : Measures 1 mac-chain-kinds.ps ℕ
-μ-mac-chain κs a = length (a .1 .1 .1 .0 .now) / 16
+μ-mac-chain κs a = length (a .1 .1 .0 .now) / 16
 
 abbrev mac-chain-at : ℕ → In 1 mac-chain-kinds.ps
 mac-chain-at t = and 1 mac-chain-kinds.ps (is 1 mac-chain-kinds.ps μ-mac-chain t) mac-chain.Pre
@@ -40,6 +41,10 @@ calls t = (
   mac-chain.Post,
 )
 
+mac-chain-returns : (t : ℕ) → mac-chain-lts.Need-returns (calls t) (mac-chain-at t) mac-chain.Post
+mac-chain-returns t c = let a = c .before .before .args in
+    sym (mac-none (a .key) (a .c) (a .input .now) (c .if1 .taken))
+
 mac-chain-first-block-requires : (t : ℕ) → mac-chain-lts.Need-first-block-requires (calls t) (mac-chain-at t)
     mac-chain.Post
 mac-chain-first-block-requires t c κs = search needs
@@ -47,27 +52,8 @@ mac-chain-first-block-requires t c κs = search needs
 mac-chain-xor-requires : (t : ℕ) → mac-chain-lts.Need-xor-requires (calls t) (mac-chain-at t) mac-chain.Post
 mac-chain-xor-requires t c κs = search needs
 
-mac-chain-xor-requires-2 : (t : ℕ) → mac-chain-lts.Need-xor-requires-2 (calls t) (mac-chain-at t) mac-chain.Post
-mac-chain-xor-requires-2 t c κs = search needs
-
 mac-chain-encrypt-requires : (t : ℕ) → mac-chain-lts.Need-encrypt-requires (calls t) (mac-chain-at t) mac-chain.Post
 mac-chain-encrypt-requires t c κs = search needs
-
-mac-chain-returns : (t : ℕ) → mac-chain-lts.Need-returns (calls t) (mac-chain-at t) mac-chain.Post
-mac-chain-returns t c =
-    let a = c .before .before .before .before .before .before .args in
-    let h = c .before .before .before .before .before .before .pre .1 in
-    cc (
-      first-block-is (a .input .now) h,
-      mac-last (a .key) (a .k1) (a .c) (a .input .now) h
-          (c .before .before .before .if1 .taken),
-    )
-
-mac-chain-xor-requires-3 : (t : ℕ) → mac-chain-lts.Need-xor-requires-3 (calls t) (mac-chain-at t) mac-chain.Post
-mac-chain-xor-requires-3 t c κs = search needs
-
-mac-chain-encrypt-requires-2 : (t : ℕ) → mac-chain-lts.Need-encrypt-requires-2 (calls t) (mac-chain-at t) mac-chain.Post
-mac-chain-encrypt-requires-2 t c κs = search needs
 
 mac-chain-sub-mac-chain : (t : ℕ) → mac-chain-lts.Need-sub-mac-chain (calls t) (mac-chain-at t) mac-chain.Post
 mac-chain-sub-mac-chain t c = search needs
@@ -85,10 +71,10 @@ mac-chain-mac-chain-requires t c κs = search needs
 mac-chain-returns-2 : (t : ℕ) → mac-chain-lts.Need-returns-2 (calls t) (mac-chain-at t) mac-chain.Post
 mac-chain-returns-2 t c =
     let a = c .before .before .before .before .before .before .before .args in
+    let h : 16 ≤ length (a .input .now) = omega arith in
     cc (
-      first-block-is (a .input .now) (c .before .before .before .before .before .before .before .pre .1),
-      mac-more
-          (a .key) (a .k1) (a .c) (a .input .now) (omega arith),
+      first-block-is (a .input .now) h,
+      mac-more (a .key) (a .c) (a .input .now) h,
       tail-part 16 (a .input .now),
     )
 
@@ -96,13 +82,10 @@ pub +mac-chain-spec : {M : Type 1} → statement M
 +mac-chain-spec = close μ-mac-chain λ t. mac-chain-lts.spec (calls t)
     (mac-chain-at t)
     mac-chain.Post
+    (mac-chain-returns t)
     (mac-chain-first-block-requires t)
     (mac-chain-xor-requires t)
-    (mac-chain-xor-requires-2 t)
     (mac-chain-encrypt-requires t)
-    (mac-chain-returns t)
-    (mac-chain-xor-requires-3 t)
-    (mac-chain-encrypt-requires-2 t)
     (mac-chain-sub-mac-chain t)
     (mac-chain-part-mac-chain-start t)
     (mac-chain-part-mac-chain-end t)

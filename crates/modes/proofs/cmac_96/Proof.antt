@@ -6,7 +6,7 @@ use lib.ListN.{length, take}
 use lib.Seq.{length-take-le}
 use Rattle.field.proofs.Arrays.{array-length}
 use Rattle.modes.specs.Room.{over}
-use Rattle.modes.specs.Cmac.{cmac96, cmac}
+use Rattle.modes.specs.Cmac.{cmac96}
 use Rattle.modes.proofs.Rooms.{
   refused,
   done,
@@ -36,11 +36,8 @@ returns-3 c = let a = c .before .before .before .before .before .args in
     (no-room-for-mac (length (a .input .now)) (length (a .room .now)) (c .before .before .if1 .left)
     (c .before .if2 .left) (omega arith))
 
-first-subkey-requires : tie.Need-first-subkey-requires
-first-subkey-requires c κs = search needs
-
-mac-chain-requires : tie.Need-mac-chain-requires
-mac-chain-requires c κs = search needs
+cmac-requires : tie.Need-cmac-requires
+cmac-requires c κs = search needs
 
 array-share-prefix-mac : tie.Need-array-share-prefix-mac
 array-share-prefix-mac c = search needs
@@ -49,33 +46,31 @@ twelve : (mac : List ℕ) → length mac ≡ 16 → length (take 12 mac) ≡ 12
 twelve mac e = length-take-le 12 mac (omega (arith, e))
 
 slice-aggregate-copy : tie.Need-slice-aggregate-copy
-slice-aggregate-copy c = sym (twelve (c .before .mac-chain .result)
-    (array-length 16 (c .before .mac-chain .result) _ (c .before .mac-chain .ok)))
+slice-aggregate-copy c = sym (twelve (c .before .cmac .result)
+    (array-length 16 (c .before .cmac .result) _ (c .before .cmac .ok)))
 
 copy-requires : tie.Need-copy-requires
 copy-requires c κs = omega (
   arith,
-  twelve (c .before .before .mac-chain .result)
-      (array-length 16 (c .before .before .mac-chain .result) _ (c .before .before .mac-chain .ok)),
+  twelve (c .before .before .cmac .result)
+      (array-length 16 (c .before .before .cmac .result) _ (c .before .before .cmac .ok)),
 )
 
 same-length : tie.Need-same-length
 same-length c = search needs
 
 returns-4 : tie.Need-returns-4
-unfolding cmac96 cmac
+unfolding cmac96
 returns-4 c =
-    let a = c .before .before .before .before .before .before .before .before .before .before .before .before .args in
-    let mac = c .before .before .before .before .before .mac-chain .result in
-    let e : mac ≡ cmac (a .key) (a .input .now) = cc in
+    let a = c .before .before .before .before .before .before .before .before .before .before .before .args in
+    let mac = c .before .before .before .before .before .cmac in
     let n = length (a .input .now) in
-    let fits = room-for-mac n (length (a .room .now)) (c .before .before .before .before .before .before .before .before
-    .before .if1 .left)
-    (c .before .before .before .before .before .before .before .before .if2 .left)
-    (c .before .before .before .before .before .before .before .if3 .left) in
+    let t = c .before .before .before .before .before .before in
+    let fits = room-for-mac n (length (a .room .now)) (t .before .before .if1 .left) (t .before .if2 .left)
+    (t .if3 .left) in
     done _ (cmac96 (a .key) (a .input .now)) (a .room .now) _ fits
-    (copied (take 12 mac) (a .room .now) _ (c .before .before .copy .ensures .1)
-    ∙ ap (λ (m : List ℕ). over (take 12 m) (a .room .now)) e)
+    (copied (take 12 (mac .result)) (a .room .now) _ (c .before .before .copy .ensures .1)
+    ∙ ap (λ (m : List ℕ). over (take 12 m) (a .room .now)) (mac .ensures))
 
 pub cmac-96-spec : {M : Type 1} → statement M
 cmac-96-spec =
@@ -84,8 +79,7 @@ cmac-96-spec =
     returns
     returns-2
     returns-3
-    first-subkey-requires
-    mac-chain-requires
+    cmac-requires
     array-share-prefix-mac
     slice-aggregate-copy
     copy-requires
