@@ -304,8 +304,9 @@ int main(void) {
     tag_refusals();
     builder_refusals();
     cipher_and_chaining();
+    large_inputs();
     puts("bindings/c: Annex F's TAM1, TAM2, IAM2, IAM3 and MAM through both halves; Rev 0; Purposes; a user area; "
          "numbers 1 to 3, 5 to 8, 20 to 24, 30, "
-         "32, 35; layout; guards");
+         "32, 35; layout; guards; 64 MB in 64 KB of stack");
     return 0;
 }

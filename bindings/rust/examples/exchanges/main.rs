@@ -367,8 +367,9 @@ fn main() {
     user_area();
     refusals();
     chaining::cipher_and_chaining();
+    chaining::large_inputs();
     println!(
         "bindings/rust: Annex F's TAM1, TAM2, IAM2, IAM3 and MAM through both halves; Rev 0; Purposes; \
-         a user area; numbers and texts 1 to 3, 5 to 8, 20 to 24, 30, 32, 35; layout; guards"
+         a user area; numbers and texts 1 to 3, 5 to 8, 20 to 24, 30, 32, 35; layout; guards; 64 MB in 64 KB of stack"
     );
 }
