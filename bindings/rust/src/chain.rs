@@ -1,5 +1,5 @@
-//! The cipher, its four forms of chaining, and the MAC, over inputs of any length: the stack that they use does not grow
-//! with the input.
+//! The cipher, its four forms of chaining, and the MAC, over inputs of any length: the stack that they use does not
+//! grow with the input.
 
 use crate::ffi;
 use crate::refusal::Refusal;
