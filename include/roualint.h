@@ -1,9 +1,10 @@
 /* Roualint for C99 and C++: a soft tag, the reader's side, and the cipher with its chaining and its MAC, by
  * ISO/IEC 29167-10:2017. Link target/staticlib/libcapi.a, which bindings/library proves and writes.
  *
- * Every function takes any bytes and any numbers, and returns where the stack is large enough, which no proof says: see
- * chaining, whose stack grows with its input. What each leaves is proved, byte for byte; the contracts stand in
- * crates/capi/src, what they mean in crates/capi/specs. Numbers are those of docs/numbers.txt.
+ * Every function takes any bytes and any numbers, and returns. No proof speaks of the stack: what was measured uses up
+ * to 6 KB of it (docs/src/speed/stack), and nothing grows with an input's length. What each leaves is proved, byte for
+ * byte; the contracts stand in crates/capi/src, what they mean in crates/capi/specs. Numbers are those of
+ * docs/numbers.txt.
  *
  * Nothing checks the caller, who must pass what is said here: no null pointer, also where a length is 0; as many bytes
  * behind each pointer as its length says (a parameter `x[16]` has 16); and no byte that a call may write overlaps
@@ -187,9 +188,8 @@ void roualint_aes_enc(const uint8_t key[16], uint8_t block[16]);
 void roualint_aes_dec(const uint8_t key[16], uint8_t block[16]);
 
 /* Of each of the four forms: 0, and as many bytes as the input has stand in the room's first. An input that is no whole
- * number of 16-byte blocks, or a room that is shorter: 8, and no byte of the room changes. Chaining and the MAC use
- * stack for each block: with 8 MB they were run over 57,000 and 37,000 blocks, and no message here has more than ten.
- */
+ * number of 16-byte blocks, or a room that is shorter: 8, and no byte of the room changes. 64 MB were put through each
+ * and through the MAC in a thread that has 64 KB of stack (bindings/test). */
 
 /* CBC_ENC_AES (3.1.8), by AES-ENC: the tag encrypts custom data. */
 uint8_t roualint_cbc_enc_aes(const uint8_t iv[16], const uint8_t key[16], const uint8_t *input, size_t input_length,

@@ -1,5 +1,5 @@
-//! The cipher, its four forms of chaining, and the MAC. Chaining and the MAC use stack for each block: with 8 MB they
-//! were run over 57,000 and 37,000 blocks, and a longer input ends the program.
+//! The cipher, its four forms of chaining, and the MAC, over inputs of any length: the stack that they use does not
+//! grow with the input.
 
 use crate::ffi;
 use crate::refusal::Refusal;

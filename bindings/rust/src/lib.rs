@@ -1,10 +1,10 @@
 //! Roualint for Rust: a soft tag, the reader's side, and the cipher with its chaining and its MAC, by ISO/IEC
 //! 29167-10:2017.
 //!
-//! What is called here is proved (crates/capi): each function takes any bytes and any numbers, returns (given stack:
-//! chaining takes some for each block), and leaves what its contract says. This crate is the way there from safe Rust
-//! and does nothing of its own: it has no dependencies, uses no heap, and lends the library only what Rust's references
-//! vouch for.
+//! What is called here is proved (crates/capi): each function takes any bytes and any numbers, returns (given a few KB
+//! of stack, whatever the input's length), and leaves what its contract says. This crate is the way there from safe
+//! Rust and does nothing of its own: it has no dependencies, uses no heap, and lends the library only what Rust's
+//! references vouch for.
 //!
 //! It links `libcapi.a`, which `bindings/library` proves and writes. Cargo finds it by the variable
 //! `ROUALINT_LIB_DIR`, or in this repository's target/staticlib; without cargo:

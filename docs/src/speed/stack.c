@@ -24,6 +24,7 @@ static const uint8_t SHEET[] = {0x01, 0x3f, 0x0f, 0x02, 0x00, 0x00, 0x00, 0x80,
 static roualint_tag tag;
 static uint8_t user[256], room[176], message[176], reply[172], draws[10], challenge[10];
 static size_t message_length, reply_length;
+static uint8_t input[1 << 20], output[1 << 20];
 
 static void nothing(void) {
 }
@@ -64,6 +65,26 @@ static void aes_dec(void) {
     roualint_aes_dec(ENC, room);
 }
 
+static void cbc_enc_aes(void) {
+    roualint_cbc_enc_aes(ENC, MAC, input, sizeof input, output, sizeof output);
+}
+
+static void cbc_dec_aes(void) {
+    roualint_cbc_dec_aes(ENC, MAC, input, sizeof input, output, sizeof output);
+}
+
+static void cbc_enc_aes_inv(void) {
+    roualint_cbc_enc_aes_inv(ENC, MAC, input, sizeof input, output, sizeof output);
+}
+
+static void cbc_dec_aes_inv(void) {
+    roualint_cbc_dec_aes_inv(ENC, MAC, input, sizeof input, output, sizeof output);
+}
+
+static void cmac_96(void) {
+    roualint_cmac_96(MAC, input, sizeof input, output, sizeof output);
+}
+
 static void *called(void *call) {
     (*(void (**)(void))call)();
     return NULL;
@@ -92,6 +113,11 @@ int main(void) {
     puts("bytes of stack                           a call");
     told("AES-ENC of a block", aes_enc);
     told("AES-DEC of a block", aes_dec);
+    told("CBC_ENC_AES of 1 MB", cbc_enc_aes);
+    told("CBC_DEC_AES of 1 MB", cbc_dec_aes);
+    told("CBC_ENC_AES_INV of 1 MB", cbc_enc_aes_inv);
+    told("CBC_DEC_AES_INV of 1 MB", cbc_dec_aes_inv);
+    told("CMAC-96 of 1 MB", cmac_96);
     told("roualint_sheet", sheet);
     told("roualint_power_up", power_up);
     message_length = roualint_build_tam1(0, challenge, message, sizeof message);
