@@ -11,7 +11,7 @@
 
 #define LARGE ((size_t)64 << 20)
 
-/* The stack's upper bytes, which alone can be used: a system may want a thread to have more (on aarch64 128 KB). */
+/* The stack's upper bytes, which alone can be used: a system may want a thread to have more (aarch64: 128 KB). */
 #define STACK ((size_t)64 << 10)
 #define MAPPED ((size_t)256 << 10)
 

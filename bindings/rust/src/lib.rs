@@ -2,8 +2,8 @@
 //! 29167-10:2017.
 //!
 //! What is called here is proved (crates/capi): each function takes any bytes and any numbers, returns (given a few KB
-//! of stack, which do not grow with the input), and leaves what its contract says. This crate is the way there from
-//! safe Rust and does nothing of its own: it has no dependencies, uses no heap, and lends the library only what Rust's
+//! of stack, whatever the input's length), and leaves what its contract says. This crate is the way there from safe
+//! Rust and does nothing of its own: it has no dependencies, uses no heap, and lends the library only what Rust's
 //! references vouch for.
 //!
 //! It links `libcapi.a`, which `bindings/library` proves and writes. Cargo finds it by the variable
