@@ -1,10 +1,11 @@
 -- Demand 1 of the functions for programs in C, proved: by the cases of each answer.
 use mathlib.Core.Path.{_≡_, refl, ap, _∙_, subst}
-use mathlib.Core.Logic.{inl, inr}
+use mathlib.Core.Logic.{_⊎_, inl, inr}
 use mathlib.Core.Bool.{Bool, true, false}
 use mathlib.Core.List.{List, [], _∷_}
-use Prim.Native.Nat.{ℕ, _≤_}
-use lib.Dec.{eqb}
+use Prim.Native.Nat.{ℕ, _≤_, _<_}
+use borrow.Author.Tests.{ltb-true, ltb-false}
+use lib.Dec.{eqb, ltb}
 use lib.ListN.{length}
 use Rattle.ground.specs.Bytes.{bitOf}
 use Rattle.ground.specs.Choice.{pick}
@@ -54,6 +55,7 @@ use Rattle.capi_claims.specs.Answered.{
   MessageAnswers,
   BuilderAnswers,
   Rejects,
+  StateAnswers,
   JudgeAnswers,
   ChainAnswers,
 }
@@ -78,6 +80,13 @@ areas-answers image r identity user h = by (isTag image) _ _ (h .number) (h .fir
         → Answers (7 ∷ []) r ((identity ≡ 0) × (user ≡ 0))
     by true i u n e f = inl n
     by false i u n e f = inr (is-among (7 ∷ []) r 7 n refl, (e, f))
+
+pub state-answers : StateAnswers
+state-answers byte r e = by (ltb byte 4) refl e
+  where
+    by : (t : Bool) → ltb byte 4 ≡ t → r ≡ pick t byte 255 → ((byte < 4) × (r ≡ byte)) ⊎ ((4 ≤ byte) × (r ≡ 255))
+    by true h q = inl (ltb-true byte 4 h, q)
+    by false h q = inr (ltb-false byte 4 h, q)
 
 pub builder-answers : BuilderAnswers
 builder-answers fit message room r told after h = by (taken fit room) (h .number) (h .long) (h .holds)

@@ -1,16 +1,18 @@
 -- The contract of each function for programs in C, as the checker reads it from the source (`Post`), is what the claims
 -- say of it; and demand 1 over these contracts. If a contract cited another definition, this file would not check.
--- (`roualint_message` and `roualint_power_up`: `capi/proofs/Runs.antt`. `roualint_tag_bytes`, `roualint_aes_enc`,
--- `roualint_aes_dec` and `roualint_state` refuse nothing.)
+-- (`roualint_message` and `roualint_power_up`: `capi/proofs/Runs.antt`.)
 use mathlib.Core.Path.{_≡_, refl}
+use mathlib.Core.Logic.{_⊎_}
 use mathlib.Core.Bool.{true}
 use mathlib.Core.List.{[], _∷_}
-use Prim.Native.Nat.{_≤_}
+use Prim.Native.Nat.{_≤_, _<_}
 use denote.Ref.{now}
 use lib.ListN.{length}
 use Rattle.ground.specs.Contracts.{Says, Gives}
-use Rattle.ground.specs.Bytes.{flag}
+use Rattle.ground.specs.Bytes.{byteAt, flag}
 use Rattle.ground.specs.Choice.{both}
+use Rattle.aes.specs.AesEnc.{aesEnc}
+use Rattle.aes_inverse.specs.AesDec.{aesDec}
 use Rattle.modes.specs.Cbc.{cbcEncAes, cbcDecAes}
 use Rattle.modes.specs.Cmac.{cmac96}
 use Rattle.modes.specs.Room.{chains, macs}
@@ -19,9 +21,18 @@ use Rattle.frames.specs.Fields.{customFits}
 use Rattle.reader.specs.Own.{modeFits}
 use Rattle.reader_build.specs.Builds.{purposeFits, iam3Fits, tam1Made, tam2Made, iam1Made, mam1Made, iam2Made, mam2Made}
 use Rattle.reader_build.specs.Builds.{iam3Made}
+use Rattle.image.specs.Places.{imageLength}
 use Rattle.capi.specs.Chain.{Chains}
 use Rattle.capi.specs.Kept.{SetUp, AreasOf}
 use Rattle.capi.specs.Reader.{macGiven, keysOf, sizeGiven, bitsGiven, customOf, Builds, findingOf, Finds}
+use Rattle.capi.proofs.roualint_tag_bytes.Reads as tag-bytes
+use Rattle.capi.proofs.roualint_tag_bytes.Kinds as tag-bytes-kinds
+use Rattle.capi.proofs.roualint_aes_enc.Reads as aes-enc
+use Rattle.capi.proofs.roualint_aes_enc.Kinds as aes-enc-kinds
+use Rattle.capi.proofs.roualint_aes_dec.Reads as aes-dec
+use Rattle.capi.proofs.roualint_aes_dec.Kinds as aes-dec-kinds
+use Rattle.capi.proofs.kept.roualint_state.Reads as state
+use Rattle.capi.proofs.kept.roualint_state.Kinds as state-kinds
 use Rattle.capi.proofs.kept.roualint_sheet.Reads as sheet
 use Rattle.capi.proofs.kept.roualint_sheet.Kinds as sheet-kinds
 use Rattle.capi.proofs.kept.roualint_power_up.Reads as power-up
@@ -62,11 +73,30 @@ use Rattle.capi_claims.proofs.Answered.{
   sheet-answers,
   power-up-answers,
   areas-answers,
+  state-answers,
   message-answers,
   builder-answers,
   judge-answers,
   chain-answers,
 }
+
+-- ---- functions that refuse nothing
+
+pub tag-bytes-said : Says 0 tag-bytes-kinds.ps tag-bytes-kinds.r tag-bytes.Post (λ κs a r e. r ≡ imageLength)
+tag-bytes-said κs a r e = refl
+
+pub aes-enc-said : Says 2 aes-enc-kinds.ps aes-enc-kinds.r aes-enc.Post
+    (λ κs a r e. now (e .1 .0) ≡ aesEnc (now (a .0)) (now (a .1 .0)))
+aes-enc-said κs a r e = refl
+
+pub aes-dec-said : Says 2 aes-dec-kinds.ps aes-dec-kinds.r aes-dec.Post
+    (λ κs a r e. now (e .1 .0) ≡ aesDec (now (a .0)) (now (a .1 .0)))
+aes-dec-said κs a r e = refl
+
+pub state-says : Gives 1 state-kinds.ps state-kinds.r state.Post
+    (λ κs a r e. ((byteAt (now (a .0)) 0 < 4) × (r ≡ byteAt (now (a .0)) 0))
+    ⊎ ((4 ≤ byteAt (now (a .0)) 0) × (r ≡ 255)))
+state-says κs a r e h = state-answers _ r h
 
 -- ---- a kept tag
 

@@ -1,10 +1,11 @@
--- Demand 1 of the functions for programs in C: each answers 0, or one number of its list; and then nothing is sent or
--- told, no byte of a room or an area is written, and the tag's bytes are as the list says.
+-- Demand 1 of the functions for programs in C: each that refuses anything answers 0, or one number of its list; and
+-- then nothing is sent, no byte of a room or an area is written, no data, challenge or Purpose is told, and the tag's
+-- bytes are as the list says.
 use mathlib.Core.Path.{_≡_}
 use mathlib.Core.Logic.{_⊎_}
 use mathlib.Core.Bool.{Bool}
 use mathlib.Core.List.{List, [], _∷_}
-use Prim.Native.Nat.{ℕ, _≤_}
+use Prim.Native.Nat.{ℕ, _≤_, _<_}
 use lib.Dec.{eqb}
 use lib.ListN.{length, replicate}
 use Rattle.ground.specs.Choice.{pick}
@@ -12,7 +13,7 @@ use Rattle.entry.specs.Sessions.{cleared}
 use Rattle.tag.specs.Reactions.{lent}
 use Rattle.image.specs.Image.{kept}
 use Rattle.capi.specs.Chain.{Chains}
-use Rattle.capi.specs.Kept.{SetUp, PoweredUp, AreasOf, answerIn, Answered}
+use Rattle.capi.specs.Kept.{SetUp, PoweredUp, AreasOf, stateSaid, answerIn, Answered}
 use Rattle.capi.specs.Reader.{findingOf, Builds, Finds}
 use Rattle.claims.specs.Answered.{Among, tagNumbers, readerNumbers, sheetNumbers}
 
@@ -60,6 +61,11 @@ MessageAnswers =
     → 16 ≤ length image
     → Answered image (answerIn image (lent message draws room identity user)) room r told purpose after reply i u
     → Answers tagNumbers r (Refuses image room identity user r told purpose after reply i u)
+
+-- The state is that of the first byte; where that is over 3 there is none, which 255 says. It is no refusal: whether
+-- bytes are a tag's, the other functions tell by 7.
+abbrev pub StateAnswers : Type 0
+StateAnswers = (byte r : ℕ) → r ≡ stateSaid byte → ((byte < 4) × (r ≡ byte)) ⊎ ((4 ≤ byte) × (r ≡ 255))
 
 -- ---- the reader's side
 

@@ -33,7 +33,7 @@ use Rattle.offer.specs.declared.TagFault.{TagFault}
 use Rattle.offer.specs.Outcomes.{replyLength}
 use Rattle.tag.specs.declared.Stepped.{Stepped}
 use Rattle.tag.specs.Answers.{answerOf}
-use Rattle.tag.specs.Plays.{Brought, Left}
+use Rattle.tag.specs.Plays.{Brought, Left, Called}
 use Rattle.tag.specs.Reactions.{lent}
 use Rattle.tag.specs.States.{keyed}
 use Rattle.bench.specs.Kept.{left}
@@ -52,7 +52,8 @@ use Rattle.tag.proofs.step.Kinds as step-kinds
 use Rattle.bench.proofs.step as step-in-place
 use Rattle.bench.proofs.kept.Reads as kept
 use Rattle.bench.proofs.kept.Kinds as kept-kinds
-use Rattle.bench.proofs.Unique.{Stepping}
+use Rattle.bench.specs.OneWalked.{States}
+use Rattle.bench.proofs.Unique.{Stepping, step-one}
 use Rattle.sheet.proofs.read.Reads as read
 use Rattle.sheet.proofs.read.Kinds as read-kinds
 use Rattle.modes.proofs.cbc_enc_aes.Reads as cbc-enc-aes
@@ -103,6 +104,12 @@ pub step-refuses : Gives 6 step-kinds.ps step-kinds.r step.Post
     (leaves r (now (e .1 .1 .1 .1 .0)) (now (e .1 .1 .1 .1 .1 .0)) (now (e .1 .1 .1 .1 .1 .1 .0))) f)
 step-refuses κs a r e h f v = tag-answers (now (a .1 .0)) _ _ _ _ _ f h v
 
+pub kept-said : Says 6 kept-kinds.ps kept-kinds.r kept.Post
+    (λ κs a r e. Called (now (a .1 .0)) (a .0) (now (a .1 .1 .1 .1 .1 .0)) (now (a .1 .1 .1 .1 .1 .1 .0))
+    (brought (now (a .1 .1 .0)) (now (a .1 .1 .1 .0)) (now (a .1 .1 .1 .1 .0)))
+    (leaves r (now (e .1 .1 .1 .1 .0)) (now (e .1 .1 .1 .1 .1 .0)) (now (e .1 .1 .1 .1 .1 .1 .0))))
+kept-said κs a r e = refl
+
 pub kept-refuses : Gives 6 kept-kinds.ps kept-kinds.r kept.Post
     (λ κs a r e. (f : TagFault) → r .outcome ≡ NoReply f
     → TagRefused (a .0) (now (a .1 .1 .1 .1 .1 .0)) (now (a .1 .1 .1 .1 .1 .1 .0))
@@ -110,7 +117,10 @@ pub kept-refuses : Gives 6 kept-kinds.ps kept-kinds.r kept.Post
     (leaves r (now (e .1 .1 .1 .1 .0)) (now (e .1 .1 .1 .1 .1 .0)) (now (e .1 .1 .1 .1 .1 .1 .0))) f)
 kept-refuses κs a r e h f v = tag-answers (now (a .1 .0)) _ _ _ _ _ f h v
 
--- `bench::step` is proved by a walk by hand; that its contract says `Stepping` is the first half of `step-one`
+-- `bench::step` is proved by a walk by hand, and its contract says `Stepping`
+pub step-in-place-said : States step-in-place.ended (λ M. step-in-place.clauses {M = M}) Stepping
+step-in-place-said = step-one .0
+
 pub step-in-place-refuses : (κs : Lfts 7) (a : Args (step-in-place.ended .signature) κs)
     (r : Res (step-in-place.ended .signature) κs) (e : AtExit step-in-place.ended κs) → Stepping κs a r e
     → (f : TagFault) → r ≡ NoReply f

@@ -6,7 +6,6 @@ use mathlib.Core.List.{List, []}
 use Prim.Native.Nat.{ℕ, zero, suc}
 use native.Mathlib.Omega.{arith}
 use lib.Dec.{lit<}
-use Rattle.ground.specs.Checks.{judgedTo}
 use lib.ListN.{length, take, replicate}
 use Rattle.modes.specs.Room.{over}
 use Rattle.sheet.specs.Limits.{keyLimit, profileLimit}

@@ -92,7 +92,7 @@ Recovery =
     → judgementOf keys (c .message) (answerOf c tag .reply) room ≡ due c tag (answerOf c tag)
     (kindOf (byteAt (c .message) 0))
 
--- The same of the code: what `tag::step` left in the room, as far as `tag::reply_length` says, given to the judge.
+-- The same of the code: what `tag::step` left in the room, as far as `offer::reply_length` says, given to the judge.
 abbrev pub RecoveryCode : Type 0
 RecoveryCode =
     (table : List ℕ) (tag : Tag) (identity user : List ℕ) (b : Brought) (x : Left) (keys : Keys) (room : List ℕ)

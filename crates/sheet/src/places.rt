@@ -5,7 +5,6 @@ use crate::Judged;
 use crate::Reading;
 use crate::SheetFault;
 use crate::SheetVerdict;
-ghost use mathlib.Core.Path.{_≡_};
 ghost use lib.ListN.{drop};
 ghost use Rattle.sheet.specs.Limits.{keyLimit};
 ghost use Rattle.sheet.specs.Judgement.{judgedOf, JudgedAs};

@@ -36,7 +36,8 @@ use Rattle.sheet_laws.proofs.States.{marks-of, up-to, profile-marks, lo
 use Rattle.sheet_laws.proofs.Sound.{Fine, Sound, none, first, more, opening, body}
 use Rattle.sheet_laws.proofs.Forth.{features-iam, features-forth, sizes-low, sizes-forth}
 use Rattle.sheet_laws.proofs.Forth.{key-rises, key-within, key-forth}
-use Rattle.sheet_laws.proofs.Forth.{profile-rises, profile-within, profile-forth, lock-within, lock-forth, area-05}
+use Rattle.sheet_laws.proofs.Forth.{profile-rises, profile-within, profile-forth}
+use Rattle.sheet_laws.proofs.Forth.{lock-within, lock-forth, area-05}
 use Rattle.sheet.proofs.Back.{features-back}
 use Rattle.sheet_laws.proofs.Lists.{keys-more, next-key, keys-written}
 use Rattle.sheet_laws.proofs.Lists.{locks-more, next-area, next-word, locks-written}

@@ -224,7 +224,7 @@ unfolding readOf walk after judgedOf openedOf tooMany kindOf inOrder recordOf wi
 equal-ids = refl
 
 -- a sheet with one word in each area, up to its third record
-abbrev one-word-each : List ℕ → List ℕ
+abbrev pub one-word-each : List ℕ → List ℕ
 one-word-each t = 0x01 ∷ 0x00 ∷ 0x00 ∷ 0x02 ∷ 0x00 ∷ 0x01 ∷ 0x00 ∷ 0x01 ∷ t
 
 -- 33 at 8: a profile in area 2, a profile of no words, a profile and a lock that end one word past their area

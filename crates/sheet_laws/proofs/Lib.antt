@@ -1,4 +1,5 @@
 pub mod Examples
+pub mod ExamplesLimits
 pub mod Tables
 pub mod States
 pub mod OneRecord
