@@ -1,7 +1,5 @@
 // The bench on the command line. Without an argument it reads commands from standard input, one a line, and answers
 // each with one line; with the argument `demo` it plays one exchange of each kind.
-mod input; // input.rt: standard input, line by line
-
 use console::answer::within;
 
 fn main() {

@@ -1,7 +1,7 @@
 -- 33 at the edges of each kind's values: an area of 1,025 words, profile 16, a profile number that does not rise, a lock
 -- of no words, a lock in area 2.
 use mathlib.Core.Path.{_≡_, refl}
-use mathlib.Core.List.{List, [], _∷_}
+use mathlib.Core.List.{[], _∷_}
 use Prim.Native.Nat.{ℕ}
 use Rattle.sheet.specs.Limits.{profileLimit, lockLimit, wordLimit}
 use Rattle.sheet.specs.Kinds.{kindOf, inOrder}
@@ -13,17 +13,17 @@ use Rattle.sheet.specs.declared.SheetFault.the-variants.{Value}
 use Rattle.sheet_laws.proofs.Examples.{one-word-each}
 
 -- either area may have 1,024 words, and no more
-pub identity-1025 : (limit : ℕ) (t : List ℕ)
-    → readOf limit (0x01 ∷ 0x00 ∷ 0x00 ∷ 0x02 ∷ 0x04 ∷ 0x01 ∷ 0x00 ∷ 0x00 ∷ t) ≡ refusedAt Value 3
+pub identity-1025 : (limit : ℕ)
+    → readOf limit (0x01 ∷ 0x00 ∷ 0x00 ∷ 0x02 ∷ 0x04 ∷ 0x01 ∷ 0x00 ∷ 0x00 ∷ []) ≡ refusedAt Value 3
 unfolding readOf walk after judgedOf openedOf tooMany kindOf inOrder recordOf withFeatures featuresRule featuresOf
     sizesRule wordLimit nothingGathered noMarks emptyTerms
-identity-1025 limit t = refl
+identity-1025 limit = refl
 
-pub user-1025 : (limit : ℕ) (t : List ℕ)
-    → readOf limit (0x01 ∷ 0x00 ∷ 0x00 ∷ 0x02 ∷ 0x00 ∷ 0x00 ∷ 0x04 ∷ 0x01 ∷ t) ≡ refusedAt Value 3
+pub user-1025 : (limit : ℕ)
+    → readOf limit (0x01 ∷ 0x00 ∷ 0x00 ∷ 0x02 ∷ 0x00 ∷ 0x00 ∷ 0x04 ∷ 0x01 ∷ []) ≡ refusedAt Value 3
 unfolding readOf walk after judgedOf openedOf tooMany kindOf inOrder recordOf withFeatures featuresRule featuresOf
     sizesRule wordLimit nothingGathered noMarks emptyTerms
-user-1025 limit t = refl
+user-1025 limit = refl
 
 pub profile-16 : (limit : ℕ)
     → readOf limit (one-word-each (0x04 ∷ 0x10 ∷ 0x00 ∷ 0x00 ∷ 0x00 ∷ 0x00 ∷ 0x01 ∷ [])) ≡ refusedAt Value 8

@@ -1,10 +1,10 @@
--- `input::whole` is safe and ends: the parts that may still come fall, and the line, the key table and both areas keep
+-- `whole` is safe and ends: the parts that may still come fall, and the line, the key table and both areas keep
 -- their lengths.
 use mathlib.Core.Path.{_≡_}
 use lib.ListN.{length}
 use borrow.Author.Needs.{needs}
-use Rattle.roualint.proofs.input.whole.Statement.{statement}
-use Rattle.roualint.proofs.input.whole.Tie as tie
+use Rattle.input.proofs.whole.Statement.{statement}
+use Rattle.input.proofs.whole.Tie as tie
 
 abbrev Inv-loop : tie.InvT-loop
 Inv-loop line₀ keys₀ identity₀ user₀ h₀ left₀ line keys identity user h left =

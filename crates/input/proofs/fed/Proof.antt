@@ -1,11 +1,11 @@
--- `input::fed` is safe and ends: what is left of the part falls, and the line, the key table and both areas keep their
+-- `fed` is safe and ends: what is left of the part falls, and the line, the key table and both areas keep their
 -- lengths.
 use mathlib.Core.Path.{_≡_}
 use Prim.Native.Nat.{_≤_, _-_}
 use lib.ListN.{length}
 use borrow.Author.Needs.{needs}
-use Rattle.roualint.proofs.input.fed.Statement.{statement}
-use Rattle.roualint.proofs.input.fed.Tie as tie
+use Rattle.input.proofs.fed.Statement.{statement}
+use Rattle.input.proofs.fed.Tie as tie
 
 abbrev Inv-loop : tie.InvT-loop
 Inv-loop part line₀ keys₀ identity₀ user₀ b₀ l₀ i₀ line keys identity user b l i =

@@ -1,4 +1,4 @@
-// Standard input, line by line.
+// The bench's commands, line by line: those of standard input, and those of a script.
 use commands::Desk;
 use console::answer;
 use console::words::before_comment;
