@@ -1,7 +1,5 @@
 // The soft tag's commands: sheet, area, areas, power, message. The bytes of the key table and of both areas stand
 // beside what is kept here.
-mod told; // told.rt: what a message came to, in words
-
 use console::answer;
 use console::answer::within;
 use console::fields;

@@ -9,7 +9,7 @@ use std::path::{Path, PathBuf};
 pub const PROGRAM: &str = "roualint";
 
 /// What reads commands and writes answers, and holds nothing of the standard.
-const AROUND: [&str; 9] = [
+const AROUND: [&str; 10] = [
     "cipher_commands",
     "commands",
     "console",
@@ -19,6 +19,7 @@ const AROUND: [&str; 9] = [
     "tag_commands",
     "text",
     "texts",
+    "told",
 ];
 
 /// A crate and what it names.
