@@ -79,14 +79,18 @@ module _ (p : Plan) (s : Standing) (room : List ℕ) (o : Outcome) where
   unfolding tags toCome endsWith
   tag-fewer ReaderOpens two n q m e h = absurd (never e)
   tag-fewer TagAnswers true n q m e h =
-      let r : toCome (replied p s room o .next) true ≤ 0 = last-reply true (ap (λ (x : Next). endsWith x (p .method)) q ∙ m) in omega (arith, r)
+      let last = ap (λ (x : Next). endsWith x (p .method)) q ∙ m in
+      let r : toCome (replied p s room o .next) true ≤ 0 = last-reply true last in
+      omega (arith, r)
   tag-fewer TagAnswers false n q m e h =
       let r : toCome (replied p s room o .next) false ≤ 2 =
       leb-true _ _ (replied-next (atMost 2 false) true (λ f. refl) p s refl (λ w. refl) room o (λ f. refl)) in
       omega (arith, r, h)
   tag-fewer ReaderCloses two n q m e h = absurd (never e)
   tag-fewer TagEnds two n q m e h =
-      let r : toCome (replied p s room o .next) two ≤ 0 = last-reply two (ap (λ (x : Next). endsWith x (p .method)) q) in omega (arith, r)
+      let last = ap (λ (x : Next). endsWith x (p .method)) q in
+      let r : toCome (replied p s room o .next) two ≤ 0 = last-reply two last in
+      omega (arith, r)
   tag-fewer Done two n q m e h = absurd (never e)
   tag-fewer (RefusedByTag f) two n q m e h = absurd (never e)
   tag-fewer (RefusedByReader f) two n q m e h = absurd (never e)
@@ -147,7 +151,8 @@ module _ (x : Setting) where
         let a = answerIn (x .keys) (x .draws) t in
         subst (λ (u : Table). Settled (byTurns x n u)) (sym (tag-turn x t e))
         (later (tagged x t)
-        (tag-fewer (x .plan) (t .standing) (over (a .reply) replyZeros) (a .outcome) k two n refl refl (a-turn (eqb (t .standing .left) 0) (tags k) e) h))
+        (tag-fewer (x .plan) (t .standing) (over (a .reply) replyZeros) (a .outcome) k two n refl refl
+        (a-turn (eqb (t .standing .left) 0) (tags k) e) h))
 
     after-reader : (b : Bool) → tagNext (t .standing) ≡ false → readerNext (t .standing) ≡ b
         → Settled (byTurns x n (oneTurn x t))

@@ -1,5 +1,5 @@
--- Demand 1 for each turn: the reader's turn changes neither the tag nor an area, and of a turn that the tag refuses only
--- the number stays, with the tag as demand 1 says.
+-- Demand 1 for each turn: the reader's turn changes neither the tag nor an area; a turn that the tag refuses sends
+-- nothing, writes no word, and leaves the tag as demand 1 says.
 use mathlib.Core.Path.{_≡_, refl, ap, _∙_}
 use mathlib.Core.List.{List}
 use Prim.Native.Nat.{ℕ}
@@ -13,7 +13,7 @@ use Rattle.exchange.specs.declared.Next.the-variants.{RefusedByTag}
 use Rattle.exchange.specs.Standings.{turned}
 use Rattle.exchange.specs.Turns.{Table, answerIn, answered, askedIn, replied}
 
--- What a turn that the tag refused leaves: no message, no reply, no byte of an area; the tag in Initial with nothing held
+-- What a turn that the tag refused leaves: no reply, no byte of an area changed; the tag in Initial with nothing held
 -- (1 to 6) or as it was (7).
 pub record LeftAlone (f : TagFault) (t after : Table) : Type 0 where
   pub standing : after .standing ≡ turned (RefusedByTag f) (t .standing)

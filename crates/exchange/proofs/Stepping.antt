@@ -60,7 +60,8 @@ module _ (x : Setting) where
   settled-turns zero t e = refl
   settled-turns (suc n) t e = ap (byTurns n) e ∙ settled-turns n t e
 
-  pub reader-turn : (t : Table) → tagNext (t .standing) ≡ false → readerNext (t .standing) ≡ true → oneTurn t ≡ readered t
+  pub reader-turn : (t : Table) → tagNext (t .standing) ≡ false → readerNext (t .standing) ≡ true
+      → oneTurn t ≡ readered t
   unfolding oneTurn
   reader-turn t p q =
       ap (λ (b : Bool). pick b (tagged t) (pick (readerNext (t .standing)) (readered t) t)) p

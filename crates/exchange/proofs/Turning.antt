@@ -22,12 +22,29 @@ use Rattle.exchange.specs.declared.Method.{Method}
 use Rattle.exchange.specs.declared.Next.{Next}
 use Rattle.exchange.specs.declared.Next.the-variants.{RefusedByReader}
 use Rattle.exchange.specs.declared.Plan.{Plan}
+use Rattle.exchange.specs.declared.Sent.{Sent}
 use Rattle.exchange.specs.declared.Reply.{Reply}
+use Rattle.exchange.specs.declared.Found.{Found}
 use Rattle.exchange.specs.declared.Standing.{Standing}
 use Rattle.exchange.specs.declared.Played.{Played}
 use Rattle.exchange.specs.Standings.{messageZeros, replyZeros, dataZeros, verdictNext, turned, sending, concludes}
 use Rattle.exchange.specs.Drafts.{Draft, sends, sendsMade}
 use Rattle.exchange.specs.Turns.{Plays, findingIn, meets, closed, ended, replied, answeredBy}
+
+-- a standing that is built anew, by the number of turns that are left
+pub built-anew : (next : Next) (sent : Sent) (reply : Reply) (challenge : List ℕ) (found : Found) (l m : ℕ) → l ≡ m
+    → _≡_ {A = Standing}
+    (record { next = next; left = l; sent = sent; reply = reply; challenge = challenge; found = found })
+    (record { next = next; left = m; sent = sent; reply = reply; challenge = challenge; found = found })
+built-anew next sent reply challenge found l m e =
+    ap (λ (k : ℕ). record {
+      next = next;
+      left = k;
+      sent = sent;
+      reply = reply;
+      challenge = challenge;
+      found = found;
+    }) e
 
 -- ---- the reader's messages
 
@@ -77,14 +94,7 @@ module _ (next : Next) (s : Standing) where
       }) (sendsMade next s made room)
   unfolding sendsMade
   sends-message room n l made e q =
-      ap (λ (k : ℕ). record {
-        next = next;
-        left = k;
-        sent = record { bytes = room; count = n };
-        reply = s .reply;
-        challenge = s .challenge;
-        found = s .found;
-      }) q
+      built-anew next (record { bytes = room; count = n }) (s .reply) (s .challenge) (s .found) _ _ q
       ∙ sym (ap (λ (m : Made). sendsMade next s m room) e)
 
 -- ---- the reader's judgement

@@ -1,4 +1,4 @@
--- No second answer fits the contracts of the exported functions: of the turns that are played, what stands, the tag, and
+-- No second answer fits the contracts of the exported functions: of the turns that are played what stands, the tag and
 -- both areas are determined.
 use mathlib.Core.Path.{_≡_, refl}
 use mathlib.Core.List.{List}

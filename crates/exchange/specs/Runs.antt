@@ -1,5 +1,5 @@
--- Turn after turn (M-100): the reader's turn hands over to the tag's turn and back, and the number of turns to play falls
--- by one each time. Where a half is not next, it plays no turn.
+-- Turn after turn (M-100): the reader's turn hands over to the tag's turn and back, and the number of turns to play
+-- falls by one each time. Where a half is not next, it plays no turn.
 use Prim.Native.Nat.{ℕ, zero, suc}
 use Rattle.ground.specs.Choice.{pick}
 use Rattle.exchange.specs.Standings.{readerNext, tagNext}

@@ -65,31 +65,39 @@ tag-calls t = (
 reader-turn-returns : (t : ℕ) → reader-turn-lts.Need-returns (reader-calls t) (reader-turn-at t) reader-turn.Post
 reader-turn-returns t c =
     let a = c .before .before .before .before .before .before .args in
-    reader-stops (setting (a .plan) (a .words .now) (a .keys .now) (a .draws .now)) (a .standing) (a .tag) (a .identity .now)
+    reader-stops (setting (a .plan) (a .words .now) (a .keys .now) (a .draws .now)) (a .standing) (a .tag)
+    (a .identity .now)
     (a .user .now) _ (c .if1 .taken)
 
-reader-turn-reader-next-requires : (t : ℕ) → reader-turn-lts.Need-reader-next-requires (reader-calls t) (reader-turn-at t) reader-turn.Post
+reader-turn-reader-next-requires : (t : ℕ) → reader-turn-lts.Need-reader-next-requires (reader-calls t)
+    (reader-turn-at t) reader-turn.Post
 reader-turn-reader-next-requires t c κs = search needs
 
 reader-turn-returns-2 : (t : ℕ) → reader-turn-lts.Need-returns-2 (reader-calls t) (reader-turn-at t) reader-turn.Post
 reader-turn-returns-2 t c =
     let a = c .before .before .before .before .before .before .before .before .args in
-    reader-waits (setting (a .plan) (a .words .now) (a .keys .now) (a .draws .now)) (a .standing) (a .tag) (a .identity .now)
+    reader-waits (setting (a .plan) (a .words .now) (a .keys .now) (a .draws .now)) (a .standing) (a .tag)
+    (a .identity .now)
     (a .user .now) _ (no (c .before .reader-next .ensures) (c .if2 .taken))
 
-reader-turn-act-requires : (t : ℕ) → reader-turn-lts.Need-act-requires (reader-calls t) (reader-turn-at t) reader-turn.Post
+reader-turn-act-requires : (t : ℕ) → reader-turn-lts.Need-act-requires (reader-calls t)
+    (reader-turn-at t) reader-turn.Post
 reader-turn-act-requires t c κs = search needs
 
-reader-turn-sub-tag-turn : (t : ℕ) → reader-turn-lts.Need-sub-tag-turn (reader-calls t) (reader-turn-at t) reader-turn.Post
+reader-turn-sub-tag-turn : (t : ℕ) → reader-turn-lts.Need-sub-tag-turn (reader-calls t)
+    (reader-turn-at t) reader-turn.Post
 reader-turn-sub-tag-turn t c = omega arith
 
-reader-turn-tag-turn-requires : (t : ℕ) → reader-turn-lts.Need-tag-turn-requires (reader-calls t) (reader-turn-at t) reader-turn.Post
+reader-turn-tag-turn-requires : (t : ℕ) → reader-turn-lts.Need-tag-turn-requires (reader-calls t)
+    (reader-turn-at t) reader-turn.Post
 reader-turn-tag-turn-requires t c κs = search needs
 
-reader-turn-same-length : (t : ℕ) → reader-turn-lts.Need-same-length (reader-calls t) (reader-turn-at t) reader-turn.Post
+reader-turn-same-length : (t : ℕ) → reader-turn-lts.Need-same-length (reader-calls t)
+    (reader-turn-at t) reader-turn.Post
 reader-turn-same-length t c = search needs
 
-reader-turn-same-length-2 : (t : ℕ) → reader-turn-lts.Need-same-length-2 (reader-calls t) (reader-turn-at t) reader-turn.Post
+reader-turn-same-length-2 : (t : ℕ) → reader-turn-lts.Need-same-length-2 (reader-calls t)
+    (reader-turn-at t) reader-turn.Post
 reader-turn-same-length-2 t c = search needs
 
 reader-turn-returns-3 : (t : ℕ) → reader-turn-lts.Need-returns-3 (reader-calls t) (reader-turn-at t) reader-turn.Post
@@ -98,14 +106,16 @@ reader-turn-returns-3 t c =
     let c7 = c4 .before .before .before in
     let c9 = c7 .before .before in
     let a = c9 .before .before .before .before .before .before .before .args in
-    reader-goes (setting (a .plan) (a .words .now) (a .keys .now) (a .draws .now)) (a .standing) (a .tag) (a .identity .now)
+    reader-goes (setting (a .plan) (a .words .now) (a .keys .now) (a .draws .now)) (a .standing) (a .tag)
+    (a .identity .now)
     (a .user .now) _ _ _ _ _ (c9 .before .if1 .left) (yes (c9 .reader-next .ensures) (c7 .before .if2 .left))
     (c7 .act .ensures) (c4 .tag-turn .ensures)
 
 tag-turn-returns : (t : ℕ) → tag-turn-lts.Need-returns (tag-calls t) (tag-turn-at t) tag-turn.Post
 tag-turn-returns t c =
     let a = c .before .before .before .before .before .before .args in
-    tag-stops (setting (a .plan) (a .words .now) (a .keys .now) (a .draws .now)) (a .standing) (a .tag) (a .identity .now)
+    tag-stops (setting (a .plan) (a .words .now) (a .keys .now) (a .draws .now)) (a .standing) (a .tag)
+    (a .identity .now)
     (a .user .now) _ (c .if1 .taken)
 
 tag-turn-tag-next-requires : (t : ℕ) → tag-turn-lts.Need-tag-next-requires (tag-calls t) (tag-turn-at t) tag-turn.Post
@@ -114,7 +124,8 @@ tag-turn-tag-next-requires t c κs = search needs
 tag-turn-returns-2 : (t : ℕ) → tag-turn-lts.Need-returns-2 (tag-calls t) (tag-turn-at t) tag-turn.Post
 tag-turn-returns-2 t c =
     let a = c .before .before .before .before .before .before .before .before .args in
-    tag-waits (setting (a .plan) (a .words .now) (a .keys .now) (a .draws .now)) (a .standing) (a .tag) (a .identity .now)
+    tag-waits (setting (a .plan) (a .words .now) (a .keys .now) (a .draws .now)) (a .standing) (a .tag)
+    (a .identity .now)
     (a .user .now) _ (no (c .before .tag-next .ensures) (c .if2 .taken))
 
 tag-turn-act-requires : (t : ℕ) → tag-turn-lts.Need-act-requires (tag-calls t) (tag-turn-at t) tag-turn.Post
@@ -123,7 +134,8 @@ tag-turn-act-requires t c κs = search needs
 tag-turn-sub-reader-turn : (t : ℕ) → tag-turn-lts.Need-sub-reader-turn (tag-calls t) (tag-turn-at t) tag-turn.Post
 tag-turn-sub-reader-turn t c = omega arith
 
-tag-turn-reader-turn-requires : (t : ℕ) → tag-turn-lts.Need-reader-turn-requires (tag-calls t) (tag-turn-at t) tag-turn.Post
+tag-turn-reader-turn-requires : (t : ℕ) → tag-turn-lts.Need-reader-turn-requires (tag-calls t)
+    (tag-turn-at t) tag-turn.Post
 tag-turn-reader-turn-requires t c κs = search needs
 
 tag-turn-same-length : (t : ℕ) → tag-turn-lts.Need-same-length (tag-calls t) (tag-turn-at t) tag-turn.Post
@@ -138,9 +150,11 @@ tag-turn-returns-3 t c =
     let c13 = c4 .before .before .before .before .before .before .before .before .before in
     let c17 = c13 .before .before .before .before in
     let a = c17 .before .before .before .before .before .before .before .args in
-    tag-goes (setting (a .plan) (a .words .now) (a .keys .now) (a .draws .now)) (a .standing) (a .tag) (a .identity .now)
+    tag-goes (setting (a .plan) (a .words .now) (a .keys .now) (a .draws .now)) (a .standing) (a .tag)
+    (a .identity .now)
     (a .user .now) _ (c13 .act .result) _ _ _ _ _ (c17 .before .if1 .left)
-    (yes (c17 .tag-next .ensures) (c13 .before .before .before .if2 .left)) (c13 .act .ensures) (c4 .reader-turn .ensures)
+    (yes (c17 .tag-next .ensures) (c13 .before .before .before .if2 .left)) (c13 .act .ensures)
+    (c4 .reader-turn .ensures)
 
 pub +reader-turn+tag-turn-spec : {M : Type 1} → statement M
 +reader-turn+tag-turn-spec = close μ-reader-turn μ-tag-turn (λ t. reader-turn-lts.spec (reader-calls t)

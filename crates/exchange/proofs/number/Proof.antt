@@ -48,22 +48,26 @@ number-requires-2 c κs = search needs
 returns : tie.Need-returns
 unfolding numberOf
 returns c =
-    c .number-waiting .ensures ∙ sym (ap (λ (n : Next). numberOf n (c .before .before .before .args .left)) (c .before .enum-told .given .1))
+    c .number-waiting .ensures ∙ sym (ap (λ (n : Next). numberOf n (c .before .before .before .args .left))
+    (c .before .enum-told .given .1))
 
 returns-2 : tie.Need-returns-2
 unfolding numberOf
 returns-2 c =
-    c .number-waiting2 .ensures ∙ sym (ap (λ (n : Next). numberOf n (c .before .before .before .args .left)) (c .before .enum-told2 .given .1))
+    c .number-waiting2 .ensures ∙ sym (ap (λ (n : Next). numberOf n (c .before .before .before .args .left))
+    (c .before .enum-told2 .given .1))
 
 returns-3 : tie.Need-returns-3
 unfolding numberOf
 returns-3 c =
-    c .number-waiting3 .ensures ∙ sym (ap (λ (n : Next). numberOf n (c .before .before .before .args .left)) (c .before .enum-told3 .given .1))
+    c .number-waiting3 .ensures ∙ sym (ap (λ (n : Next). numberOf n (c .before .before .before .args .left))
+    (c .before .enum-told3 .given .1))
 
 returns-4 : tie.Need-returns-4
 unfolding numberOf
 returns-4 c =
-    c .number-waiting4 .ensures ∙ sym (ap (λ (n : Next). numberOf n (c .before .before .before .args .left)) (c .before .enum-told4 .given .1))
+    c .number-waiting4 .ensures ∙ sym (ap (λ (n : Next). numberOf n (c .before .before .before .args .left))
+    (c .before .enum-told4 .given .1))
 
 returns-5 : tie.Need-returns-5
 unfolding numberOf
@@ -73,12 +77,14 @@ returns-5 c =
 returns-6 : tie.Need-returns-6
 unfolding numberOf
 returns-6 c =
-    c .number .ensures ∙ sym (ap (λ (n : Next). numberOf n (c .before .before .before .before .args .left)) (c .before .before .next .given .1))
+    c .number .ensures ∙ sym (ap (λ (n : Next). numberOf n (c .before .before .before .before .args .left))
+    (c .before .before .next .given .1))
 
 returns-7 : tie.Need-returns-7
 unfolding numberOf
 returns-7 c =
-    c .number2 .ensures ∙ sym (ap (λ (n : Next). numberOf n (c .before .before .before .before .args .left)) (c .before .before .next2 .given .1))
+    c .number2 .ensures ∙ sym (ap (λ (n : Next). numberOf n (c .before .before .before .before .args .left))
+    (c .before .before .next2 .given .1))
 
 pub number-spec : {M : Type 1} → statement M
 number-spec =

@@ -23,8 +23,10 @@ returns c =
     let c4 = c .before .before .before .before in
     let c8 = c4 .before .before .before .before in
     let a = c8 .before .before .before .before .before .before .args in
-    plays-tag (setting (a .plan) (a .words .now) (a .keys .now) (a .draws .now)) (a .standing) (a .tag) (a .identity .now)
-    (a .user .now) _ _ _ _ (said (c8 .tag-next .ensures) (c4 .before .before .before .if1 .taken)) (c4 .tag-turn .ensures)
+    plays-tag (setting (a .plan) (a .words .now) (a .keys .now) (a .draws .now)) (a .standing) (a .tag)
+    (a .identity .now)
+    (a .user .now) _ _ _ _ (said (c8 .tag-next .ensures) (c4 .before .before .before .if1 .taken))
+    (c4 .tag-turn .ensures)
 
 reader-turn-requires : tie.Need-reader-turn-requires
 reader-turn-requires c κs = search needs
@@ -40,8 +42,10 @@ returns-2 c =
     let c4 = c .before .before .before .before in
     let c8 = c4 .before .before .before .before in
     let a = c8 .before .before .before .before .before .before .args in
-    plays-reader (setting (a .plan) (a .words .now) (a .keys .now) (a .draws .now)) (a .standing) (a .tag) (a .identity .now)
-    (a .user .now) _ _ _ _ (said (c8 .tag-next .ensures) (c4 .before .before .before .if1 .left)) (c4 .reader-turn .ensures)
+    plays-reader (setting (a .plan) (a .words .now) (a .keys .now) (a .draws .now)) (a .standing) (a .tag)
+    (a .identity .now)
+    (a .user .now) _ _ _ _ (said (c8 .tag-next .ensures) (c4 .before .before .before .if1 .left))
+    (c4 .reader-turn .ensures)
 
 pub play-spec : {M : Type 1} → statement M
 play-spec =

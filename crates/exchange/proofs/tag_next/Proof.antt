@@ -18,7 +18,8 @@ is-tags-requires c κs = search needs
 returns-2 : tie.Need-returns-2
 returns-2 c =
     c .is-tags .ensures
-    ∙ sym (ap (λ (b : Bool). pick b false (tags (c .before .before .before .args .standing .next))) (ne-eqb _ _ (c .before .if1 .left)))
+    ∙ sym (ap (λ (b : Bool). pick b false (tags (c .before .before .before .args .standing .next))) (ne-eqb _ _
+    (c .before .if1 .left)))
 
 pub tag-next-spec : {M : Type 1} → statement M
 tag-next-spec = tie.close (tie.spec returns is-tags-requires returns-2)

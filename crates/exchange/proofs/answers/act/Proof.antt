@@ -23,10 +23,13 @@ same-length-2 c = search needs
 returns : tie.Need-returns
 unfolding answered
 returns c =
-    let a = c .before .before .before .before .before .before .before .before .before .before .before .before .before .before .before .before .args in
+    let a = c .before .before .before .before .before .before .before .before .before .before .before .before .before
+    .before .before .before .args in
     let t = table (a .standing) (a .tag) (a .identity .now) (a .user .now) in
-    answered-by (a .plan) (a .standing) (answerIn (a .keys .now) (a .draws .now) t) _ _ _ _ _ (c .before .before .before .before .before .before .before .step-sent .ensures)
+    answered-by (a .plan) (a .standing) (answerIn (a .keys .now) (a .draws .now) t) _ _ _ _ _
+    (c .before .before .before .before .before .before .before .step-sent .ensures)
     (c .reply-in .ensures)
 
 pub act-spec : {M : Type 1} → statement M
-act-spec = tie.close (tie.spec slice-aggregate-step-sent step-sent-requires reply-in-requires same-length same-length-2 returns)
+act-spec = tie.close (tie.spec slice-aggregate-step-sent step-sent-requires reply-in-requires same-length
+    same-length-2 returns)

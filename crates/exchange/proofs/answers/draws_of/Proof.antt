@@ -16,7 +16,8 @@ returns : tie.Need-returns
 unfolding drawsOf
 returns c =
     c .front .ensures
-    ∙ sym (ap (λ (n : Next). drawsOf n (c .before .before .before .before .args .draws .now)) (c .before .enum-told .given .1))
+    ∙ sym (ap (λ (n : Next). drawsOf n (c .before .before .before .before .args .draws .now))
+    (c .before .enum-told .given .1))
 
 enum-told-2 : tie.Need-enum-told-2
 enum-told-2 c = search needs
@@ -28,7 +29,8 @@ returns-2 : tie.Need-returns-2
 unfolding drawsOf
 returns-2 c =
     c .front2 .ensures
-    ∙ sym (ap (λ (n : Next). drawsOf n (c .before .before .before .before .args .draws .now)) (c .before .enum-told2 .given .1))
+    ∙ sym (ap (λ (n : Next). drawsOf n (c .before .before .before .before .args .draws .now))
+    (c .before .enum-told2 .given .1))
 
 enum-told-3 : tie.Need-enum-told-3
 enum-told-3 c = search needs
@@ -40,7 +42,8 @@ returns-3 : tie.Need-returns-3
 unfolding drawsOf
 returns-3 c =
     c .front3 .ensures
-    ∙ sym (ap (λ (n : Next). drawsOf n (c .before .before .before .before .args .draws .now)) (c .before .enum-told3 .given .1))
+    ∙ sym (ap (λ (n : Next). drawsOf n (c .before .before .before .before .args .draws .now))
+    (c .before .enum-told3 .given .1))
 
 enum-told-4 : tie.Need-enum-told-4
 enum-told-4 c = search needs
@@ -52,7 +55,8 @@ returns-4 : tie.Need-returns-4
 unfolding drawsOf
 returns-4 c =
     c .tail .ensures
-    ∙ sym (ap (λ (n : Next). drawsOf n (c .before .before .before .before .args .draws .now)) (c .before .enum-told4 .given .1))
+    ∙ sym (ap (λ (n : Next). drawsOf n (c .before .before .before .before .args .draws .now))
+    (c .before .enum-told4 .given .1))
 
 enum-told-5 : tie.Need-enum-told-5
 enum-told-5 c = search needs
@@ -64,7 +68,8 @@ returns-5 : tie.Need-returns-5
 unfolding drawsOf
 returns-5 c =
     c .front4 .ensures
-    ∙ sym (ap (λ (n : Next). drawsOf n (c .before .before .before .before .args .draws .now)) (c .before .enum-told5 .given .1))
+    ∙ sym (ap (λ (n : Next). drawsOf n (c .before .before .before .before .args .draws .now))
+    (c .before .enum-told5 .given .1))
 
 enum-told-6 : tie.Need-enum-told-6
 enum-told-6 c = search needs
@@ -76,7 +81,8 @@ returns-6 : tie.Need-returns-6
 unfolding drawsOf
 returns-6 c =
     c .front5 .ensures
-    ∙ sym (ap (λ (n : Next). drawsOf n (c .before .before .before .before .args .draws .now)) (c .before .enum-told6 .given .1))
+    ∙ sym (ap (λ (n : Next). drawsOf n (c .before .before .before .before .args .draws .now))
+    (c .before .enum-told6 .given .1))
 
 enum-told-7 : tie.Need-enum-told-7
 enum-told-7 c = search needs
@@ -88,7 +94,8 @@ returns-7 : tie.Need-returns-7
 unfolding drawsOf
 returns-7 c =
     c .front6 .ensures
-    ∙ sym (ap (λ (n : Next). drawsOf n (c .before .before .before .before .args .draws .now)) (c .before .enum-told7 .given .1))
+    ∙ sym (ap (λ (n : Next). drawsOf n (c .before .before .before .before .args .draws .now))
+    (c .before .enum-told7 .given .1))
 
 pub draws-of-spec : {M : Type 1} → statement M
 draws-of-spec =

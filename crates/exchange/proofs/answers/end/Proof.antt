@@ -21,7 +21,8 @@ returns : tie.Need-returns
 unfolding findingIn
 returns c =
     let a = c .before .before .before .before .before .before .before .args in
-    ended-by (a .plan) (a .standing) _ _ (a .reply) _ _ (c .before .before .before .judged .ensures) (c .before .verdict-next .ensures)
+    ended-by (a .plan) (a .standing) _ _ (a .reply) _ _ (c .before .before .before .judged .ensures)
+    (c .before .verdict-next .ensures)
     (c .concludes .ensures)
 
 pub end-spec : {M : Type 1} → statement M

@@ -19,7 +19,8 @@ returns : tie.Need-returns
 unfolding received
 returns c =
     let a = c .before .before .before .args in
-    c .end .ensures ∙ sym (ap (λ (b : Bool). pick b (ended (a .plan) (a .standing) (a .reply)) (waits (a .standing) (a .reply)))
+    c .end .ensures ∙ sym (ap (λ (b : Bool). pick b (ended (a .plan) (a .standing) (a .reply)) (waits (a .standing)
+    (a .reply)))
     (said (c .before .before .ends-with .ensures) (c .before .if1 .taken)))
 
 waits-requires : tie.Need-waits-requires
@@ -29,7 +30,8 @@ returns-2 : tie.Need-returns-2
 unfolding received
 returns-2 c =
     let a = c .before .before .before .args in
-    c .waits .ensures ∙ sym (ap (λ (b : Bool). pick b (ended (a .plan) (a .standing) (a .reply)) (waits (a .standing) (a .reply)))
+    c .waits .ensures ∙ sym (ap (λ (b : Bool). pick b (ended (a .plan) (a .standing) (a .reply)) (waits (a .standing)
+    (a .reply)))
     (said (c .before .before .ends-with .ensures) (c .before .if1 .left)))
 
 pub receive-spec : {M : Type 1} → statement M

@@ -25,9 +25,12 @@ same-length-3 c = search needs
 
 returns : tie.Need-returns
 returns c =
-    let a = c .before .before .before .before .before .before .before .before .before .before .before .before .before .before .before .before .before .before .args in
+    let a = c .before .before .before .before .before .before .before .before .before .before .before .before .before
+    .before .before .before .before .before .args in
     steps-as (keyed (a .tag) (a .keys .now)) _ _ _ _ (a .room .now) (a .identity .now) (a .user .now) _ _ _ _
-    (c .before .before .before .before .before .before .before .before .before .before .before .front .ensures) (c .before .before .before .before .before .before .before .before .before .before .draws-of .ensures) (c .before .before .before .before .before .before .step .ensures)
+    (c .before .before .before .before .before .before .before .before .before .before .before .front .ensures)
+    (c .before .before .before .before .before .before .before .before .before .before .draws-of .ensures)
+    (c .before .before .before .before .before .before .step .ensures)
 
 pub step-with-spec : {M : Type 1} → statement M
 step-with-spec =

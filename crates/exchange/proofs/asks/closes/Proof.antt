@@ -18,7 +18,8 @@ returns : tie.Need-returns
 unfolding findingIn
 returns c =
     let a = c .before .before .before .before .before .before .before .before .before .args in
-    closed-by (a .plan) (a .standing) _ _ (a .words .now) _ (c .before .before .before .judged .ensures) (c .meet .ensures)
+    closed-by (a .plan) (a .standing) _ _ (a .words .now) _ (c .before .before .before .judged .ensures)
+    (c .meet .ensures)
 
 pub closes-spec : {M : Type 1} → statement M
 closes-spec = tie.close (tie.spec slice-aggregate-judged judged-requires meet-requires returns)

@@ -26,7 +26,8 @@ returns : tie.Need-returns
 returns c =
     let a = c .before .before .before .before .before .before .before .before .before .args in
     judges-as (ap₂ {C = Finding} (λ (m r : List ℕ). judgementOf (a .keys) m r (length (a .room .now)))
-    (c .before .before .before .before .before .front .ensures) (c .before .before .before .before .front2 .ensures)) (c .before .before .judge .ensures)
+    (c .before .before .before .before .before .front .ensures) (c .before .before .before .before .front2 .ensures))
+    (c .before .before .judge .ensures)
 
 pub judged-bytes-spec : {M : Type 1} → statement M
 judged-bytes-spec =

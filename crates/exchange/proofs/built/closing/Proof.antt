@@ -43,7 +43,8 @@ returns-3 : tie.Need-returns-3
 unfolding closing
 returns-3 c =
     let a = c .before .before .before .before .before .before .before .before .before .before .args in
-    by-method (closing (a .plan) (a .words .now) (a .tchallenge)) _ Iam2 _ _ _ (c .before .before .before .before .before .before .enum-told3 .given .1)
+    by-method (closing (a .plan) (a .words .now) (a .tchallenge)) _ Iam2 _ _ _
+    (c .before .before .before .before .before .before .enum-told3 .given .1)
     (c .before .before .iam2 .ensures)
 
 enum-told-4 : tie.Need-enum-told-4
@@ -59,7 +60,8 @@ returns-4 : tie.Need-returns-4
 unfolding closing
 returns-4 c =
     let a = c .before .before .before .before .before .before .before .before .before .before .before .args in
-    by-method (closing (a .plan) (a .words .now) (a .tchallenge)) _ Iam3 _ _ _ (c .before .before .before .before .before .before .before .enum-told4 .given .1)
+    by-method (closing (a .plan) (a .words .now) (a .tchallenge)) _ Iam3 _ _ _
+    (c .before .before .before .before .before .before .before .enum-told4 .given .1)
     (c .before .before .iam3 .ensures)
 
 enum-told-5 : tie.Need-enum-told-5
@@ -75,7 +77,8 @@ returns-5 : tie.Need-returns-5
 unfolding closing
 returns-5 c =
     let a = c .before .before .before .before .before .before .before .before .before .before .args in
-    by-method (closing (a .plan) (a .words .now) (a .tchallenge)) _ Mam _ _ _ (c .before .before .before .before .before .before .enum-told5 .given .1)
+    by-method (closing (a .plan) (a .words .now) (a .tchallenge)) _ Mam _ _ _
+    (c .before .before .before .before .before .before .enum-told5 .given .1)
     (c .before .before .mam2 .ensures)
 
 pub closing-spec : {M : Type 1} → statement M

@@ -18,7 +18,8 @@ same-length c = search needs
 returns : tie.Need-returns
 unfolding opening
 returns c =
-    by-method (opening (c .before .before .before .before .before .before .before .before .args .plan)) _ Tam1 _ _ _ (c .before .before .before .before .before .enum-told .given .1) (c .before .before .tam1 .ensures)
+    by-method (opening (c .before .before .before .before .before .before .before .before .args .plan)) _ Tam1 _ _ _
+    (c .before .before .before .before .before .enum-told .given .1) (c .before .before .tam1 .ensures)
 
 enum-told-2 : tie.Need-enum-told-2
 enum-told-2 c = search needs
@@ -32,7 +33,9 @@ same-length-2 c = search needs
 returns-2 : tie.Need-returns-2
 unfolding opening
 returns-2 c =
-    by-method (opening (c .before .before .before .before .before .before .before .before .before .before .args .plan)) _ Tam2 _ _ _ (c .before .before .before .before .before .before .before .enum-told2 .given .1) (c .before .before .tam2 .ensures)
+    by-method (opening (c .before .before .before .before .before .before .before .before .before .before .args .plan))
+    _ Tam2 _ _ _ (c .before .before .before .before .before .before .before .enum-told2 .given .1)
+    (c .before .before .tam2 .ensures)
 
 enum-told-3 : tie.Need-enum-told-3
 enum-told-3 c = search needs
@@ -46,7 +49,8 @@ same-length-3 c = search needs
 returns-3 : tie.Need-returns-3
 unfolding opening
 returns-3 c =
-    by-method (opening (c .before .before .before .before .before .before .before .args .plan)) _ Iam2 _ _ _ (c .before .before .before .before .enum-told3 .given .1) (c .before .before .iam1 .ensures)
+    by-method (opening (c .before .before .before .before .before .before .before .args .plan)) _ Iam2 _ _ _
+    (c .before .before .before .before .enum-told3 .given .1) (c .before .before .iam1 .ensures)
 
 enum-told-4 : tie.Need-enum-told-4
 enum-told-4 c = search needs
@@ -60,7 +64,8 @@ same-length-4 c = search needs
 returns-4 : tie.Need-returns-4
 unfolding opening
 returns-4 c =
-    by-method (opening (c .before .before .before .before .before .before .before .args .plan)) _ Iam3 _ _ _ (c .before .before .before .before .enum-told4 .given .1) (c .before .before .iam12 .ensures)
+    by-method (opening (c .before .before .before .before .before .before .before .args .plan)) _ Iam3 _ _ _
+    (c .before .before .before .before .enum-told4 .given .1) (c .before .before .iam12 .ensures)
 
 enum-told-5 : tie.Need-enum-told-5
 enum-told-5 c = search needs
@@ -74,7 +79,8 @@ same-length-5 c = search needs
 returns-5 : tie.Need-returns-5
 unfolding opening
 returns-5 c =
-    by-method (opening (c .before .before .before .before .before .before .before .before .args .plan)) _ Mam _ _ _ (c .before .before .before .before .before .enum-told5 .given .1) (c .before .before .mam1 .ensures)
+    by-method (opening (c .before .before .before .before .before .before .before .before .args .plan)) _ Mam _ _ _
+    (c .before .before .before .before .before .enum-told5 .given .1) (c .before .before .mam1 .ensures)
 
 pub opening-spec : {M : Type 1} → statement M
 opening-spec =

@@ -1,6 +1,5 @@
 -- `exchange::standings::concludes` meets its contract.
-use mathlib.Core.Path.{ap}
-use Prim.Native.Nat.{ℕ}
+use Rattle.exchange.proofs.Turning.{built-anew}
 use borrow.Author.Needs.{needs}
 use Rattle.exchange.proofs.standings.concludes.Statement.{statement}
 use Rattle.exchange.proofs.standings.concludes.Tie as tie
@@ -10,8 +9,10 @@ fewer-requires c κs = search needs
 
 returns : tie.Need-returns
 returns c =
-    let a = c .before .before .before .args in
-    ap (λ (l : ℕ). record { next = a .next; left = l; sent = a .standing .sent; reply = a .reply; challenge = a .standing .challenge; found = a .found }) (c .before .before .fewer .ensures)
+    let f = c .before .before in
+    let a = f .before .args in
+    built-anew (a .next) (a .standing .sent) (a .reply) (a .standing .challenge) (a .found) _ _
+    (f .fewer .ensures)
 
 pub concludes-spec : {M : Type 1} → statement M
 concludes-spec = tie.close (tie.spec fewer-requires returns)

@@ -16,7 +16,8 @@ fewer-requires c κs = search needs
 returns : tie.Need-returns
 returns c =
     let a = c .before .before .before .before .before .before .before .args in
-    sends-message (a .next) (a .standing) (a .room) _ _ _ (c .before .before .before .before .before .made .given .1) (c .before .before .before .fewer .ensures)
+    sends-message (a .next) (a .standing) (a .room) _ _ _ (c .before .before .before .before .before .made .given .1)
+    (c .before .before .before .fewer .ensures)
 
 enum-known-made-2 : tie.Need-enum-known-made-2
 enum-known-made-2 c = search needs
@@ -28,7 +29,8 @@ returns-2 : tie.Need-returns-2
 unfolding sendsMade
 returns-2 c =
     let a = c .before .before .before .before .args in
-    c .turned .ensures ∙ sym (ap (λ (m : Made). sendsMade (a .next) (a .standing) m (a .room)) (c .before .before .made2 .given .1))
+    c .turned .ensures ∙ sym (ap (λ (m : Made). sendsMade (a .next) (a .standing) m (a .room))
+    (c .before .before .made2 .given .1))
 
 pub sends-spec : {M : Type 1} → statement M
 sends-spec =

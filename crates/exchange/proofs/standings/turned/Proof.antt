@@ -1,6 +1,5 @@
 -- `exchange::standings::turned` meets its contract.
-use mathlib.Core.Path.{ap}
-use Prim.Native.Nat.{ℕ}
+use Rattle.exchange.proofs.Turning.{built-anew}
 use borrow.Author.Needs.{needs}
 use Rattle.exchange.proofs.standings.turned.Statement.{statement}
 use Rattle.exchange.proofs.standings.turned.Tie as tie
@@ -10,8 +9,10 @@ fewer-requires c κs = search needs
 
 returns : tie.Need-returns
 returns c =
-    let a = c .before .before .before .before .before .args in
-    ap (λ (l : ℕ). record { next = a .next; left = l; sent = a .standing .sent; reply = a .standing .reply; challenge = a .standing .challenge; found = a .standing .found }) (c .before .before .before .before .fewer .ensures)
+    let f = c .before .before .before .before in
+    let a = f .before .args in
+    built-anew (a .next) (a .standing .sent) (a .standing .reply) (a .standing .challenge) (a .standing .found) _ _
+    (f .fewer .ensures)
 
 pub turned-spec : {M : Type 1} → statement M
 turned-spec = tie.close (tie.spec fewer-requires returns)

@@ -1,7 +1,6 @@
 -- `exchange::standings::waits` meets its contract.
-use mathlib.Core.Path.{ap}
-use Prim.Native.Nat.{ℕ}
 use Rattle.exchange.specs.declared.Next.the-variants.{ReaderCloses}
+use Rattle.exchange.proofs.Turning.{built-anew}
 use borrow.Author.Needs.{needs}
 use Rattle.exchange.proofs.standings.waits.Statement.{statement}
 use Rattle.exchange.proofs.standings.waits.Tie as tie
@@ -11,8 +10,10 @@ fewer-requires c κs = search needs
 
 returns : tie.Need-returns
 returns c =
-    let a = c .before .before .before .before .args in
-    ap (λ (l : ℕ). record { next = ReaderCloses; left = l; sent = a .standing .sent; reply = a .reply; challenge = a .standing .challenge; found = a .standing .found }) (c .before .before .before .fewer .ensures)
+    let f = c .before .before .before in
+    let a = f .before .args in
+    built-anew ReaderCloses (a .standing .sent) (a .reply) (a .standing .challenge) (a .standing .found) _ _
+    (f .fewer .ensures)
 
 pub waits-spec : {M : Type 1} → statement M
 waits-spec = tie.close (tie.spec fewer-requires returns)
