@@ -1,0 +1,2 @@
+pub mod TwoTurns
+pub mod Done

@@ -1,0 +1,2 @@
+-- M-100: after how many turns an exchange is done.
+pub mod Done
