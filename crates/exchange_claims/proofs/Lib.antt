@@ -1,2 +1,4 @@
 pub mod TwoTurns
+pub mod FourTurns
 pub mod Done
+pub mod DoneByFour

@@ -47,7 +47,7 @@ use Rattle.exchange.proofs.Ending.{never-a-third}
 use Rattle.exchange_claims.specs.Done.{openingOf, firstCall}
 
 -- where a turn is left, it is that of the half that is next
-whose-turn : (whose : Next → Bool) (n : Next) (left : ℕ) → 0 < left → turnOf whose n left ≡ whose n
+pub whose-turn : (whose : Next → Bool) (n : Next) (left : ℕ) → 0 < left → turnOf whose n left ≡ whose n
 whose-turn whose n left h = ap (λ (b : Bool). pick b false (whose n)) (ne-eqb left 0 (λ e. omega arith))
 
 module _ (x : Setting) (limit : ℕ) (tag : Tag) (identity user : List ℕ) where
@@ -61,7 +61,7 @@ module _ (x : Setting) (limit : ℕ) (tag : Tag) (identity user : List ℕ) wher
   abbrev pub sent : Standing
   sent = sending TagAnswers (fresh limit) (over (openingOf x) messageZeros) (length (openingOf x))
 
-  opens : 2 ≤ limit → opening (x .plan) (x .plan .method) .fit ≡ true → oneTurn x start ≡ table sent tag identity user
+  pub opens : 2 ≤ limit → opening (x .plan) (x .plan .method) .fit ≡ true → oneTurn x start ≡ table sent tag identity user
   unfolding askedIn asked opened sends tags readers
   opens enough fit =
       reader-turn x start (whose-turn tags ReaderOpens limit (omega arith))
@@ -69,7 +69,7 @@ module _ (x : Setting) (limit : ℕ) (tag : Tag) (identity user : List ℕ) wher
       ∙ ap (λ (b : Bool). table (pick b sent (turned (RefusedByReader OwnMessage) (fresh limit))) tag identity
       user) fit
 
-  there : messageIn (sent .sent) ≡ openingOf x
+  pub there : messageIn (sent .sent) ≡ openingOf x
   there = take-at (openingOf x) (drop (length (openingOf x)) messageZeros) (length (openingOf x)) refl
 
   -- the reply, in its room
