@@ -111,46 +111,46 @@ module _ (x : Setting) (limit : ℕ) (tag : Tag) (identity user : List ℕ) (r c
 
   module _ (purpose : ℕ) (i u : List ℕ)
       (lets : second ≡ answerWith (keyed tag′ (x .keys) .setup) (letIn (secondCall x challenge identity user) purpose i u))
-      where
-    abbrev pub found : Finding
-    found = judgementOf (x .plan .keys) message [] (length dataZeros)
+    where
+      abbrev pub found : Finding
+      found = judgementOf (x .plan .keys) message [] (length dataZeros)
 
-    abbrev pub after : Table
-    after = table (endedBy closing-sent empty found) (keyless (second .tag)) i u
+      abbrev pub after : Table
+      after = table (endedBy closing-sent empty found) (keyless (second .tag)) i u
 
-    ends : 4 ≤ limit → oneTurn x (table closing-sent tag′ identity user) ≡ after
-    unfolding answered tags drawsOf replied received endsWith ended findingIn letIn
-    ends enough =
-        tag-turn x (table closing-sent tag′ identity user) (whose-turn tags TagEnds (limit - 1 - 1 - 1) (omega arith))
-        ∙ ap (λ (l : List ℕ). answeredBy (x .plan) closing-sent
-        (answerOf (lent l (drop 10 (x .draws)) replyZeros identity user) (keyed tag′ (x .keys)))) there′
-        ∙ (λ j. table (replied (x .plan) closing-sent (over (lets j .reply) replyZeros) (lets j .outcome))
-        (keyless (second .tag)) (lets j .identity) (lets j .user))
-        ∙ ap (λ (l : List ℕ). table (endedBy closing-sent empty (judgementOf (x .plan .keys) l [] (length dataZeros)))
-        (keyless (second .tag)) i u) there′
+      ends : 4 ≤ limit → oneTurn x (table closing-sent tag′ identity user) ≡ after
+      unfolding answered tags drawsOf replied received endsWith ended findingIn letIn
+      ends enough =
+          tag-turn x (table closing-sent tag′ identity user) (whose-turn tags TagEnds (limit - 1 - 1 - 1) (omega arith))
+          ∙ ap (λ (l : List ℕ). answeredBy (x .plan) closing-sent
+          (answerOf (lent l (drop 10 (x .draws)) replyZeros identity user) (keyed tag′ (x .keys)))) there′
+          ∙ (λ j. table (replied (x .plan) closing-sent (over (lets j .reply) replyZeros) (lets j .outcome))
+          (keyless (second .tag)) (lets j .identity) (lets j .user))
+          ∙ ap (λ (l : List ℕ). table (endedBy closing-sent empty (judgementOf (x .plan .keys) l [] (length dataZeros)))
+          (keyless (second .tag)) i u) there′
 
-    module _ (enough : 4 ≤ limit) (four : hasTwo (x .plan .method) ≡ false)
-        (fit : opening (x .plan) (x .plan .method) .fit ≡ true)
-        (e : answer x limit tag identity user
-        ≡ answerWith (keyed tag (x .keys) .setup) (answersWith (firstCall x identity user) r held))
-        (issued : judgementOf (x .plan .keys) (openingOf x) r (length dataZeros) ≡ issues challenge)
-        (fit′ : closing (x .plan) (x .words) challenge (x .plan .method) .fit ≡ true) where
-      by-three : byTurns x 3 (start x limit tag identity user) ≡ table closing-sent tag′ identity user
-      unfolding byTurns
-      by-three =
-          ap (λ (t : Table). oneTurn x (oneTurn x t)) (opens x limit tag identity user (omega arith) fit)
-          ∙ ap (oneTurn x) (answers enough four e)
-          ∙ closes enough fit′ issued
+      module _ (enough : 4 ≤ limit) (four : hasTwo (x .plan .method) ≡ false)
+          (fit : opening (x .plan) (x .plan .method) .fit ≡ true)
+          (e : answer x limit tag identity user
+          ≡ answerWith (keyed tag (x .keys) .setup) (answersWith (firstCall x identity user) r held))
+          (issued : judgementOf (x .plan .keys) (openingOf x) r (length dataZeros) ≡ issues challenge)
+          (fit′ : closing (x .plan) (x .words) challenge (x .plan .method) .fit ≡ true) where
+        by-three : byTurns x 3 (start x limit tag identity user) ≡ table closing-sent tag′ identity user
+        unfolding byTurns
+        by-three =
+            ap (λ (t : Table). oneTurn x (oneTurn x t)) (opens x limit tag identity user (omega arith) fit)
+            ∙ ap (oneTurn x) (answers enough four e)
+            ∙ closes enough fit′ issued
 
-      pub after-three : playedOf x 3 (start x limit tag identity user) ≡ table closing-sent tag′ identity user
-      after-three = played-turns x 3 (start x limit tag identity user) ∙ by-three
+        pub after-three : playedOf x 3 (start x limit tag identity user) ≡ table closing-sent tag′ identity user
+        after-three = played-turns x 3 (start x limit tag identity user) ∙ by-three
 
-      pub after-four : (n : ℕ) → playedOf x (4 + n) (start x limit tag identity user) ≡ after
-      unfolding byTurns
-      after-four n =
-          never-a-fifth x n (start x limit tag identity user)
-          ∙ played-turns x 4 (start x limit tag identity user)
-          ∙ ap (λ (t : Table). oneTurn x (oneTurn x (oneTurn x t))) (opens x limit tag identity user (omega arith) fit)
-          ∙ ap (λ (t : Table). oneTurn x (oneTurn x t)) (answers enough four e)
-          ∙ ap (oneTurn x) (closes enough fit′ issued)
-          ∙ ends enough
+        pub after-four : (n : ℕ) → playedOf x (4 + n) (start x limit tag identity user) ≡ after
+        unfolding byTurns
+        after-four n =
+            never-a-fifth x n (start x limit tag identity user)
+            ∙ played-turns x 4 (start x limit tag identity user)
+            ∙ ap (λ (t : Table). oneTurn x (oneTurn x (oneTurn x t))) (opens x limit tag identity user (omega arith) fit)
+            ∙ ap (λ (t : Table). oneTurn x (oneTurn x t)) (answers enough four e)
+            ∙ ap (oneTurn x) (closes enough fit′ issued)
+            ∙ ends enough
