@@ -11,13 +11,11 @@ use Rattle.reader_build.specs.declared.Made.{Made}
 use Rattle.reader_build.specs.declared.Made.the-variants.{Message, Refused}
 use Rattle.reader_build.specs.Makes.{Makes, taken}
 use Rattle.reader_judge.specs.declared.Judgement.{Judgement}
-use Rattle.reader_judge.specs.Findings.{saidOf, Judges}
-use Rattle.tag.specs.declared.Tag.{Tag}
+use Rattle.reader_judge.specs.Findings.{Judges}
 use Rattle.tag.specs.declared.Stepped.{Stepped}
 use Rattle.tag.specs.States.{KeyedTag}
 use Rattle.tag.specs.Answers.{Answer, answerOf}
 use Rattle.tag.specs.Reactions.{lent, Steps}
-use Rattle.offer.specs.declared.Outcome.{Outcome}
 use Rattle.exchange.specs.declared.Method.{Method}
 use Rattle.exchange.specs.declared.Next.{Next}
 use Rattle.exchange.specs.declared.Next.the-variants.{RefusedByReader}
@@ -26,7 +24,6 @@ use Rattle.exchange.specs.declared.Sent.{Sent}
 use Rattle.exchange.specs.declared.Reply.{Reply}
 use Rattle.exchange.specs.declared.Found.{Found}
 use Rattle.exchange.specs.declared.Standing.{Standing}
-use Rattle.exchange.specs.declared.Played.{Played}
 use Rattle.exchange.specs.Standings.{messageZeros, replyZeros, dataZeros, verdictNext, turned, sending, concludes}
 use Rattle.exchange.specs.Drafts.{Draft, sends, sendsMade}
 use Rattle.exchange.specs.Turns.{Plays, findingIn, meets, closed, ended, replied, answeredBy}

@@ -20,12 +20,12 @@ use reader_judge::Verdict;
 use tag::Stepped;
 use tag::Tag;
 ghost use mathlib.Core.Path.{_≡_};
-ghost use lib.ListN.{length, take};
+ghost use lib.ListN.{take};
 ghost use Rattle.tag.specs.States.{keyed};
 ghost use Rattle.tag.specs.Answers.{answerOf};
 ghost use Rattle.tag.specs.Reactions.{lent, Steps};
 ghost use Rattle.exchange.specs.Standings.{messageIn, hasTwo, endsWith, drawsOf, verdictNext};
-ghost use Rattle.exchange.specs.Turns.{ended, received, replied, answered, setting, table, Plays};
+ghost use Rattle.exchange.specs.Turns.{ended, received, replied, answered, table, Plays};
 
 // Has the method two turns?
 fn has_two(method: Method) -> bool

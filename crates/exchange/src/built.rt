@@ -3,7 +3,6 @@ use super::Method;
 use super::Plan;
 use reader::ReaderFault;
 use reader_build::Made;
-ghost use lib.ListN.{length};
 ghost use Rattle.reader_build.specs.Makes.{Makes};
 ghost use Rattle.exchange.specs.Drafts.{opening, closing};
 

@@ -1,5 +1,5 @@
--- An exchange of IAM or MAM is done after four turns: the opening is taken, its challenge is found, and a reader that has
--- the keys is let in.
+-- An exchange of IAM or MAM is done after four turns: the opening is taken, its challenge is found, and a reader that
+-- has the keys is let in.
 use mathlib.Core.Path.{_≡_, refl, sym, ap, _∙_, subst}
 use mathlib.Core.Bool.{true, false}
 use mathlib.Core.List.{List, []}
@@ -78,7 +78,8 @@ module _ (x : Setting) (limit : ℕ) (tag : Tag) (identity user : List ℕ) (ope
         → judgementOf (x .plan .keys) (closingOf x challenge) [] (length dataZeros) ≡ nothingMore
     unfolding letIn
     accepted k d =
-        sym (ap (λ (z : Answer). judgementOf (x .plan .keys) (closingOf x challenge) (z .reply) (length dataZeros)) lets)
+        sym (ap (λ (z : Answer). judgementOf (x .plan .keys) (closingOf x challenge) (z .reply) (length dataZeros))
+        lets)
         ∙ recovery (secondCall x challenge identity user) (keyed (withSession tag held) (x .keys)) (x .plan .keys)
         (length dataZeros) (h .bytes) (h .keys) (le-refl 144)
         (subst Taken (sym (ap (λ (z : Answer). z .outcome) lets)) tt)
@@ -96,7 +97,8 @@ module _ (x : Setting) (limit : ℕ) (tag : Tag) (identity user : List ℕ) (ope
       not-after-three = ap (λ (t : Table). t .standing .next)
           (after-three x limit tag identity user r challenge held purpose i u lets enough four fit e came fit′);
       after-four = λ n.
-          let p = after-four x limit tag identity user r challenge held purpose i u lets enough four fit e came fit′ n in
+          let p = after-four x limit tag identity user r challenge held purpose i u lets enough four fit e came fit′ n
+          in
           record {
             next = ap (λ (t : Table). t .standing .next) p
                 ∙ ap (λ (g : Finding). verdictNext (g .verdict)) found;
@@ -117,7 +119,8 @@ iam2-done x limit tag identity user picks enough h irnd purpose =
     = ap (λ (m : Method). closing p (x .words) c m .message) picks in
     let e = iam1-answered (firstCall x identity user) (keyed tag (x .keys)) (p .keyid) (h .opens .waits)
     (h .opens .there) is in
-    let lets = iam2-enters (secondCall x c identity user) (keyed (withSession tag held) (x .keys)) (p .keys) (p .purpose)
+    let lets = iam2-enters (secondCall x c identity user) (keyed (withSession tag held) (x .keys)) (p .keys)
+    (p .purpose)
     (p .irnd) (h .waits) (h .knows) (h .drawn) irnd purpose is′ in
     done x limit tag identity user Iam1 Iam2 held h c e (p .purpose) identity user lets enough (ap hasTwo picks)
     (ap (λ (m : Method). opening p m .fit) picks)
@@ -140,7 +143,8 @@ mam-done x limit tag identity user picks enough h ten purpose =
     (h .opens .there) (h .opens .ten) is in
     let shape = mam1-shape (record { rfu = 0; keyid = p .keyid; ichallenge = p .ichallenge }) (h .opens .ten)
     (omega arith) in
-    let lets = mam2-enters (secondCall x c identity user) (keyed (withSession tag held) (x .keys)) (p .keys) (p .purpose)
+    let lets = mam2-enters (secondCall x c identity user) (keyed (withSession tag held) (x .keys)) (p .keys)
+    (p .purpose)
     (p .ichallenge) (h .waits) (h .knows) (h .drawn) ten refl purpose is′ in
     done x limit tag identity user Mam1 Mam2 held h _ e (p .purpose) identity user lets enough (ap hasTwo picks)
     (ap (λ (m : Method). opening p m .fit) picks)
@@ -153,7 +157,8 @@ mam-done x limit tag identity user picks enough h ten purpose =
 -- the first byte of an IAM3, in the ProtMode that it says
 iam3-begins : (x : Setting) (setup : Setup) (key : Key) (c : List ℕ)
     → modeSupported (setup .features) key (x .plan .protmode) ≡ true
-    → kindOf (byteAt (iam3Made (x .plan .keys) (x .plan .custom) (x .plan .protmode) (x .plan .purpose) (x .plan .irnd) c
+    → kindOf (byteAt (iam3Made (x .plan .keys) (x .plan .custom) (x .plan .protmode) (x .plan .purpose)
+    (x .plan .irnd) c
     (x .words)) 0) ≡ Iam3
 unfolding iam3Made iam3InMode iam3Whole iam3Head selectBytes
 iam3-begins x setup key c mode =

@@ -43,8 +43,8 @@ use Rattle.exchange.specs.Turns.{
   askedIn,
 }
 use Rattle.exchange.specs.Runs.{playedOf}
-use Rattle.exchange.proofs.Stepping.{oneTurn, byTurns, reader-turn, tag-turn, played-turns}
-use Rattle.exchange.proofs.Ending.{never-a-fifth}
+use Rattle.exchange_claims.proofs.Stepping.{oneTurn, byTurns, reader-turn, tag-turn, played-turns}
+use Rattle.exchange_claims.proofs.Ending.{never-a-fifth}
 use Rattle.exchange_claims.specs.Done.{openingOf, firstCall, closingOf, secondCall, withSession}
 use Rattle.exchange_claims.proofs.TwoTurns.{whose-turn, start, answer, sent, there, finding, opens}
 
@@ -91,7 +91,8 @@ module _ (x : Setting) (limit : ℕ) (tag : Tag) (identity user : List ℕ) (r c
       → oneTurn x (table waiting tag′ identity user) ≡ table closing-sent tag′ identity user
   unfolding askedIn asked closed meets proves sends findingIn tags readers
   closes enough fit found =
-      let judged : Finding = judgementOf (x .plan .keys) (messageIn (waiting .sent)) (take (length r) (over r replyZeros))
+      let judged : Finding = judgementOf (x .plan .keys) (messageIn (waiting .sent))
+      (take (length r) (over r replyZeros))
       (length dataZeros) in
       let same : judged ≡ issues challenge
       = (λ j. judgementOf (x .plan .keys) (there x limit tag identity user j) (back j) (length dataZeros)) ∙ found in
@@ -100,7 +101,8 @@ module _ (x : Setting) (limit : ℕ) (tag : Tag) (identity user : List ℕ) (r c
       (whose-turn readers ReaderCloses (limit - 1 - 1) (omega arith))
       ∙ ap (λ (f : Finding). table (meets (x .plan) (x .words) (f .challenge) waiting (f .verdict)) tag′ identity user)
       same
-      ∙ ap (λ (b : Bool). table (pick b closing-sent (turned (RefusedByReader OwnMessage) (challenged challenge waiting)))
+      ∙ ap (λ (b : Bool). table (pick b closing-sent (turned (RefusedByReader OwnMessage)
+      (challenged challenge waiting)))
       tag′ identity user) fit
 
   there′ : messageIn (closing-sent .sent) ≡ message
@@ -110,7 +112,8 @@ module _ (x : Setting) (limit : ℕ) (tag : Tag) (identity user : List ℕ) (r c
   empty = record { bytes = replyZeros; count = 0 }
 
   module _ (purpose : ℕ) (i u : List ℕ)
-      (lets : second ≡ answerWith (keyed tag′ (x .keys) .setup) (letIn (secondCall x challenge identity user) purpose i u))
+      (lets : second ≡ answerWith (keyed tag′ (x .keys) .setup)
+      (letIn (secondCall x challenge identity user) purpose i u))
     where
       abbrev pub found : Finding
       found = judgementOf (x .plan .keys) message [] (length dataZeros)
@@ -150,7 +153,8 @@ module _ (x : Setting) (limit : ℕ) (tag : Tag) (identity user : List ℕ) (r c
         after-four n =
             never-a-fifth x n (start x limit tag identity user)
             ∙ played-turns x 4 (start x limit tag identity user)
-            ∙ ap (λ (t : Table). oneTurn x (oneTurn x (oneTurn x t))) (opens x limit tag identity user (omega arith) fit)
+            ∙ ap (λ (t : Table). oneTurn x (oneTurn x (oneTurn x t)))
+            (opens x limit tag identity user (omega arith) fit)
             ∙ ap (λ (t : Table). oneTurn x (oneTurn x t)) (answers enough four e)
             ∙ ap (oneTurn x) (closes enough fit′ issued)
             ∙ ends enough

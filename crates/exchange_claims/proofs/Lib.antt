@@ -1,3 +1,8 @@
+pub mod Afterwards
+pub mod Stepping
+pub mod Ending
+pub mod Numbers
+pub mod Refusing
 pub mod TwoTurns
 pub mod FourTurns
 pub mod Done

@@ -22,7 +22,18 @@ use Rattle.offer.specs.Records.{offered}
 use Rattle.entry.specs.declared.State.{State}
 use Rattle.entry.specs.Sessions.{cleared}
 use Rattle.tag.specs.declared.Tag.{Tag}
-use Rattle.tag.specs.Answers.{Effect, Call, refused, answerWith, byKind, inOrder, ofMessage, ofLending, effectOf, answerOf}
+use Rattle.tag.specs.Answers.{
+  Effect,
+  Call,
+  refused,
+  answerWith,
+  byKind,
+  inOrder,
+  ofMessage,
+  ofLending,
+  effectOf,
+  answerOf,
+}
 use Rattle.tag.specs.Reactions.{lent}
 use Rattle.tag.specs.States.{KeyedTag, atRest, inTurn, keyed}
 use Rattle.reader_build.specs.Builds.{iam1Made, mam1Made}
@@ -40,7 +51,7 @@ use Rattle.exchange.specs.Standings.{replyZeros, readers, tags, hasTwo, drawsOf
 use Rattle.exchange.specs.Drafts.{opening}
 use Rattle.exchange.specs.Turns.{replied, Table, table, Setting, answeredBy, answered}
 use Rattle.exchange.specs.Runs.{playedOf}
-use Rattle.exchange.proofs.Stepping.{oneTurn, byTurns, tag-turn, played-turns, played-plus, settled-stays}
+use Rattle.exchange_claims.proofs.Stepping.{oneTurn, byTurns, tag-turn, played-turns, played-plus, settled-stays}
 use Rattle.exchange_claims.specs.Done.{openingOf, firstCall, withSession}
 use Rattle.exchange_claims.specs.OutOfTurn.{openingKind, EndedByFive, EndsOutOfTurn}
 use Rattle.exchange_claims.proofs.TwoTurns.{whose-turn, start, sent, there, opens}

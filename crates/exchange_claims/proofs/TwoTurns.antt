@@ -42,8 +42,8 @@ use Rattle.exchange.specs.Turns.{
   askedIn,
 }
 use Rattle.exchange.specs.Runs.{playedOf}
-use Rattle.exchange.proofs.Stepping.{oneTurn, byTurns, reader-turn, tag-turn, played-turns}
-use Rattle.exchange.proofs.Ending.{never-a-third}
+use Rattle.exchange_claims.proofs.Stepping.{oneTurn, byTurns, reader-turn, tag-turn, played-turns}
+use Rattle.exchange_claims.proofs.Ending.{never-a-third}
 use Rattle.exchange_claims.specs.Done.{openingOf, firstCall}
 
 -- where a turn is left, it is that of the half that is next
@@ -61,7 +61,8 @@ module _ (x : Setting) (limit : ℕ) (tag : Tag) (identity user : List ℕ) wher
   abbrev pub sent : Standing
   sent = sending TagAnswers (fresh limit) (over (openingOf x) messageZeros) (length (openingOf x))
 
-  pub opens : 2 ≤ limit → opening (x .plan) (x .plan .method) .fit ≡ true → oneTurn x start ≡ table sent tag identity user
+  pub opens : 2 ≤ limit → opening (x .plan) (x .plan .method) .fit ≡ true → oneTurn x start ≡ table sent tag identity
+      user
   unfolding askedIn asked opened sends tags readers
   opens enough fit =
       reader-turn x start (whose-turn tags ReaderOpens limit (omega arith))
@@ -100,7 +101,8 @@ module _ (x : Setting) (limit : ℕ) (tag : Tag) (identity user : List ℕ) wher
       ∙ (λ j. table (endedBy sent reply (judgementOf (x .plan .keys) (there j) (came j) (length dataZeros)))
       (keyless (answer .tag)) (answer .identity) (answer .user))
 
-  module _ (enough : 2 ≤ limit) (two : hasTwo (x .plan .method) ≡ true) (fit : opening (x .plan) (x .plan .method) .fit ≡ true)
+  module _ (enough : 2 ≤ limit) (two : hasTwo (x .plan .method) ≡ true)
+      (fit : opening (x .plan) (x .plan .method) .fit ≡ true)
       (taken : answer .outcome ≡ Replied (length (answer .reply))) where
     pub after-one : playedOf x 1 start ≡ table sent tag identity user
     unfolding byTurns

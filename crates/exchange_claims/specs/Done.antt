@@ -73,7 +73,8 @@ pub record DoneWith (t : Table) (tag : Tag) (identity user bytes : List ℕ) (wo
   pub user-kept : t .user ≡ user
 
 -- One turn is not enough; after two it is done, whatever number of turns is played from then on.
-pub record DoneAfterTwo (x : Setting) (start : Table) (tag : Tag) (identity user bytes : List ℕ) (worth : Worth) : Type 0
+pub record DoneAfterTwo (x : Setting) (start : Table) (tag : Tag) (identity user bytes : List ℕ) (worth : Worth) :
+    Type 0
   where
     pub not-after-one : playedOf x 1 start .standing .next ≡ TagAnswers
     pub after-two : (n : ℕ) → DoneWith (playedOf x (2 + n) start) tag identity user bytes worth
@@ -102,7 +103,8 @@ Tam2Done =
 
 -- ---- IAM and MAM
 
--- What the tag holds after the opening: its challenge, which is the first ten draws, and in MAM the end of the reader's.
+-- What the tag holds after the opening: its challenge, which is the first ten draws, and in MAM the end of the
+-- reader's.
 abbrev pub heldAfter : State → List ℕ → Setting → Session
 heldAfter state ichallenge x = record {
   state = state;
@@ -158,8 +160,8 @@ MamDone =
     → purposeFits (x .plan .purpose) ≡ true
     → DoneAfterFour x (table (fresh limit) tag identity user) tag identity user
 
--- With supported fields, the right to the profile and an unlocked block inside it: the block's words are the data, and no
--- other word changed.
+-- With supported fields, the right to the profile and an unlocked block inside it: the block's words are the data, and
+-- no other word changed.
 abbrev pub Iam3Done : Type 0
 Iam3Done =
     (x : Setting) (limit : ℕ) (tag : Tag) (identity user : List ℕ)

@@ -1,7 +1,7 @@
 -- `exchange::begin` meets its contract.
 use mathlib.Core.Path.{sym, ap, _∙_}
 use Rattle.exchange.specs.declared.Standing.{Standing}
-use Rattle.exchange.proofs.Numbers.{limit-none, limit-over, limit-taken}
+use Rattle.exchange.proofs.Limits.{limit-none, limit-over, limit-taken}
 use borrow.Author.Needs.{needs}
 use Rattle.exchange.proofs.begin.Statement.{statement}
 use Rattle.exchange.proofs.begin.Tie as tie

@@ -9,19 +9,19 @@ use lib.Dec.{leb, eqb}
 use Rattle.ground.specs.Choice.{pick}
 use Rattle.modes.specs.Room.{over}
 use Rattle.offer.specs.declared.Outcome.{Outcome}
 use Rattle.exchange.specs.declared.Plan.{Plan}
 use Rattle.exchange.specs.declared.Next.{Next}
 use Rattle.exchange.specs.declared.Next.the-variants.{ReaderOpens, TagAnswers, ReaderCloses, TagEnds, Done}
 use Rattle.exchange.specs.declared.Next.the-variants.{RefusedByTag, RefusedByReader}
 use Rattle.exchange.specs.declared.Standing.{Standing}
 use Rattle.exchange.specs.Standings.{replyZeros, readers, tags, readerNext, tagNext, hasTwo, endsWith}
 use Rattle.exchange.specs.Drafts.{opening, sends}
 use Rattle.exchange.specs.Turns.{Table, Setting, findingIn, meets, asked, askedIn, opened, closed, replied}
 use Rattle.exchange.specs.Turns.{answerIn, answered}
 use Rattle.exchange.specs.Runs.{playedOf}
-use Rattle.exchange.proofs.Afterwards.{sends-next, meets-next, replied-next}
-use Rattle.exchange.proofs.Stepping.{oneTurn, byTurns, tagged, readered, reader-turn, tag-turn, settled-turn}
-use Rattle.exchange.proofs.Stepping.{settled-turns, settled-stays, played-turns, played-plus}
+use Rattle.exchange_claims.proofs.Afterwards.{sends-next, meets-next, replied-next}
+use Rattle.exchange_claims.proofs.Stepping.{oneTurn, byTurns, tagged, readered, reader-turn, tag-turn, settled-turn}
+use Rattle.exchange_claims.proofs.Stepping.{settled-turns, settled-stays, played-turns, played-plus}
 
 -- How many turns an exchange can still take, of a method that has two or not.
 unfoldable pub toCome : Next → Bool → ℕ

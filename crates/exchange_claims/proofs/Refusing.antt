@@ -1,17 +1,16 @@
 -- Demand 1 for each turn: the reader's turn changes neither the tag nor an area; a turn that the tag refuses sends
 -- nothing, writes no word, and leaves the tag as demand 1 says.
-use mathlib.Core.Path.{_≡_, refl, ap, _∙_}
+use mathlib.Core.Path.{_≡_, refl, ap}
 use mathlib.Core.List.{List}
 use Prim.Native.Nat.{ℕ}
 use Rattle.offer.specs.declared.TagFault.{TagFault}
 use Rattle.offer.specs.declared.Outcome.the-variants.{Refused}
-use Rattle.tag.specs.States.{holding, keyed, keyless, sessionAfter}
-use Rattle.tag.specs.declared.Tag.{Tag}
+use Rattle.tag.specs.States.{keyed, keyless, sessionAfter}
 use Rattle.tag.proofs.Unchanged.{refusal-unchanged}
 use Rattle.exchange.specs.declared.Plan.{Plan}
 use Rattle.exchange.specs.declared.Next.the-variants.{RefusedByTag}
 use Rattle.exchange.specs.Standings.{turned}
 use Rattle.exchange.specs.Turns.{Table, answerIn, answered, askedIn, replied}
 
 -- What a turn that the tag refused leaves: no reply, no byte of an area changed; the tag in Initial with nothing held
 -- (1 to 6) or as it was (7).

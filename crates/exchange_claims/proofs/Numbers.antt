@@ -1,11 +1,11 @@
--- Numbers 40 and 41, exactly.
-use mathlib.Core.Path.{_≡_, refl, ap, _∙_}
+-- After number 40 nothing changes, and number 41, exactly.
+use mathlib.Core.Path.{_≡_, refl}
 use mathlib.Core.Bool.{Bool, true, false}
 use mathlib.Core.List.{List}
-use Prim.Native.Nat.{ℕ, _≤_, _<_}
+use Prim.Native.Nat.{ℕ}
 use native.Mathlib.Omega.{arith}
-use borrow.Author.Tests.{eqb-true, eq-eqb, ne-eqb, le-leb, lt-leb}
-use lib.Dec.{eqb, leb}
+use borrow.Author.Tests.{eqb-true}
+use lib.Dec.{eqb}
 use Rattle.ground.specs.Choice.{pick}
 use Rattle.offer.specs.declared.TagFault.{TagFault}
 use Rattle.offer.specs.declared.TagFault.the-variants.{OtherError, NotSupported, MemoryOverrun, MemoryWriteError}
@@ -16,37 +16,13 @@ use Rattle.reader.specs.declared.ReaderFault.the-variants.{ReplyLength, Challen
 use Rattle.reader.specs.declared.ReaderFault.the-variants.{OwnMessage}
 use Rattle.reader.specs.Numbers.{numberOf as readerNumber}
 use Rattle.tag.specs.declared.Tag.{Tag}
 use Rattle.exchange.specs.declared.Next.{Next}
 use Rattle.exchange.specs.declared.Next.the-variants.{ReaderOpens, TagAnswers, ReaderCloses, TagEnds, Done}
 use Rattle.exchange.specs.declared.Next.the-variants.{RefusedByTag, RefusedByReader}
-use Rattle.exchange.specs.declared.Begun.{Begun}
-use Rattle.exchange.specs.Standings.{fresh, unbegun, limitFits, begunOf, isOver, waiting, numberOf}
+use Rattle.exchange.specs.Standings.{unbegun, isOver, waiting, numberOf}
 use Rattle.exchange.specs.Turns.{Setting, table}
 use Rattle.exchange.specs.Runs.{playedOf}
-use Rattle.exchange.proofs.Stepping.{settled-stays}
-
--- ---- 40
-
-module _ (limit : ℕ) where
-  abbrev taken : Begun
-  taken = record { number = 0; standing = fresh limit }
-
-  abbrev by : Bool → Begun
-  by b = pick b taken unbegun
-
-  pub limit-none : limit ≡ 0 → begunOf limit ≡ unbegun
-  unfolding begunOf limitFits
-  limit-none e = ap (λ (b : Bool). by (pick b false (leb limit 64))) (eq-eqb limit 0 e)
-
-  some : (limit ≡ 0 → ⊥) → begunOf limit ≡ by (leb limit 64)
-  unfolding begunOf limitFits
-  some h = ap (λ (b : Bool). by (pick b false (leb limit 64))) (ne-eqb limit 0 h)
-
-  pub limit-over : (limit ≡ 0 → ⊥) → 64 < limit → begunOf limit ≡ unbegun
-  limit-over h e = some h ∙ ap by (lt-leb limit 64 e)
-
-  pub limit-taken : (limit ≡ 0 → ⊥) → limit ≤ 64 → begunOf limit ≡ taken
-  limit-taken h e = some h ∙ ap by (le-leb limit 64 e)
+use Rattle.exchange_claims.proofs.Stepping.{settled-stays}
 
 -- After 40 nothing changes, whatever is played.
 pub unbegun-stays : (x : Setting) (n : ℕ) (tag : Tag) (identity user : List ℕ)

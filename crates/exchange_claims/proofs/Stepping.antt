@@ -6,13 +6,13 @@ use native.Mathlib.Omega.{arith}
 use lib.Dec.{eqb}
 use Rattle.ground.specs.Choice.{pick}
 use Rattle.modes.specs.Room.{over}
 use Rattle.exchange.specs.declared.Next.{Next}
 use Rattle.exchange.specs.declared.Next.the-variants.{ReaderOpens, TagAnswers, ReaderCloses, TagEnds, Done}
 use Rattle.exchange.specs.declared.Next.the-variants.{RefusedByTag, RefusedByReader}
 use Rattle.exchange.specs.Standings.{replyZeros, readers, tags, readerNext, tagNext}
 use Rattle.exchange.specs.Turns.{Table, Setting, answerIn, askedIn, answered}
 use Rattle.exchange.specs.Runs.{readerRun, tagRun, playedOf}
-use Rattle.exchange.proofs.Afterwards.{reader-played, tag-played}
+use Rattle.exchange_claims.proofs.Afterwards.{reader-played, tag-played}
 
 no-turn : (b v : Bool) → v ≡ false → pick b false v ≡ false
 no-turn true v e = refl
