@@ -6,10 +6,10 @@ use Prim.Native.Nat.{ℕ, zero, suc, _-_}
 use native.Mathlib.Omega.{arith}
 use Rattle.ground.specs.Choice.{pick}
 use Rattle.tag.specs.declared.Tag.{Tag}
-use Rattle.exchange.specs.declared.Standing.{Standing}
-use Rattle.exchange.specs.declared.Played.{Played}
-use Rattle.exchange.specs.Standings.{readerNext, tagNext}
-use Rattle.exchange.specs.Turns.{Table, Setting, table, Plays, asked, askedIn, answered}
+use Rattle.turns.specs.declared.Standing.{Standing}
+use Rattle.turns.specs.declared.Played.{Played}
+use Rattle.turns.specs.Standings.{readerNext, tagNext}
+use Rattle.turns.specs.Turns.{Table, Setting, table, Plays, asked, askedIn, answered}
 use Rattle.exchange.specs.Runs.{readerRun, tagRun, playedOf}
 
 -- what is returned and left, as the table of the next turn

@@ -1,4 +1,2 @@
-pub mod Turning
 pub mod Handing
-pub mod Limits
 pub mod Unique

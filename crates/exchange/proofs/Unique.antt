@@ -1,38 +1,10 @@
--- No second answer fits the contracts of the exported functions: of the turns that are played what stands, the tag and
--- both areas are determined.
-use mathlib.Core.Path.{_≡_, refl}
-use mathlib.Core.List.{List}
-use Prim.Native.Nat.{ℕ}
+-- No second answer fits the contract of the exported function: of the turns that are played what stands, the tag and both
+-- areas are determined.
+use mathlib.Core.Path.{refl}
 use Rattle.ground.specs.OneAnswer.{OneAnswer, one, _&_}
-use Rattle.exchange.specs.declared.Played.{Played}
-use Rattle.exchange.specs.Turns.{Table, Plays}
-use Rattle.exchange.proofs.begin.Reads as begin
-use Rattle.exchange.proofs.begin.Kinds as begin-kinds
-use Rattle.exchange.proofs.number.Reads as number
-use Rattle.exchange.proofs.number.Kinds as number-kinds
-use Rattle.exchange.proofs.reader_next.Reads as reader-next
-use Rattle.exchange.proofs.reader_next.Kinds as reader-next-kinds
-use Rattle.exchange.proofs.tag_next.Reads as tag-next
-use Rattle.exchange.proofs.tag_next.Kinds as tag-next-kinds
+use Rattle.turns.proofs.Unique.{returned}
 use Rattle.exchange.proofs.play.Reads as play
 use Rattle.exchange.proofs.play.Kinds as play-kinds
-
-pub begin-one : OneAnswer 0 begin-kinds.ps begin-kinds.r begin.Post
-begin-one κs a x y v w p q = (one p q, refl)
-
-pub number-one : OneAnswer 0 number-kinds.ps number-kinds.r number.Post
-number-one κs a x y v w p q = (one p q, refl)
-
-pub reader-next-one : OneAnswer 0 reader-next-kinds.ps reader-next-kinds.r reader-next.Post
-reader-next-one κs a x y v w p q = (one p q, refl)
-
-pub tag-next-one : OneAnswer 0 tag-next-kinds.ps tag-next-kinds.r tag-next.Post
-tag-next-one κs a x y v w p q = (one p q, refl)
-
--- what is returned is what the turns come to
-returned : (t : Table) (r : Played) (i u : List ℕ) → Plays t r i u
-    → r ≡ record { standing = t .standing; tag = t .tag }
-returned t r i u h = λ j. record { standing = h .standing j; tag = h .tag j }
 
 pub play-one : OneAnswer 5 play-kinds.ps play-kinds.r play.Post
 play-one κs a x y v w p q = (

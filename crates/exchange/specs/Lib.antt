@@ -1,6 +1,2 @@
--- What the contracts of exchange cite: M-100, turn by turn, over the tag's answer and the reader's messages and
--- judgement.
-pub mod Standings
-pub mod Drafts
-pub mod Turns
+-- What the contracts of exchange cite: M-100, turn after turn.
 pub mod Runs

@@ -2,8 +2,8 @@
 -- falls by one each time. Where a half is not next, it plays no turn.
 use Prim.Native.Nat.{ℕ, zero, suc}
 use Rattle.ground.specs.Choice.{pick}
-use Rattle.exchange.specs.Standings.{readerNext, tagNext}
-use Rattle.exchange.specs.Turns.{Table, Setting, askedIn, answered}
+use Rattle.turns.specs.Standings.{readerNext, tagNext}
+use Rattle.turns.specs.Turns.{Table, Setting, askedIn, answered}
 
 unfoldable mutual
   pub readerRun : Setting → ℕ → Table → Table

@@ -9,15 +9,15 @@ use lib.Dec.{leb, eqb}
 use Rattle.ground.specs.Choice.{pick}
 use Rattle.modes.specs.Room.{over}
 use Rattle.offer.specs.declared.Outcome.{Outcome}
-use Rattle.exchange.specs.declared.Plan.{Plan}
-use Rattle.exchange.specs.declared.Next.{Next}
-use Rattle.exchange.specs.declared.Next.the-variants.{ReaderOpens, TagAnswers, ReaderCloses, TagEnds, Done}
-use Rattle.exchange.specs.declared.Next.the-variants.{RefusedByTag, RefusedByReader}
-use Rattle.exchange.specs.declared.Standing.{Standing}
-use Rattle.exchange.specs.Standings.{replyZeros, readers, tags, readerNext, tagNext, hasTwo, endsWith}
-use Rattle.exchange.specs.Drafts.{opening, sends}
-use Rattle.exchange.specs.Turns.{Table, Setting, findingIn, meets, asked, askedIn, opened, closed, replied}
-use Rattle.exchange.specs.Turns.{answerIn, answered}
+use Rattle.turns.specs.declared.Plan.{Plan}
+use Rattle.turns.specs.declared.Next.{Next}
+use Rattle.turns.specs.declared.Next.the-variants.{ReaderOpens, TagAnswers, ReaderCloses, TagEnds, Done}
+use Rattle.turns.specs.declared.Next.the-variants.{RefusedByTag, RefusedByReader}
+use Rattle.turns.specs.declared.Standing.{Standing}
+use Rattle.turns.specs.Standings.{replyZeros, readers, tags, readerNext, tagNext, hasTwo, endsWith}
+use Rattle.turns.specs.Drafts.{opening, sends}
+use Rattle.turns.specs.Turns.{Table, Setting, findingIn, meets, asked, askedIn, opened, closed, replied}
+use Rattle.turns.specs.Turns.{answerIn, answered}
 use Rattle.exchange.specs.Runs.{playedOf}
 use Rattle.exchange_claims.proofs.Afterwards.{sends-next, meets-next, replied-next}
 use Rattle.exchange_claims.proofs.Stepping.{oneTurn, byTurns, tagged, readered, reader-turn, tag-turn, settled-turn}

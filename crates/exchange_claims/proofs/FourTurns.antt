@@ -19,13 +19,13 @@ use Rattle.tag.specs.Reactions.{lent}
 use Rattle.tag.specs.States.{keyed, keyless}
 use Rattle.reader_judge.specs.Findings.{Finding, issues}
 use Rattle.reader_judge.specs.Judged.{judgementOf}
-use Rattle.exchange.specs.declared.Next.the-variants.{TagAnswers, ReaderCloses, TagEnds, RefusedByReader}
-use Rattle.exchange.specs.declared.Reply.{Reply}
-use Rattle.exchange.specs.declared.Standing.{Standing}
-use Rattle.exchange.specs.Standings.{messageZeros, replyZeros, dataZeros, messageIn, readers, tags, hasTwo, endsWith}
-use Rattle.exchange.specs.Standings.{drawsOf, turned, sending, challenged, waits}
-use Rattle.exchange.specs.Drafts.{opening, closing, sends}
-use Rattle.exchange.specs.Turns.{
+use Rattle.turns.specs.declared.Next.the-variants.{TagAnswers, ReaderCloses, TagEnds, RefusedByReader}
+use Rattle.turns.specs.declared.Reply.{Reply}
+use Rattle.turns.specs.declared.Standing.{Standing}
+use Rattle.turns.specs.Standings.{messageZeros, replyZeros, dataZeros, messageIn, readers, tags, hasTwo, endsWith}
+use Rattle.turns.specs.Standings.{drawsOf, turned, sending, challenged, waits}
+use Rattle.turns.specs.Drafts.{opening, closing, sends}
+use Rattle.turns.specs.Turns.{
   proves,
   meets,
   findingIn,

@@ -16,11 +16,11 @@ use Rattle.reader.specs.declared.ReaderFault.the-variants.{ReplyLength, Challen
 use Rattle.reader.specs.declared.ReaderFault.the-variants.{OwnMessage}
 use Rattle.reader.specs.Numbers.{numberOf as readerNumber}
 use Rattle.tag.specs.declared.Tag.{Tag}
-use Rattle.exchange.specs.declared.Next.{Next}
-use Rattle.exchange.specs.declared.Next.the-variants.{ReaderOpens, TagAnswers, ReaderCloses, TagEnds, Done}
-use Rattle.exchange.specs.declared.Next.the-variants.{RefusedByTag, RefusedByReader}
-use Rattle.exchange.specs.Standings.{unbegun, isOver, waiting, numberOf}
-use Rattle.exchange.specs.Turns.{Setting, table}
+use Rattle.turns.specs.declared.Next.{Next}
+use Rattle.turns.specs.declared.Next.the-variants.{ReaderOpens, TagAnswers, ReaderCloses, TagEnds, Done}
+use Rattle.turns.specs.declared.Next.the-variants.{RefusedByTag, RefusedByReader}
+use Rattle.turns.specs.Standings.{unbegun, isOver, waiting, numberOf}
+use Rattle.turns.specs.Turns.{Setting, table}
 use Rattle.exchange.specs.Runs.{playedOf}
 use Rattle.exchange_claims.proofs.Stepping.{settled-stays}
 

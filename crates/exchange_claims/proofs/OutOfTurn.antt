@@ -37,19 +37,19 @@ use Rattle.tag.specs.Answers.{
 use Rattle.tag.specs.Reactions.{lent}
 use Rattle.tag.specs.States.{KeyedTag, atRest, inTurn, keyed}
 use Rattle.reader_build.specs.Builds.{iam1Made, mam1Made}
-use Rattle.exchange.specs.declared.Method.{Method}
-use Rattle.exchange.specs.declared.Method.the-variants.{
+use Rattle.turns.specs.declared.Method.{Method}
+use Rattle.turns.specs.declared.Method.the-variants.{
   Tam1 as PicksTam1,
   Tam2 as PicksTam2,
   Iam2 as PicksIam2,
   Iam3 as PicksIam3,
   Mam as PicksMam,
 }
-use Rattle.exchange.specs.declared.Next.the-variants.{TagAnswers, RefusedByTag}
-use Rattle.exchange.specs.declared.Plan.{Plan}
-use Rattle.exchange.specs.Standings.{replyZeros, readers, tags, hasTwo, drawsOf, numberOf, turned, turnOf}
-use Rattle.exchange.specs.Drafts.{opening}
-use Rattle.exchange.specs.Turns.{replied, Table, table, Setting, answeredBy, answered}
+use Rattle.turns.specs.declared.Next.the-variants.{TagAnswers, RefusedByTag}
+use Rattle.turns.specs.declared.Plan.{Plan}
+use Rattle.turns.specs.Standings.{replyZeros, readers, tags, hasTwo, drawsOf, numberOf, turned, turnOf}
+use Rattle.turns.specs.Drafts.{opening}
+use Rattle.turns.specs.Turns.{replied, Table, table, Setting, answeredBy, answered}
 use Rattle.exchange.specs.Runs.{playedOf}
 use Rattle.exchange_claims.proofs.Stepping.{oneTurn, byTurns, tag-turn, played-turns, played-plus, settled-stays}
 use Rattle.exchange_claims.specs.Done.{openingOf, firstCall, withSession}

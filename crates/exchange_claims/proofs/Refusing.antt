@@ -7,10 +7,10 @@ use Rattle.offer.specs.declared.TagFault.{TagFault}
 use Rattle.offer.specs.declared.Outcome.the-variants.{Refused}
 use Rattle.tag.specs.States.{keyed, keyless, sessionAfter}
 use Rattle.tag.proofs.Unchanged.{refusal-unchanged}
-use Rattle.exchange.specs.declared.Plan.{Plan}
-use Rattle.exchange.specs.declared.Next.the-variants.{RefusedByTag}
-use Rattle.exchange.specs.Standings.{turned}
-use Rattle.exchange.specs.Turns.{Table, answerIn, answered, askedIn, replied}
+use Rattle.turns.specs.declared.Plan.{Plan}
+use Rattle.turns.specs.declared.Next.the-variants.{RefusedByTag}
+use Rattle.turns.specs.Standings.{turned}
+use Rattle.turns.specs.Turns.{Table, answerIn, answered, askedIn, replied}
 
 -- What a turn that the tag refused leaves: no reply, no byte of an area changed; the tag in Initial with nothing held
 -- (1 to 6) or as it was (7).

@@ -18,14 +18,14 @@ use Rattle.tag.specs.Reactions.{lent}
 use Rattle.tag.specs.States.{keyed, keyless}
 use Rattle.reader_judge.specs.Findings.{Finding}
 use Rattle.reader_judge.specs.Judged.{judgementOf}
-use Rattle.exchange.specs.declared.Next.{Next}
-use Rattle.exchange.specs.declared.Next.the-variants.{ReaderOpens, TagAnswers, RefusedByReader}
-use Rattle.exchange.specs.declared.Reply.{Reply}
-use Rattle.exchange.specs.declared.Standing.{Standing}
-use Rattle.exchange.specs.Standings.{messageZeros, replyZeros, dataZeros, messageIn, fresh, readers, tags, hasTwo}
-use Rattle.exchange.specs.Standings.{turnOf, endsWith, drawsOf, turned, sending, waits}
-use Rattle.exchange.specs.Drafts.{opening, sends}
-use Rattle.exchange.specs.Turns.{
+use Rattle.turns.specs.declared.Next.{Next}
+use Rattle.turns.specs.declared.Next.the-variants.{ReaderOpens, TagAnswers, RefusedByReader}
+use Rattle.turns.specs.declared.Reply.{Reply}
+use Rattle.turns.specs.declared.Standing.{Standing}
+use Rattle.turns.specs.Standings.{messageZeros, replyZeros, dataZeros, messageIn, fresh, readers, tags, hasTwo}
+use Rattle.turns.specs.Standings.{turnOf, endsWith, drawsOf, turned, sending, waits}
+use Rattle.turns.specs.Drafts.{opening, sends}
+use Rattle.turns.specs.Turns.{
   opened,
   findingIn,
   asked,

@@ -15,17 +15,17 @@ use Rattle.offer.specs.Records.{offered}
 use Rattle.entry.specs.Sessions.{cleared}
 use Rattle.tag.specs.declared.Tag.{Tag}
 use Rattle.tag.specs.States.{atRest, keyed}
-use Rattle.exchange.specs.declared.Method.{Method}
-use Rattle.exchange.specs.declared.Method.the-variants.{
+use Rattle.turns.specs.declared.Method.{Method}
+use Rattle.turns.specs.declared.Method.the-variants.{
   Tam1 as PicksTam1,
   Tam2 as PicksTam2,
   Iam2 as PicksIam2,
   Iam3 as PicksIam3,
   Mam as PicksMam,
 }
-use Rattle.exchange.specs.declared.Next.the-variants.{RefusedByTag}
-use Rattle.exchange.specs.Standings.{fresh, hasTwo, numberOf}
-use Rattle.exchange.specs.Turns.{Table, table, Setting}
+use Rattle.turns.specs.declared.Next.the-variants.{RefusedByTag}
+use Rattle.turns.specs.Standings.{fresh, hasTwo, numberOf}
+use Rattle.turns.specs.Turns.{Table, table, Setting}
 use Rattle.exchange.specs.Runs.{playedOf}
 use Rattle.exchange_claims.specs.Done.{firstCall, withSession}
 

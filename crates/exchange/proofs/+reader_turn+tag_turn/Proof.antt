@@ -2,7 +2,7 @@
 use native.Mathlib.Omega.{arith}
 use borrow.Author.Needs.{needs}
 use Rattle.ground.proofs.Told.{yes, no}
-use Rattle.exchange.specs.Turns.{setting}
+use Rattle.turns.specs.Turns.{setting}
 use Rattle.exchange.proofs.Handing.{reader-stops, reader-waits, reader-goes, tag-stops, tag-waits, tag-goes}
 use Prim.Native.Nat.{ℕ, _<_}
 use borrow.Fn.Kinds.{In}
@@ -13,10 +13,10 @@ use Rattle.exchange.proofs.+reader_turn+tag_turn.Lts-reader_turn as rea
 use Rattle.exchange.proofs.tag_turn.Reads as tag-turn
 use Rattle.exchange.proofs.tag_turn.Kinds as tag-turn-kinds
 use Rattle.exchange.proofs.+reader_turn+tag_turn.Lts-tag_turn as tag-turn-lts
-use Rattle.exchange.proofs.answers.act.Reads as answers-act-reads
-use Rattle.exchange.proofs.asks.act.Reads as asks-act-reads
-use Rattle.exchange.proofs.reader_next.Reads as reader-next-reads
-use Rattle.exchange.proofs.tag_next.Reads as tag-next-reads
+use Rattle.turns.proofs.answers.act.Reads as answers-act-reads
+use Rattle.turns.proofs.asks.act.Reads as asks-act-reads
+use Rattle.turns.proofs.reader_next.Reads as reader-next-reads
+use Rattle.turns.proofs.tag_next.Reads as tag-next-reads
 use Rattle.exchange.proofs.+reader_turn+tag_turn.{statement}
 use Rattle.exchange.proofs.+reader_turn+tag_turn.Tie.{close}
 

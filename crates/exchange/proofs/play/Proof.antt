@@ -1,6 +1,6 @@
 -- `exchange::play` meets its contract.
 use Rattle.ground.proofs.Told.{said}
-use Rattle.exchange.specs.Turns.{setting}
+use Rattle.turns.specs.Turns.{setting}
 use Rattle.exchange.proofs.Handing.{plays-tag, plays-reader}
 use borrow.Author.Needs.{needs}
 use Rattle.exchange.proofs.play.Statement.{statement}
