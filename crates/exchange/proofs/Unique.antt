@@ -1,5 +1,5 @@
--- No second answer fits the contract of the exported function: of the turns that are played what stands, the tag and both
--- areas are determined.
+-- No second answer fits the contract of the exported function: of the turns that are played what stands, the tag and
+-- both areas are determined.
 use mathlib.Core.Path.{refl}
 use Rattle.ground.specs.OneAnswer.{OneAnswer, one, _&_}
 use Rattle.turns.proofs.Unique.{returned}

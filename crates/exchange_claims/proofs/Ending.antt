@@ -20,8 +20,9 @@ use Rattle.turns.specs.Turns.{Table, Setting, findingIn, meets, asked, askedIn,
 use Rattle.turns.specs.Turns.{answerIn, answered}
 use Rattle.exchange.specs.Runs.{playedOf}
 use Rattle.exchange_claims.proofs.Afterwards.{sends-next, meets-next, replied-next}
-use Rattle.exchange_claims.proofs.Stepping.{oneTurn, byTurns, tagged, readered, reader-turn, tag-turn, settled-turn}
-use Rattle.exchange_claims.proofs.Stepping.{settled-turns, settled-stays, played-turns, played-plus}
+use Rattle.exchange_claims.proofs.Stepping.{oneTurn, byTurns, tagged, readered, reader-turn, tag-turn}
+use Rattle.exchange_claims.proofs.Stepping.{settled-turn, settled-turns, settled-stays, played-turns}
+use Rattle.exchange_claims.proofs.Stepping.{played-plus}
 
 -- How many turns an exchange can still take, of a method that has two or not.
 unfoldable pub toCome : Next → Bool → ℕ

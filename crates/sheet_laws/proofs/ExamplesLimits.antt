@@ -1,5 +1,5 @@
--- 33 at the edges of each kind's values: an area of 1,025 words, profile 16, a profile number that does not rise, a lock
--- of no words, a lock in area 2.
+-- 33 at the edges of each kind's values: an area of 1,025 words, profile 16, a profile number that does not rise, a
+-- lock of no words, a lock in area 2.
 use mathlib.Core.Path.{_≡_, refl}
 use mathlib.Core.List.{[], _∷_}
 use Prim.Native.Nat.{ℕ}
