@@ -1,7 +1,7 @@
 // An exchange between the two halves, stepped turn by turn (M-100): the reader's turn hands over to the tag's turn and
 // back.
+use plan::Plan;
 use tag::Tag;
-use turns::Plan;
 use turns::Played;
 use turns::Standing;
 use turns::answers;

@@ -11,14 +11,15 @@ use Rattle.reader.specs.declared.ReaderFault.{ReaderFault}
 use Rattle.reader.specs.declared.ReaderFault.the-variants.{OwnMessage}
 use Rattle.reader_judge.specs.declared.Verdict.{Verdict}
 use Rattle.reader_judge.specs.declared.Verdict.the-variants.{Accepted, Refused as Rejected}
-use Rattle.turns.specs.declared.Plan.{Plan}
+use Rattle.plan.specs.declared.Plan.{Plan}
 use Rattle.turns.specs.declared.Next.{Next}
 use Rattle.turns.specs.declared.Next.the-variants.{ReaderOpens, TagAnswers, ReaderCloses, TagEnds, Done}
 use Rattle.turns.specs.declared.Next.the-variants.{RefusedByTag, RefusedByReader}
 use Rattle.turns.specs.declared.Reply.{Reply}
 use Rattle.turns.specs.declared.Standing.{Standing}
 use Rattle.turns.specs.Standings.{readers, tags, verdictNext, endsWith}
-use Rattle.turns.specs.Drafts.{Draft, sends}
+use Rattle.plan.specs.Drafts.{Draft}
+use Rattle.turns.specs.Sends.{sends}
 use Rattle.turns.specs.Turns.{proves, meets, opened, closed, asked, ended, received, replied}
 
 -- ---- any test of what is next, by the ways a turn can end

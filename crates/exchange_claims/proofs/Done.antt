@@ -29,10 +29,10 @@ use Rattle.tag.specs.States.{keyed, keyless}
 use Rattle.reader_build.specs.Builds.{tam1Made, tam2Made}
 use Rattle.reader_judge.specs.declared.Verdict.the-variants.{Accepted}
 use Rattle.reader_judge.specs.Findings.{Finding, carries}
-use Rattle.turns.specs.declared.Method.{Method}
+use Rattle.plan.specs.declared.Method.{Method}
 use Rattle.turns.specs.declared.Found.{Found}
 use Rattle.turns.specs.Standings.{dataZeros, hasTwo, verdictNext}
-use Rattle.turns.specs.Drafts.{Draft, opening}
+use Rattle.plan.specs.Drafts.{Draft, opening}
 use Rattle.turns.specs.Turns.{Table, Setting}
 use Rattle.claims.specs.Recovery.{Taken, worthAsked, due}
 use Rattle.claims.proofs.Openings.{tam1-answered, tam2-answered}

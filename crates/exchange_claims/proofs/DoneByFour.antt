@@ -34,9 +34,9 @@ use Rattle.tag.specs.States.{keyed, keyless}
 use Rattle.reader_build.specs.Builds.{iam1Made, mam1Made, iam2Made, mam2Made, iam3Made}
 use Rattle.reader_judge.specs.Findings.{Finding, nothingMore, issues}
 use Rattle.reader_judge.specs.Judged.{judgementOf}
-use Rattle.turns.specs.declared.Method.{Method}
+use Rattle.plan.specs.declared.Method.{Method}
 use Rattle.turns.specs.Standings.{dataZeros, hasTwo, verdictNext}
-use Rattle.turns.specs.Drafts.{opening, closing}
+use Rattle.plan.specs.Drafts.{opening, closing}
 use Rattle.turns.specs.Turns.{Table, Setting}
 use Rattle.claims.specs.Recovery.{Taken, due}
 use Rattle.claims.proofs.Openings.{iam1-answered, mam1-answered}

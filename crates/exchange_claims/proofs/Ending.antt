@@ -9,13 +9,14 @@ use lib.Dec.{leb, eqb}
 use Rattle.ground.specs.Choice.{pick}
 use Rattle.modes.specs.Room.{over}
 use Rattle.offer.specs.declared.Outcome.{Outcome}
-use Rattle.turns.specs.declared.Plan.{Plan}
+use Rattle.plan.specs.declared.Plan.{Plan}
 use Rattle.turns.specs.declared.Next.{Next}
 use Rattle.turns.specs.declared.Next.the-variants.{ReaderOpens, TagAnswers, ReaderCloses, TagEnds, Done}
 use Rattle.turns.specs.declared.Next.the-variants.{RefusedByTag, RefusedByReader}
 use Rattle.turns.specs.declared.Standing.{Standing}
 use Rattle.turns.specs.Standings.{replyZeros, readers, tags, readerNext, tagNext, hasTwo, endsWith}
-use Rattle.turns.specs.Drafts.{opening, sends}
+use Rattle.plan.specs.Drafts.{opening}
+use Rattle.turns.specs.Sends.{sends}
 use Rattle.turns.specs.Turns.{Table, Setting, findingIn, meets, asked, askedIn, opened, closed, replied}
 use Rattle.turns.specs.Turns.{answerIn, answered}
 use Rattle.exchange.specs.Runs.{playedOf}

@@ -24,7 +24,8 @@ use Rattle.turns.specs.declared.Reply.{Reply}
 use Rattle.turns.specs.declared.Standing.{Standing}
 use Rattle.turns.specs.Standings.{messageZeros, replyZeros, dataZeros, messageIn, readers, tags, hasTwo, endsWith}
 use Rattle.turns.specs.Standings.{drawsOf, turned, sending, challenged, waits}
-use Rattle.turns.specs.Drafts.{opening, closing, sends}
+use Rattle.plan.specs.Drafts.{opening, closing}
+use Rattle.turns.specs.Sends.{sends}
 use Rattle.turns.specs.Turns.{
   proves,
   meets,

@@ -37,8 +37,8 @@ use Rattle.tag.specs.Answers.{
 use Rattle.tag.specs.Reactions.{lent}
 use Rattle.tag.specs.States.{KeyedTag, atRest, inTurn, keyed}
 use Rattle.reader_build.specs.Builds.{iam1Made, mam1Made}
-use Rattle.turns.specs.declared.Method.{Method}
-use Rattle.turns.specs.declared.Method.the-variants.{
+use Rattle.plan.specs.declared.Method.{Method}
+use Rattle.plan.specs.declared.Method.the-variants.{
   Tam1 as PicksTam1,
   Tam2 as PicksTam2,
   Iam2 as PicksIam2,
@@ -46,9 +46,9 @@ use Rattle.turns.specs.declared.Method.the-variants.{
   Mam as PicksMam,
 }
 use Rattle.turns.specs.declared.Next.the-variants.{TagAnswers, RefusedByTag}
-use Rattle.turns.specs.declared.Plan.{Plan}
+use Rattle.plan.specs.declared.Plan.{Plan}
 use Rattle.turns.specs.Standings.{replyZeros, readers, tags, hasTwo, drawsOf, numberOf, turned, turnOf}
-use Rattle.turns.specs.Drafts.{opening}
+use Rattle.plan.specs.Drafts.{opening}
 use Rattle.turns.specs.Turns.{replied, Table, table, Setting, answeredBy, answered}
 use Rattle.exchange.specs.Runs.{playedOf}
 use Rattle.exchange_claims.proofs.Stepping.{oneTurn, byTurns, tag-turn, played-turns, played-plus, settled-stays}

@@ -7,7 +7,7 @@ use Rattle.offer.specs.declared.TagFault.{TagFault}
 use Rattle.offer.specs.declared.Outcome.the-variants.{Refused}
 use Rattle.tag.specs.States.{keyed, keyless, sessionAfter}
 use Rattle.tag.proofs.Unchanged.{refusal-unchanged}
-use Rattle.turns.specs.declared.Plan.{Plan}
+use Rattle.plan.specs.declared.Plan.{Plan}
 use Rattle.turns.specs.declared.Next.the-variants.{RefusedByTag}
 use Rattle.turns.specs.Standings.{turned}
 use Rattle.turns.specs.Turns.{Table, answerIn, answered, askedIn, replied}

@@ -24,7 +24,8 @@ use Rattle.turns.specs.declared.Reply.{Reply}
 use Rattle.turns.specs.declared.Standing.{Standing}
 use Rattle.turns.specs.Standings.{messageZeros, replyZeros, dataZeros, messageIn, fresh, readers, tags, hasTwo}
 use Rattle.turns.specs.Standings.{turnOf, endsWith, drawsOf, turned, sending, waits}
-use Rattle.turns.specs.Drafts.{opening, sends}
+use Rattle.plan.specs.Drafts.{opening}
+use Rattle.turns.specs.Sends.{sends}
 use Rattle.turns.specs.Turns.{
   opened,
   findingIn,

@@ -26,11 +26,11 @@ use Rattle.reader.specs.Own.{modeFits}
 use Rattle.reader_build.specs.Builds.{purposeFits, iam3Fits}
 use Rattle.reader_judge.specs.declared.Worth.{Worth}
 use Rattle.reader_judge.specs.declared.Worth.the-variants.{NoData}
-use Rattle.turns.specs.declared.Method.the-variants.{Tam1 as PicksTam1, Tam2 as PicksTam2}
-use Rattle.turns.specs.declared.Method.the-variants.{Iam2 as PicksIam2, Iam3 as PicksIam3, Mam as PicksMam}
+use Rattle.plan.specs.declared.Method.the-variants.{Tam1 as PicksTam1, Tam2 as PicksTam2}
+use Rattle.plan.specs.declared.Method.the-variants.{Iam2 as PicksIam2, Iam3 as PicksIam3, Mam as PicksMam}
 use Rattle.turns.specs.declared.Next.the-variants.{TagAnswers, TagEnds, Done}
 use Rattle.turns.specs.Standings.{replyZeros, dataZeros, fresh}
-use Rattle.turns.specs.Drafts.{opening, closing}
+use Rattle.plan.specs.Drafts.{opening, closing}
 use Rattle.turns.specs.Turns.{Table, table, Setting}
 use Rattle.exchange.specs.Runs.{playedOf}
 use Rattle.claims.specs.Entry.{Array, Knows, Waits, Writable}

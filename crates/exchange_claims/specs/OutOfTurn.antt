@@ -15,8 +15,8 @@ use Rattle.offer.specs.Records.{offered}
 use Rattle.entry.specs.Sessions.{cleared}
 use Rattle.tag.specs.declared.Tag.{Tag}
 use Rattle.tag.specs.States.{atRest, keyed}
-use Rattle.turns.specs.declared.Method.{Method}
-use Rattle.turns.specs.declared.Method.the-variants.{
+use Rattle.plan.specs.declared.Method.{Method}
+use Rattle.plan.specs.declared.Method.the-variants.{
   Tam1 as PicksTam1,
   Tam2 as PicksTam2,
   Iam2 as PicksIam2,

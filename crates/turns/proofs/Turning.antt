@@ -16,16 +16,16 @@ use Rattle.tag.specs.declared.Stepped.{Stepped}
 use Rattle.tag.specs.States.{KeyedTag}
 use Rattle.tag.specs.Answers.{Answer, answerOf}
 use Rattle.tag.specs.Reactions.{lent, Steps}
-use Rattle.turns.specs.declared.Method.{Method}
 use Rattle.turns.specs.declared.Next.{Next}
 use Rattle.turns.specs.declared.Next.the-variants.{RefusedByReader}
-use Rattle.turns.specs.declared.Plan.{Plan}
+use Rattle.plan.specs.declared.Plan.{Plan}
 use Rattle.turns.specs.declared.Sent.{Sent}
 use Rattle.turns.specs.declared.Reply.{Reply}
 use Rattle.turns.specs.declared.Found.{Found}
 use Rattle.turns.specs.declared.Standing.{Standing}
 use Rattle.turns.specs.Standings.{messageZeros, replyZeros, dataZeros, verdictNext, turned, sending, concludes}
-use Rattle.turns.specs.Drafts.{Draft, sends, sendsMade}
+use Rattle.plan.specs.Drafts.{Draft}
+use Rattle.turns.specs.Sends.{sends, sendsMade}
 use Rattle.turns.specs.Turns.{Plays, findingIn, meets, closed, ended, replied, answeredBy}
 
 -- a standing that is built anew, by the number of turns that are left
@@ -44,12 +44,6 @@ built-anew next sent reply challenge found l m e =
     }) e
 
 -- ---- the reader's messages
-
--- a message by its method, which the match found
-pub by-method : (f : Method → Draft) (m k : Method) (room after : List ℕ) (r : Made) → m ≡ k
-    → Makes (f k .fit) (f k .message) room r after → Makes (f m .fit) (f m .message) room r after
-by-method f m k room after r e h =
-    subst (λ (x : Method). Makes (f x .fit) (f x .message) room r after) (sym e) h
 
 enough : (fit : Bool) → taken fit messageZeros ≡ fit
 enough true = refl

@@ -10,8 +10,8 @@ use Rattle.reader.specs.Numbers.{numberOf as readerNumber}
 use Rattle.reader_judge.specs.declared.Worth.the-variants.{NoData}
 use Rattle.reader_judge.specs.declared.Verdict.{Verdict}
 use Rattle.reader_judge.specs.declared.Verdict.the-variants.{Accepted, Refused}
-use Rattle.turns.specs.declared.Method.{Method}
-use Rattle.turns.specs.declared.Method.the-variants.{Tam1, Tam2, Iam2, Iam3, Mam}
+use Rattle.plan.specs.declared.Method.{Method}
+use Rattle.plan.specs.declared.Method.the-variants.{Tam1, Tam2, Iam2, Iam3, Mam}
 use Rattle.turns.specs.declared.Next.{Next}
 use Rattle.turns.specs.declared.Next.the-variants.{ReaderOpens, TagAnswers, ReaderCloses, TagEnds, Done}
 use Rattle.turns.specs.declared.Next.the-variants.{RefusedByTag, RefusedByReader}

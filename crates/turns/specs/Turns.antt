@@ -17,7 +17,7 @@ use Rattle.tag.specs.declared.Tag.{Tag}
 use Rattle.tag.specs.States.{keyed, keyless}
 use Rattle.tag.specs.Answers.{Answer, answerOf}
 use Rattle.tag.specs.Reactions.{lent}
-use Rattle.turns.specs.declared.Plan.{Plan}
+use Rattle.plan.specs.declared.Plan.{Plan}
 use Rattle.turns.specs.declared.Next.{Next}
 use Rattle.turns.specs.declared.Next.the-variants.{ReaderOpens, TagAnswers, ReaderCloses, TagEnds, Done}
 use Rattle.turns.specs.declared.Next.the-variants.{RefusedByTag, RefusedByReader}
@@ -26,7 +26,8 @@ use Rattle.turns.specs.declared.Standing.{Standing}
 use Rattle.turns.specs.declared.Played.{Played}
 use Rattle.turns.specs.Standings.{replyZeros, dataZeros, messageIn, replyIn, endsWith, drawsOf, verdictNext}
 use Rattle.turns.specs.Standings.{turned, challenged, waits, concludes}
-use Rattle.turns.specs.Drafts.{opening, closing, sends}
+use Rattle.plan.specs.Drafts.{opening, closing}
+use Rattle.turns.specs.Sends.{sends}
 
 -- ---- the reader's turns
 

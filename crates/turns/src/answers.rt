@@ -1,8 +1,6 @@
 // The tag's turns: it answers, and the reply that ends the exchange is judged in the turn that brings it.
 use super::Found;
-use super::Method;
 use super::Next;
-use super::Plan;
 use super::Played;
 use super::Reply;
 use super::Sent;
@@ -16,6 +14,8 @@ use frames::sizes::REPLY_ROOM;
 use octets::front;
 use octets::tail;
 use offer::Outcome;
+use plan::Method;
+use plan::Plan;
 use reader_judge::Verdict;
 use tag::Stepped;
 use tag::Tag;

@@ -1,15 +1,14 @@
 // The reader's turns: the first builds the message that opens the exchange; the third judges the tag's challenge and
 // builds the message that answers it.
 use super::Next;
-use super::Plan;
 use super::Standing;
-use super::built;
 use super::judging::judged;
 use super::standings::challenged;
 use super::standings::sends;
 use super::standings::turned;
 use frames::sizes::DATA_ROOM;
 use frames::sizes::MESSAGE_ROOM;
+use plan::Plan;
 use reader_judge::Verdict;
 ghost use mathlib.Core.Path.{_≡_};
 ghost use Rattle.turns.specs.Turns.{opened, proves, meets, closed, asked};
@@ -19,7 +18,7 @@ fn opens(plan: Plan, standing: Standing) -> Standing
     ensures { λ r. ⌜ r ≡ opened plan standing ⌝ }
 {
     let mut room = [0u8; MESSAGE_ROOM];
-    let made = built::opening(plan, &mut room);
+    let made = plan::opening(plan, &mut room);
     sends(Next::TagAnswers, standing, made, room)
 }
 
@@ -28,7 +27,7 @@ fn prove(plan: Plan, words: &[u8], challenge: [u8; 10], standing: Standing) -> S
     ensures { λ r. ⌜ r ≡ proves plan (now (words .entry)) challenge standing ⌝ }
 {
     let mut room = [0u8; MESSAGE_ROOM];
-    let made = built::closing(plan, challenge, words, &mut room);
+    let made = plan::closing(plan, challenge, words, &mut room);
     let held = challenged(challenge, standing);
     sends(Next::TagEnds, held, made, room)
 }

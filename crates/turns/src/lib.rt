@@ -1,45 +1,20 @@
 // A turn of an exchange (M-100), the reader's and the tag's, and what stands between two: a value, so that any turn may
 // be the last that is played for now. Crate exchange plays turn after turn.
-use frames::Custom;
 use frames::sizes::DATA_ROOM;
 use frames::sizes::MESSAGE_ROOM;
 use frames::sizes::REPLY_ROOM;
 use offer::Outcome;
 use offer::TagFault;
-use reader::Keys;
 use reader::ReaderFault;
 use reader_judge::Worth;
 use tag::Tag;
 ghost use mathlib.Core.Path.{_≡_};
 ghost use Rattle.turns.specs.Standings.{begunOf, numberOf, readers, tags, readerNext, tagNext, waiting};
 
-mod built; // built.rt: the messages that the reader sends
 mod standings; // standings.rt: what a turn makes of what stands
 mod judging; // judging.rt: the reader's side judges a reply
 pub mod asks; // asks.rt: the reader's turns
 pub mod answers; // answers.rt: the tag's turns
-
-/// What the trainee picks.
-pub enum Method {
-    Tam1,
-    Tam2,
-    Iam2,
-    Iam3,
-    Mam,
-}
-
-/// The method, the reader's keys, the fields of its messages, and its random bytes: a message reads those that it has.
-pub struct Plan {
-    pub method: Method,
-    pub keys: Keys,
-    pub keyid: u8,
-    pub ichallenge: [u8; 10],
-    pub rev: bool,
-    pub custom: Custom,
-    pub protmode: u8,
-    pub purpose: u8,
-    pub irnd: [u8; 4],
-}
 
 /// Whose turn is next, or how the exchange ended. TAM has the first two turns, IAM and MAM all four.
 pub enum Next {

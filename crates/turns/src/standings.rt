@@ -13,7 +13,7 @@ use reader_judge::Worth;
 ghost use mathlib.Core.Path.{_≡_};
 ghost use Prim.Native.Nat.{_-_};
 ghost use Rattle.turns.specs.Standings.{fresh, unbegun, turned, challenged, waits, concludes};
-ghost use Rattle.turns.specs.Drafts.{sendsMade};
+ghost use Rattle.turns.specs.Sends.{sendsMade};
 
 /// Before the first turn. Ruled out: a limit that is not kept; bytes that stand there already.
 pub fn fresh(limit: u8) -> Standing

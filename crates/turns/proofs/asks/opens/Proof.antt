@@ -1,7 +1,7 @@
 -- `turns::asks::opens` meets its contract.
 use mathlib.Core.Path.{refl}
 use Rattle.turns.specs.declared.Next.the-variants.{TagAnswers}
-use Rattle.turns.specs.Drafts.{opening}
+use Rattle.plan.specs.Drafts.{opening}
 use Rattle.turns.specs.Turns.{opened}
 use Rattle.turns.proofs.Turning.{sends-by}
 use borrow.Author.Needs.{needs}

@@ -1,7 +1,7 @@
 -- `turns::asks::prove` meets its contract.
 use Rattle.turns.specs.declared.Next.the-variants.{TagEnds}
 use Rattle.turns.specs.Standings.{challenged}
-use Rattle.turns.specs.Drafts.{closing}
+use Rattle.plan.specs.Drafts.{closing}
 use Rattle.turns.specs.Turns.{proves}
 use Rattle.turns.proofs.Turning.{sends-by}
 use borrow.Author.Needs.{needs}

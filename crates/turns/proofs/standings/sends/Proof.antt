@@ -1,7 +1,7 @@
 -- `turns::standings::sends` meets its contract.
 use mathlib.Core.Path.{sym, ap, _∙_}
 use Rattle.reader_build.specs.declared.Made.{Made}
-use Rattle.turns.specs.Drafts.{sendsMade}
+use Rattle.turns.specs.Sends.{sendsMade}
 use Rattle.turns.proofs.Turning.{sends-message}
 use borrow.Author.Needs.{needs}
 use Rattle.turns.proofs.standings.sends.Statement.{statement}

@@ -1,24 +1,16 @@
--- The reader's messages in an exchange, by the method that the trainee picked, and what becomes of them.
+-- The reader's messages in an exchange, by the method that the trainee picked.
 use Prim.Native.Nat.{ℕ}
 use mathlib.Core.Bool.{Bool, true, false}
 use mathlib.Core.List.{List, []}
 use lib.ListN.{length}
-use Rattle.ground.specs.Choice.{pick, both}
-use Rattle.modes.specs.Room.{over}
+use Rattle.ground.specs.Choice.{both}
 use Rattle.frames.specs.Fields.{customFits}
 use Rattle.reader.specs.Own.{modeFits}
-use Rattle.reader.specs.declared.ReaderFault.the-variants.{OwnMessage}
-use Rattle.reader_build.specs.declared.Made.{Made}
-use Rattle.reader_build.specs.declared.Made.the-variants.{Message, Refused}
 use Rattle.reader_build.specs.Builds.{purposeFits, iam3Fits, tam1Made, tam2Made, iam1Made, mam1Made, iam2Made}
 use Rattle.reader_build.specs.Builds.{mam2Made, iam3Made}
-use Rattle.turns.specs.declared.Method.{Method}
-use Rattle.turns.specs.declared.Method.the-variants.{Tam1, Tam2, Iam2, Iam3, Mam}
-use Rattle.turns.specs.declared.Plan.{Plan}
-use Rattle.turns.specs.declared.Next.{Next}
-use Rattle.turns.specs.declared.Next.the-variants.{RefusedByReader}
-use Rattle.turns.specs.declared.Standing.{Standing}
-use Rattle.turns.specs.Standings.{messageZeros, turned, sending}
+use Rattle.plan.specs.declared.Method.{Method}
+use Rattle.plan.specs.declared.Method.the-variants.{Tam1, Tam2, Iam2, Iam3, Mam}
+use Rattle.plan.specs.declared.Plan.{Plan}
 
 -- A message, and whether what it says is fit to be sent.
 pub record Draft : Type 0 where
@@ -49,14 +41,3 @@ closing p words tchallenge Iam3 =
     (iam3Made (p .keys) (p .custom) (p .protmode) (p .purpose) (p .irnd) tchallenge words)
 closing p words tchallenge Mam =
     draft (purposeFits (p .purpose)) (mam2Made (p .keys) (p .purpose) (p .ichallenge) tchallenge)
-
--- A draft that is fit is sent; any other ends the exchange with the reader's 24.
-unfoldable pub sends : Next → Standing → Draft → Standing
-sends next s d =
-    pick (d .fit) (sending next s (over (d .message) messageZeros) (length (d .message)))
-    (turned (RefusedByReader OwnMessage) s)
-
--- The same of what a builder answered, its message in a room.
-unfoldable pub sendsMade : Next → Standing → Made → List ℕ → Standing
-sendsMade next s (Message n) room = sending next s room n
-sendsMade next s (Refused f) room = turned (RefusedByReader f) s

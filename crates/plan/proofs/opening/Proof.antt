@@ -1,10 +1,10 @@
--- `turns::built::opening` meets its contract.
-use Rattle.turns.specs.declared.Method.the-variants.{Tam1, Tam2, Iam2, Iam3, Mam}
-use Rattle.turns.specs.Drafts.{opening}
-use Rattle.turns.proofs.Turning.{by-method}
+-- `plan::opening` meets its contract.
+use Rattle.plan.specs.declared.Method.the-variants.{Tam1, Tam2, Iam2, Iam3, Mam}
+use Rattle.plan.specs.Drafts.{opening}
+use Rattle.plan.proofs.ByMethod.{by-method}
 use borrow.Author.Needs.{needs}
-use Rattle.turns.proofs.built.opening.Statement.{statement}
-use Rattle.turns.proofs.built.opening.Tie as tie
+use Rattle.plan.proofs.opening.Statement.{statement}
+use Rattle.plan.proofs.opening.Tie as tie
 
 enum-told : tie.Need-enum-told
 enum-told c = search needs

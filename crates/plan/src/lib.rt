@@ -1,10 +1,32 @@
-// The messages that the reader sends in an exchange, by its method.
-use super::Method;
-use super::Plan;
+// What the trainee plans of an exchange (M-100), and the messages that the reader sends by it.
+use frames::Custom;
+use reader::Keys;
 use reader::ReaderFault;
 use reader_build::Made;
 ghost use Rattle.reader_build.specs.Makes.{Makes};
-ghost use Rattle.turns.specs.Drafts.{opening, closing};
+ghost use Rattle.plan.specs.Drafts.{opening, closing};
+
+/// What the trainee picks.
+pub enum Method {
+    Tam1,
+    Tam2,
+    Iam2,
+    Iam3,
+    Mam,
+}
+
+/// The method, the reader's keys, the fields of its messages, and its random bytes: a message reads those that it has.
+pub struct Plan {
+    pub method: Method,
+    pub keys: Keys,
+    pub keyid: u8,
+    pub ichallenge: [u8; 10],
+    pub rev: bool,
+    pub custom: Custom,
+    pub protmode: u8,
+    pub purpose: u8,
+    pub irnd: [u8; 4],
+}
 
 /// The message that opens an exchange. Ruled out: MAM1 for an IAM; a TAM1 where the trainee picked TAM2.
 pub fn opening(plan: Plan, room: &mut [u8]) -> Made

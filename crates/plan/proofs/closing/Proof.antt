@@ -1,14 +1,14 @@
--- `turns::built::closing` meets its contract.
+-- `plan::closing` meets its contract.
 use mathlib.Core.Path.{refl}
 use mathlib.Core.Bool.{false}
 use mathlib.Core.List.{[]}
-use Rattle.turns.specs.declared.Method.the-variants.{Tam1, Tam2, Iam2, Iam3, Mam}
-use Rattle.turns.specs.Drafts.{closing}
+use Rattle.plan.specs.declared.Method.the-variants.{Tam1, Tam2, Iam2, Iam3, Mam}
+use Rattle.plan.specs.Drafts.{closing}
 use Rattle.reader_build.proofs.Making.{unfit}
-use Rattle.turns.proofs.Turning.{by-method}
+use Rattle.plan.proofs.ByMethod.{by-method}
 use borrow.Author.Needs.{needs}
-use Rattle.turns.proofs.built.closing.Statement.{statement}
-use Rattle.turns.proofs.built.closing.Tie as tie
+use Rattle.plan.proofs.closing.Statement.{statement}
+use Rattle.plan.proofs.closing.Tie as tie
 
 enum-told : tie.Need-enum-told
 enum-told c = search needs

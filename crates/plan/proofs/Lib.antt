@@ -1,0 +1,2 @@
+pub mod ByMethod
+pub mod Unique
