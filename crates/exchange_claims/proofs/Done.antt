@@ -1,7 +1,7 @@
 -- A TAM exchange is done after two turns: the opening is taken, and the reader's side recovers what the tag put in.
 use mathlib.Core.Path.{_≡_, refl, sym, ap, _∙_, subst}
 use mathlib.Core.Bool.{true}
-use mathlib.Core.List.{List, []}
+use mathlib.Core.List.{List}
 use Prim.Native.Nat.{ℕ, _≤_, _<_}
 use native.Mathlib.Omega.{arith}
 use native.Mathlib.Nat.{le-refl}
@@ -24,7 +24,7 @@ use Rattle.offer.specs.Records.{blockAsked}
 use Rattle.offer.proofs.Passed.{mode-named}
 use Rattle.entry.specs.Sessions.{cleared}
 use Rattle.tag.specs.declared.Tag.{Tag}
-use Rattle.tag.specs.Answers.{Answer, replied, answerWith, answerOf}
+use Rattle.tag.specs.Answers.{Answer, replied, answerWith}
 use Rattle.tag.specs.States.{keyed, keyless}
 use Rattle.reader_build.specs.Builds.{tam1Made, tam2Made}
 use Rattle.reader_judge.specs.declared.Verdict.the-variants.{Accepted}
@@ -32,12 +32,12 @@ use Rattle.reader_judge.specs.Findings.{Finding, carries}
 use Rattle.plan.specs.declared.Method.{Method}
 use Rattle.turns.specs.declared.Found.{Found}
 use Rattle.turns.specs.Standings.{dataZeros, hasTwo, verdictNext}
-use Rattle.plan.specs.Drafts.{Draft, opening}
+use Rattle.plan.specs.Drafts.{opening}
 use Rattle.turns.specs.Turns.{Table, Setting}
 use Rattle.claims.specs.Recovery.{Taken, worthAsked, due}
 use Rattle.claims.proofs.Openings.{tam1-answered, tam2-answered}
 use Rattle.claims.proofs.Recovery.{recovery}
-use Rattle.exchange_claims.specs.Done.{openingOf, firstCall, Fitted, DoneWith, DoneAfterTwo, Tam1Done, Tam2Done}
+use Rattle.exchange_claims.specs.Done.{openingOf, firstCall, Fitted, DoneAfterTwo, Tam1Done, Tam2Done}
 use Rattle.exchange_claims.proofs.TwoTurns.{start, answer, finding, after, after-one, after-two}
 
 -- an opening that is answered by r, of which the reader's side finds f

@@ -12,7 +12,7 @@ use Rattle.frames.specs.declared.Kind.{Kind}
 use Rattle.frames.specs.declared.Kind.the-variants.{Iam1, Iam2, Iam3, Mam1, Mam2}
 use Rattle.frames.specs.Kinds.{kindOf, iamKind, mamKind}
 use Rattle.frames.specs.Messages.{iam1Message, iam2Message, mam2Message}
-use Rattle.frames.proofs.Shape.{iam1-shape, mam1-shape}
+use Rattle.frames.proofs.Shape.{mam1-shape}
 use Rattle.reader_build.specs.Builds.{iam3InMode}
 use Rattle.reader_build.specs.Builds.{iam3Whole}
 use Rattle.frames.specs.Messages.{iam3Head}
@@ -27,9 +27,8 @@ use Rattle.keytable.specs.Named.{keyWith}
 use Rattle.offer.specs.Records.{modeSupported}
 use Rattle.entry.specs.declared.Session.{Session}
 use Rattle.entry.specs.declared.State.the-variants.{IamInit, MamInit}
-use Rattle.entry.specs.Sessions.{entered}
 use Rattle.tag.specs.declared.Tag.{Tag}
-use Rattle.tag.specs.Answers.{Answer, replied, letIn, answerWith, answerOf}
+use Rattle.tag.specs.Answers.{Answer, replied, letIn, answerWith}
 use Rattle.tag.specs.States.{keyed, keyless}
 use Rattle.reader_build.specs.Builds.{iam1Made, mam1Made, iam2Made, mam2Made, iam3Made}
 use Rattle.reader_judge.specs.Findings.{Finding, nothingMore, issues}
@@ -44,7 +43,7 @@ use Rattle.claims.proofs.Entry.{iam2-enters, mam2-enters}
 use Rattle.claims.proofs.EntryIam3.{iam3-enters}
 use Rattle.claims.proofs.Recovery.{recovery}
 use Rattle.exchange_claims.specs.Done.{openingOf, firstCall, closingOf, secondCall, withSession, heldAfter}
-use Rattle.exchange_claims.specs.Done.{FittedTwice, LetIn, DoneAfterFour, Iam2Done, MamDone, Iam3Done}
+use Rattle.exchange_claims.specs.Done.{FittedTwice, DoneAfterFour, Iam2Done, MamDone, Iam3Done}
 use Rattle.exchange_claims.proofs.TwoTurns.{start, answer}
 use Rattle.exchange_claims.proofs.FourTurns.{second, after-three, after-four}
 

@@ -1,6 +1,6 @@
 -- Four turns of an exchange: the reader opens, the tag answers with its challenge; the reader answers that, and the tag
 -- lets it in, which is judged in the tag's turn.
-use mathlib.Core.Path.{_≡_, refl, sym, ap, _∙_}
+use mathlib.Core.Path.{_≡_, refl, ap, _∙_}
 use mathlib.Core.Bool.{Bool, true, false}
 use mathlib.Core.List.{List, []}
 use Prim.Native.Nat.{ℕ, _+_, _-_, _≤_}
@@ -10,11 +10,9 @@ use lib.Seq.{take-at}
 use Rattle.ground.specs.Choice.{pick}
 use Rattle.modes.specs.Room.{over}
 use Rattle.reader.specs.declared.ReaderFault.the-variants.{OwnMessage}
-use Rattle.offer.specs.declared.Outcome.{Outcome}
-use Rattle.offer.specs.declared.Outcome.the-variants.{Replied, Entered}
 use Rattle.entry.specs.declared.Session.{Session}
 use Rattle.tag.specs.declared.Tag.{Tag}
-use Rattle.tag.specs.Answers.{Answer, Effect, replied as answersWith, letIn, answerWith, answerOf}
+use Rattle.tag.specs.Answers.{Answer, replied as answersWith, letIn, answerWith, answerOf}
 use Rattle.tag.specs.Reactions.{lent}
 use Rattle.tag.specs.States.{keyed, keyless}
 use Rattle.reader_judge.specs.Findings.{Finding, issues}

@@ -10,7 +10,6 @@ use Rattle.ground.specs.Bytes.{byteAt}
 use Rattle.ground.specs.Choice.{pick}
 use Rattle.modes.specs.Room.{over}
 use Rattle.frames.specs.declared.Kind.{Kind}
-use Rattle.frames.specs.declared.Kind.the-variants.{Iam1, Mam1}
 use Rattle.frames.specs.Kinds.{kindOf, iamKind}
 use Rattle.frames.specs.Messages.{iam1Message}
 use Rattle.frames.proofs.Shape.{mam1-shape}
@@ -49,11 +48,11 @@ use Rattle.turns.specs.declared.Next.the-variants.{TagAnswers, RefusedByTag}
 use Rattle.plan.specs.declared.Plan.{Plan}
 use Rattle.turns.specs.Standings.{replyZeros, readers, tags, hasTwo, drawsOf, numberOf, turned, turnOf}
 use Rattle.plan.specs.Drafts.{opening}
-use Rattle.turns.specs.Turns.{replied, Table, table, Setting, answeredBy, answered}
+use Rattle.turns.specs.Turns.{replied, Table, table, answeredBy, answered}
 use Rattle.exchange.specs.Runs.{playedOf}
 use Rattle.exchange_claims.proofs.Stepping.{oneTurn, byTurns, tag-turn, played-turns, played-plus, settled-stays}
-use Rattle.exchange_claims.specs.Done.{openingOf, firstCall, withSession}
-use Rattle.exchange_claims.specs.OutOfTurn.{openingKind, EndedByFive, EndsOutOfTurn}
+use Rattle.exchange_claims.specs.Done.{firstCall, withSession}
+use Rattle.exchange_claims.specs.OutOfTurn.{openingKind, EndsOutOfTurn}
 use Rattle.exchange_claims.proofs.TwoTurns.{whose-turn, start, sent, there, opens}
 
 -- a message that the tag offers, but out of its turn

@@ -1,5 +1,5 @@
 -- Two turns of an exchange: the reader opens, the tag answers, and the reply is judged in the tag's turn.
-use mathlib.Core.Path.{_≡_, refl, sym, ap, _∙_}
+use mathlib.Core.Path.{_≡_, refl, ap, _∙_}
 use mathlib.Core.Bool.{Bool, true, false}
 use mathlib.Core.List.{List}
 use Prim.Native.Nat.{ℕ, _+_, _-_, _≤_, _<_}
@@ -37,7 +37,6 @@ use Rattle.turns.specs.Turns.{
   Table,
   table,
   Setting,
-  answerIn,
   answeredBy,
   answered,
   askedIn,
