@@ -1,4 +1,6 @@
 // AES-128 encryption (FIPS 197). There is no inverse cipher here: a tag has none.
+#![tactic(auto)]
+
 ghost use Rattle.std.specs.Prelude.{◌≡◌};
 ghost use Rattle.field.specs.Sbox.{sbox_table};
 ghost use Rattle.aes.specs.Cipher.{mixed, sub_bytes, shift_rows, mix_columns, add_round_key, cipher};

@@ -1,4 +1,6 @@
 // AES-128 decryption (FIPS 197, section 5.3). Only the reader's side has it: the reader decrypts to send.
+#![tactic(auto)]
+
 ghost use Rattle.std.specs.Prelude.{◌≡◌};
 ghost use Rattle.field.specs.Field.{times};
 ghost use Rattle.aes.specs.Cipher.{add_round_key};

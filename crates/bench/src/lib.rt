@@ -1,5 +1,7 @@
 // The bench: it keeps one tag, and steps it where it is stored. What a step does is said once, of the tag by value, in
 // crate tag.
+#![tactic(auto)]
+
 pub mod cursor; // cursor.rt: a sheet, and a place in it
 
 ghost use Rattle.std.specs.Prelude.{◌≡◌};

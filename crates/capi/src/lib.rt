@@ -1,5 +1,7 @@
 // The functions that a program in C or Rust links (`rt staticlib capi`). Nothing checks the caller: it must pass what
 // the parameters' types say.
+#![tactic(auto)]
+
 ghost use Rattle.std.specs.Prelude.{◌≡◌};
 ghost use Rattle.aes.specs.AesEnc.{aes_enc};
 ghost use Rattle.aes_inverse.specs.AesDec.{aes_dec};

@@ -1,4 +1,6 @@
 // The cipher's commands: aes, cbc, cmac.
+#![tactic(auto)]
+
 use console::answer::within;
 use console::fields::sixteen;
 use console::words::word;

@@ -1,4 +1,6 @@
 // The bench's commands: which one a line is, and what is kept from one to the next.
+#![tactic(auto)]
+
 use console::fields;
 use console::words::word;
 use lines::print;

@@ -1,5 +1,7 @@
 // Entry: how a reader is let in by IAM (9.5) and MAM (9.6), and the words that an IAM3 writes. Each message for any
 // input: whether it is offered and in its turn is not judged here.
+#![tactic(auto)]
+
 ghost use Rattle.std.specs.Prelude.{◌≡◌, replicate};
 ghost use Rattle.sheet.specs.KeyTable.{keys_in};
 ghost use Rattle.sheet.specs.Setups.{setup_of};

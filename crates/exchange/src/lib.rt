@@ -1,5 +1,7 @@
 // An exchange between the two halves, stepped turn by turn (M-100): the reader's turn hands over to the tag's turn and
 // back.
+#![tactic(auto)]
+
 ghost use Rattle.turns.specs.Turns.{setting, table, Plays};
 ghost use Rattle.exchange.specs.Runs.{reader_run, tag_run, played_of};
 

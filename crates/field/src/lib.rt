@@ -1,5 +1,7 @@
 // The field of 256 elements and blocks of sixteen bytes: what both ways of the cipher share (FIPS 197, sections 3 and
 // 4), with the S-box (5.1.1).
+#![tactic(auto)]
+
 ghost use Rattle.std.specs.Prelude.{◌≡◌, get_or};
 ghost use Rattle.field.specs.Field.{times};
 ghost use Rattle.field.specs.Sbox.{sbox_table};

@@ -1,5 +1,7 @@
 // What a message says: the seven messages of ISO/IEC 29167-10, their fields, lengths, header and constants.
 // Both halves, the tag and the reader's side, read and write messages here.
+#![tactic(auto)]
+
 use memory::{BlockSize, Offset};
 
 pub mod first; // first.rt: which message a first byte begins

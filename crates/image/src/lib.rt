@@ -1,4 +1,6 @@
 // A tag in the memory of its caller: an image of bytes that is taken apart by copying (specs/Image.antt).
+#![tactic(auto)]
+
 ghost use Rattle.std.specs.Prelude.{◌≡◌};
 ghost use Rattle.image.specs.Image.{kept, session_in, terms_in, table_in, is_tag};
 ghost use Rattle.image.specs.Kept.{Laid};

@@ -1,4 +1,6 @@
 // The bench's commands, line by line: those of standard input, and those of a script.
+#![tactic(auto)]
+
 use commands::Desk;
 use console::answer;
 use console::words::{before_comment, count};

@@ -1,4 +1,6 @@
 // The key table of a tag, lent as it stands in its sheet: key records one after the other, found by KeyID in place.
+#![tactic(auto)]
+
 ghost use Rattle.std.specs.Prelude.{◌≡◌, length};
 ghost use Rattle.sheet.specs.Kinds.{body_length};
 ghost use Rattle.sheet.specs.Records.{key_of};

@@ -1,4 +1,6 @@
 // Where a tag's words are: ISO/IEC 29167-10, 9.2 and clause 11, and the scope paper, "Memory".
+#![tactic(auto)]
+
 ghost use Rattle.std.specs.Prelude.{◌≡◌, not, ◌+◌, max, leb};
 ghost use Rattle.memory.specs.Address.{area_number, step_of, address_of, overruns};
 ghost use Rattle.memory.specs.Areas.{first_byte, byte_count, part_of, window_of, written, stored_in};

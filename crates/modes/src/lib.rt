@@ -1,5 +1,7 @@
 // What is built on AES-ENC: chaining (ISO/IEC 29167-10 3.1.8 and 3.1.11; SP 800-38A) and the MAC (3.1.1 and 3.1.13; SP
 // 800-38B).
+#![tactic(auto)]
+
 ghost use Rattle.std.specs.Prelude.{◌≡◌, ◌≤◌, ◌%◌, length};
 ghost use Rattle.modes.specs.Blocks.{whole_blocks};
 ghost use Rattle.modes.specs.Cbc.{cbc_enc_aes, cbc_dec_aes};

@@ -1,4 +1,6 @@
 // What is built on AES-DEC: the two forms of chaining that the reader's side needs (ISO/IEC 29167-10 3.1.9 and 3.1.10).
+#![tactic(auto)]
+
 ghost use Rattle.std.specs.Prelude.{◌≤◌, ◌≡◌, length};
 ghost use Rattle.aes_inverse.specs.AesDec.{aes_dec};
 ghost use Rattle.modes.specs.Room.{Into, chains, over};

@@ -1,5 +1,5 @@
 -- Bytes from a place on.
-use mathlib.Core.Path.{◌≡◌, refl, sym, ap, ap₂, ◌∙◌}
+use mathlib.Core.Path.{◌≡◌, refl, sym, ap, ◌∙◌}
 use mathlib.Core.List.{List, [], ◌∷◌, ◌++◌, append-nil}
 use Prim.Native.Nat.{ℕ, zero, suc, ◌+◌, ◌≤◌, ◌<◌}
 use native.Mathlib.Omega.{arith}
@@ -15,7 +15,7 @@ use lib.ListN.{
   take-append-drop,
   get_or-append,
 }
-use lib.Seq.{length-take-le, take-length, take_all, get_or-drop, ext_get_or}
+use lib.Seq.{length-take-le, take_all, get_or-drop, ext_get_or}
 use Rattle.octets.specs.Parts.{bytes_from}
 
 pub bytes_length : (s : List ℕ) (i n : ℕ) → length (bytes_from s i n) ≡ n
@@ -61,19 +61,16 @@ pub bytes_within : (s : List ℕ) (n at : ℕ) → at + n ≤ length s → bytes
 bytes_within s n at h = sym (bytes_drop s n at) ∙ bytes_taken (drop at s) n (omega (arith, length-drop at s))
 
 -- a copy into a room that it does not fill, and into one that it fills
-pub copied_short : (s room r : List ℕ) → length s < length room → r ≡ take (length s) s ++ drop (length s) room
-    → r ≡ take (length room) s ++ drop (length s) room
+pub copied_short : (s room r : List ℕ) → length s < length room → r ≡ s
+    → r ++ drop (length s) room ≡ take (length room) s ++ drop (length s) room
 copied_short s room r h e =
-    e ∙ ap (λ (l : List ℕ). l ++ drop (length s) room) (take-length s ∙ sym (take_all (length room) s (omega arith)))
+    ap (λ (l : List ℕ). l ++ drop (length s) room) (e ∙ sym (take_all (length room) s (omega arith)))
 
-pub copied_full : (s room r : List ℕ) → length room ≤ length s
-    → r ≡ take (length (take (length room) s)) (take (length room) s) ++ drop (length (take (length room) s)) room
+pub copied_full : (s room r : List ℕ) → length room ≤ length s → r ≡ take (length room) s
     → r ≡ take (length room) s ++ drop (length s) room
 copied_full s room r h e =
-    let t = take (length room) s in
-    let n : length t ≡ length room = length-take-le (length room) s h in
-    e ∙ ap₂ {C = List ℕ} (λ (x y : List ℕ). x ++ y) (take-length t)
-    (drop_of_length-le room {i = length t} (omega arith) ∙ sym (drop_of_length-le room {i = length s} h))
+    e ∙ sym (append-nil (take (length room) s))
+    ∙ ap (λ (l : List ℕ). take (length room) s ++ l) (sym (drop_of_length-le room {i = length s} h))
 
 -- what is copied over zeros
 none_filled : (n : ℕ) → replicate n 0 ≡ bytes_from [] 0 n

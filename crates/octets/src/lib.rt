@@ -1,4 +1,6 @@
 // Bytes that are lent, of whatever length: one of them, parts of them, two of them as a number, and bytes compared.
+#![tactic(auto)]
+
 ghost use Rattle.std.specs.Prelude.{◌≡◌, ◌++◌, ◌+◌, ◌*◌, length, take, drop};
 ghost use Rattle.ground.specs.Bytes.{byte_at, word_at};
 ghost use Rattle.octets.specs.Parts.{bytes_from};
@@ -48,10 +50,10 @@ fn fill(room: &mut [u8], src: &[u8])
 {
     let n = room.len();
     if src.len() < n {
-        bytes::copy(src, room);
+        room[..src.len()].copy_from_slice(src);
         return;
     }
-    bytes::copy(&src[..n], room);
+    room.copy_from_slice(&src[..n]);
 }
 
 /// Ten bytes from a place on, zeros past the end: a challenge has 80 bits.

@@ -1,5 +1,7 @@
 // What a tag's setup offers, what a message names in it, and the checks that stand before a message's kind: the leaf
 // that the TAM half and the entry half share.
+#![tactic(auto)]
+
 ghost use Rattle.std.specs.Prelude.{◌≡◌};
 ghost use Rattle.offer.specs.Outcomes.{number_of, number_given, reply_length};
 

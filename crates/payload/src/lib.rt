@@ -1,4 +1,6 @@
 // Custom data as both halves make and judge them (9.2, Table 3): header, data, filler, and the MAC behind.
+#![tactic(auto)]
+
 ghost use Rattle.std.specs.Prelude.{◌≡◌, true, ◌++◌, ◌+◌, ◌≤◌, eqb, length, take};
 ghost use Rattle.ground.specs.Choice.{both};
 ghost use Rattle.frames.specs.Blocks.{header_part, data_length, blocks_length};

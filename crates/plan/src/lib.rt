@@ -1,4 +1,6 @@
 // What the trainee plans of an exchange (M-100), and the messages that the reader sends by it.
+#![tactic(auto)]
+
 ghost use Rattle.reader_build.specs.Makes.{Makes};
 ghost use Rattle.plan.specs.Drafts.{opening, closing};
 

@@ -1,6 +1,7 @@
 // What the reader's side stands on (ISO/IEC 29167-10, the Interrogator): its keys, its numbers, and what it asks of its
 // own message.
 // reader_build makes the messages, reader_judge judges the replies.
+#![tactic(auto)]
 
 pub mod own; // own.rt: number 24, of the reader's own message
 

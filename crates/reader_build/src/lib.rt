@@ -1,6 +1,7 @@
 // Each message that the reader's side sends, from its fields and keys, over the first bytes of a lent room
 // (9.4.2, 9.4.5, 9.5.2, 9.5.5, 9.5.8, 9.6.2, 9.6.5).
 // A message that is not of the table, or a room of under 176 bytes: 24, and no byte of the room changes.
+#![tactic(auto)]
 
 mod sent; // sent.rt: what only a reader that has the keys can send
 

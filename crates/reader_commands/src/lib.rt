@@ -1,4 +1,6 @@
 // The reader's side's commands: keys, build, judge.
+#![tactic(auto)]
+
 mod orders; // orders.rt: the messages to build
 
 use console::answer::within;

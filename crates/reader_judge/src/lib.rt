@@ -1,4 +1,5 @@
 // The judge of a reply to the reader's own message.
+#![tactic(auto)]
 
 mod opened; // opened.rt: what is opened of a reply
 mod said; // said.rt: a finding as the judge says it

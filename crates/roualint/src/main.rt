@@ -1,5 +1,7 @@
 // The bench on the command line. Without an argument it reads commands from standard input, one a line, and answers
 // each with one line; with the argument `demo` it plays one exchange of each kind.
+#![tactic(auto)]
+
 use console::answer::within;
 
 fn main() {

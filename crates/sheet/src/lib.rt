@@ -1,4 +1,6 @@
 // The tag sheet of the scope paper: what a soft tag is set up from. What each function means stands in specs/.
+#![tactic(auto)]
+
 mod blank;
 pub mod bodies; // bodies.rt: what a record's body says
 mod kinds;

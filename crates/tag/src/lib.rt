@@ -1,4 +1,6 @@
 // The soft tag of ISO/IEC 29167-10: one message in, a reply or a number out.
+#![tactic(auto)]
+
 ghost use Rattle.std.specs.Prelude.{◌≡◌};
 ghost use Rattle.sheet.specs.KeyTable.{keys_in};
 ghost use Rattle.keytable.specs.Named.{has_key};

@@ -1,5 +1,7 @@
 // The soft tag's commands: sheet, area, areas, power, message. The bytes of the key table and of both areas stand
 // beside what is kept here.
+#![tactic(auto)]
+
 use console::answer::within;
 use console::words::{count, word};
 use console::{answer, fields};

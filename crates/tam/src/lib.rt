@@ -1,5 +1,7 @@
 // TAM: checks and replies of TAM1 and TAM2 (9.4), for any message. A tag that offers nothing else needs no more than
 // this.
+#![tactic(auto)]
+
 ghost use Rattle.std.specs.Prelude.{◌≡◌, replicate};
 ghost use Rattle.sheet.specs.KeyTable.{keys_in};
 ghost use Rattle.sheet.specs.Setups.{setup_of};

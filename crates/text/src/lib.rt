@@ -1,4 +1,6 @@
 // Bytes and numbers as people write them: hex digits and decimal digits.
+#![tactic(auto)]
+
 mod decimal; // decimal.rt: the steps of decimal
 mod digits; // digits.rt: digits and words of them
 mod hex; // hex.rt: the steps of hex

@@ -1,4 +1,6 @@
 // What a message came to, in words: its reply or its number, the state after it, and the Purpose.
+#![tactic(auto)]
+
 use console::answer;
 use console::answer::within;
 use entry::State;

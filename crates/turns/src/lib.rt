@@ -1,5 +1,7 @@
 // A turn of an exchange (M-100), the reader's and the tag's, and what stands between two: a value, so that any turn may
 // be the last that is played for now. Crate exchange plays turn after turn.
+#![tactic(auto)]
+
 ghost use Rattle.std.specs.Prelude.{◌≡◌};
 ghost use Rattle.turns.specs.Standings.{begun_of, number_of, readers, tags, reader_next, tag_next, waiting};
 
