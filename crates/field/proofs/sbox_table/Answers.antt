@@ -2,12 +2,8 @@
 use Rattle.field.specs.Sbox.{affine, affine_bit, from_bits}
 use Rattle.field.proofs.Inverses.{inverses}
 use Rattle.field.proofs.Inverse.{sbox_listed}
-use Rattle.field.proofs.sbox_table.Statement.{statement}
-use Rattle.field.proofs.sbox_table.Tie as tie
+use Rattle.field.proofs.sbox_table.Goals as goal
 
-returns : tie.Need-returns
+pub returns : goal.returns
 unfolding inverses affine affine_bit from_bits
 returns c = sbox_listed
-
-pub sbox-table-spec : {M : Type 1} → statement M
-sbox-table-spec = tie.close (tie.spec returns)
