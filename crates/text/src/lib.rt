@@ -11,7 +11,7 @@ ghost use Rattle.text.specs.Hex.{ReadsHex, hex_word};
 ghost use Rattle.text.specs.Room.{Writes};
 
 /// What was read of a word of hex digits.
-#[derive(Drop)]
+#[derive(Clone, Copy)]
 pub enum HexRead {
     Bytes(usize),
     NotHex,
@@ -20,7 +20,7 @@ pub enum HexRead {
 }
 
 /// What was read of a word of decimal digits.
-#[derive(Drop)]
+#[derive(Clone, Copy)]
 pub enum DecimalRead {
     Number(u16),
     NotNumber,
@@ -109,5 +109,7 @@ fn write(word: &[u8], room: &mut [u8]) -> usize
     if room.len() < word.len() {
         return 0;
     }
-    bytes::copy(word, room)
+    let n = word.len();
+    room[..n].copy_from_slice(word);
+    n
 }
