@@ -1,15 +1,15 @@
 -- What a store leaves in an area: the block's bytes are the ones stored, every other is as it was, and none is added or
 -- lost.
-use mathlib.Core.Path.{◌≡◌, refl, ap, ap₂, ◌∙◌}
+use mathlib.Core.Path.{◌≡◌, refl, ap, ◌∙◌}
 use mathlib.Core.Logic.{◌⊎◌, ⊎_elim}
 use mathlib.Core.Bool.{true, false}
-use mathlib.Core.List.{List, [], ◌++◌, append-nil}
+use mathlib.Core.List.{List, ◌++◌}
 use Prim.Native.Nat.{ℕ, ◌+◌, ◌-◌, ◌≤◌, ◌<◌}
 use native.Mathlib.Omega.{arith}
 use native.Mathlib.Nat.{add-sub_cancel_left}
 use lib.Dec.{leb}
-use lib.ListN.{length, take, drop, get_or, length-append, length-take, length-drop, get_or-append, drop_of_length-le}
-use lib.Seq.{take_all, drop-drop, length-take-le, get_or-append-add, get_or-take, get_or-drop, take_at, drop_at}
+use lib.ListN.{length, take, drop, get_or, length-append, length-take, length-drop, get_or-append}
+use lib.Seq.{drop-drop, length-take-le, get_or-append-add, get_or-take, get_or-drop, take_at, drop_at}
 use borrow.Author.Tests.{leb-true, eqb-true, le-leb, eq-eqb, ne_eqb}
 use Rattle.memory.specs.declared.Area.{Area}
 use Rattle.memory.specs.declared.Area.TheVariants.{Identity, User}
@@ -17,14 +17,6 @@ use Rattle.memory.specs.declared.Block.{Block}
 use Rattle.memory.specs.Address.{area_number, same_area}
 use Rattle.memory.specs.Areas.{first_byte, byte_count, area_of, within, part_of, window_of, written, stored_in}
 use Rattle.memory.proofs.Truth.{picked, both}
-
--- as many bytes copied over a part as it has: they are the part
-pub copied_over : (bytes rest l : List ℕ) (n : ℕ) → length bytes ≡ n
-    → l ≡ take (length bytes) bytes ++ drop (length bytes) (take n rest) → l ≡ bytes
-copied_over bytes rest l n e h =
-    let none : drop (length bytes) (take n rest) ≡ [] =
-    drop_of_length-le (take n rest) {i = length bytes} (omega (arith, length-take n rest)) in
-    h ∙ ap₂ ◌++◌ (take_all (length bytes) bytes (omega arith)) none ∙ append-nil bytes
 
 -- the steps of `put`
 module _ (block : Block) (bytes area : List ℕ) where

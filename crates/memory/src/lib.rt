@@ -7,33 +7,33 @@ ghost use Rattle.memory.specs.Areas.{first_byte, byte_count, part_of, window_of,
 ghost use Rattle.memory.specs.Rights.{meets, some_locked, permitted};
 
 /// The two areas of a tag's memory.
-#[derive(Drop)]
+#[derive(Clone, Copy)]
 pub enum Area {
     Identity,
     User,
 }
 
 /// The size of a data block.
-#[derive(Drop)]
+#[derive(Clone, Copy)]
 pub enum BlockSize {
     Bits64,
     Bits16,
 }
 
 /// The address of a 16-bit word in its area.
-#[derive(Drop)]
+#[derive(Clone, Copy)]
 pub struct Word(pub u16);
 
 /// A count of data blocks from a profile's first word. It becomes a word address only by the step of the block size.
-#[derive(Drop)]
+#[derive(Clone, Copy)]
 pub struct Offset(pub u16);
 
 /// A word address that may lie past its area: wide enough for every base and Offset.
-#[derive(Drop)]
+#[derive(Clone, Copy)]
 pub struct FarWord(pub usize);
 
 /// The words that a key record may be given the right to: so many from a base word of an area.
-#[derive(Drop)]
+#[derive(Clone, Copy)]
 pub struct Profile {
     pub area: Area,
     pub base: Word,
@@ -41,7 +41,7 @@ pub struct Profile {
 }
 
 /// Words that may not be written: so many from a first word of an area.
-#[derive(Drop)]
+#[derive(Clone, Copy)]
 pub struct Lock {
     pub area: Area,
     pub first: Word,
@@ -49,7 +49,7 @@ pub struct Lock {
 }
 
 /// The words that a message asks for.
-#[derive(Drop)]
+#[derive(Clone, Copy)]
 pub struct Block {
     pub area: Area,
     pub first: FarWord,
@@ -159,7 +159,7 @@ fn put(area: &mut [u8], block: Block, bytes: &[u8])
     }
     let from = block.first.0 * WORD_BYTES;
     let to = from + count;
-    bytes::copy(bytes, &mut area[from..to]);
+    area[from..to].copy_from_slice(bytes);
 }
 
 /// `bytes` over the block's bytes in the one of the two areas in which it lies; every other byte of both stays.
