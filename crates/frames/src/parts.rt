@@ -9,7 +9,7 @@ fn put(room: &mut [u8], at: usize, src: &[u8])
         (src.now ++ drop (at + length src.now) room.old) }
 {
     let e = at + src.len();
-    bytes::copy(src, &mut room[at..e]);
+    room[at..e].copy_from_slice(src);
 }
 
 // Three parts, one after the other, into the first bytes of a room.

@@ -1,0 +1,14 @@
+-- `frames::build::mam2_into` meets its contract.
+use mathlib.Core.Path.{refl}
+use borrow.Author.Tests.{eq-eqb, ne_eqb}
+use Rattle.frames.specs.Messages.{mam2_message}
+use Rattle.frames.proofs.Joins.{built, refused}
+use Rattle.frames.proofs.build.mam2_into.Goals as goal
+
+pub returns-then-f-ne0 : goal.returns-then-f-ne0
+returns-then-f-ne0 c = refused _ _ _ _ (ne_eqb _ _ c.if-f-ne0.true)
+
+pub returns : goal.returns
+unfolding mam2_message
+returns c = let h = c.if-f-ne0.false in
+    built _ _ _ _ _ _ _ _ (eq-eqb _ _ h) refl (rw h) c.with_response.ensures

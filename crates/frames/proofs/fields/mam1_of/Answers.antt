@@ -1,0 +1,13 @@
+-- `frames::fields::mam1_of` meets its contract.
+use Prim.Native.Nat.{◌%◌}
+use Rattle.frames.specs.Messages.{mam1_of}
+use Rattle.frames.proofs.fields.mam1_of.Goals as goal
+
+pub returns : goal.returns
+unfolding mam1_of
+returns c = λ i. record {
+  rfu = c.byte.ensures i % 16;
+  keyid = c.byte-2.ensures i;
+  ichallenge =
+      c.ten-ichallenge.ensures i;
+}
