@@ -76,14 +76,12 @@ module _ (G : List ℕ → List (List ℕ) → List (List ℕ)) (iv s room : Lis
 pub chain_more : (G : List ℕ → List (List ℕ) → List (List ℕ)) (iv s room next o room₁ last : List ℕ)
     → 16 ≤ length s → length o ≡ 16
     → ((bs : List (List ℕ)) → G iv (take 16 s ∷ bs) ≡ o ∷ G next bs)
-    → room₁ ≡ take (length o) o ++ drop (length o) room
+    → room₁ ≡ o ++ drop 16 room
     → last ≡ over (joined (G next (whole_blocks (take (length s - 16) (drop 16 s)))))
     (take (length room₁ - 16) (drop 16 room₁))
     → take 16 room₁ ++ (last ++ drop (length room₁ - 16) (drop 16 room₁)) ≡ over (joined (G iv (whole_blocks s))) room
 unfolding joined
-chain_more G iv s room next o room₁ last h lo step copied done =
-    let put : room₁ ≡ o ++ drop 16 room = copied
-    ∙ ap₂ ◌++◌ (take_all (length o) o (omega arith)) (ap (λ (n : ℕ). drop n room) lo) in
+chain_more G iv s room next o room₁ last h lo step put done =
     let rest : List ℕ = joined (G next (whole_blocks (drop 16 s))) in
     rest_chained G next s room₁ 16 last done
     ∙ ap₂ (λ (x y : List ℕ). x ++ over rest y) (ap (take 16) put ∙ take_at o (drop 16 room) 16 lo)

@@ -3,10 +3,8 @@ use mathlib.Core.Path.{◌≡◌, sym, ap, ap₂, ◌∙◌}
 use mathlib.Core.Bool.{Bool, true, false, false≢true}
 use mathlib.Core.List.{List, ◌++◌}
 use Prim.Native.Nat.{ℕ, ◌%◌, ◌<◌, ◌≤◌}
-use native.Mathlib.Nat.{le_refl}
 use lib.Dec.{eqb, leb}
-use lib.ListN.{length, take, drop}
-use lib.Seq.{take_all}
+use lib.ListN.{length, drop}
 use borrow.Author.Tests.{eq-eqb, ne_eqb, le-leb, lt-leb, leb-true}
 use Rattle.ground.specs.Choice.{pick, both}
 use Rattle.modes.specs.Room.{Into, chains, macs, over}
@@ -28,9 +26,9 @@ done taken out room after e f = record {
 }
 
 -- what a copy leaves: `out` over the first bytes
-pub copied : (out room after : List ℕ) → after ≡ take (length out) out ++ drop (length out) room → after ≡ over out room
-copied out room after e = e ∙ ap (λ (l : List ℕ). l ++ drop (length out) room)
-    (take_all (length out) out (le_refl (length out)))
+pub copied : (out room front : List ℕ) (n : ℕ) → length out ≡ n → front ≡ out → front ++ drop n room ≡ over out room
+copied out room front n l e =
+    ap (λ (s : List ℕ). s ++ drop n room) e ∙ ap (λ (k : ℕ). out ++ drop k room) (sym l)
 
 second : (a b : Bool) → both a b ≡ true → b ≡ true
 second true b e = e

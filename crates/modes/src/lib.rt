@@ -84,7 +84,7 @@ pub fn cmac_96(key: [u8; 16], input: &[u8], room: &mut [u8]) -> Chaining
         return Chaining::Refused;
     }
     let mac = cmac(key, input);
-    bytes::copy(&mac[..12], room);
+    room[..12].copy_from_slice(&mac[..12]);
     Chaining::Done
 }
 
@@ -113,7 +113,7 @@ fn enc_chain(iv: [u8; 16], key: [u8; 16], input: &[u8], room: &mut [u8])
     if 16 <= input.len() {
         let block = field::first_block(input);
         let output = aes::encrypt(key, field::xor(block, iv));
-        bytes::copy(&output, &mut *room);
+        room[..16].copy_from_slice(&output);
         enc_chain(output, key, &input[16..], &mut room[16..]);
     }
 }
@@ -144,7 +144,7 @@ fn dec_chain(iv: [u8; 16], key: [u8; 16], input: &[u8], room: &mut [u8])
     if 16 <= input.len() {
         let block = field::first_block(input);
         let output = field::xor(aes::encrypt(key, block), iv);
-        bytes::copy(&output, &mut *room);
+        room[..16].copy_from_slice(&output);
         dec_chain(block, key, &input[16..], &mut room[16..]);
     }
 }

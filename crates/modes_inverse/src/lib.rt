@@ -59,7 +59,7 @@ fn dec_inv_chain(iv: [u8; 16], key: [u8; 16], input: &[u8], room: &mut [u8])
     if 16 <= input.len() {
         let block = field::first_block(input);
         let output = field::xor(way(key, block), iv);
-        bytes::copy(&output, &mut *room);
+        room[..16].copy_from_slice(&output);
         dec_inv_chain(block, key, &input[16..], &mut room[16..]);
     }
 }
@@ -90,7 +90,7 @@ fn enc_inv_chain(iv: [u8; 16], key: [u8; 16], input: &[u8], room: &mut [u8])
     if 16 <= input.len() {
         let block = field::first_block(input);
         let output = way(key, field::xor(block, iv));
-        bytes::copy(&output, &mut *room);
+        room[..16].copy_from_slice(&output);
         enc_inv_chain(output, key, &input[16..], &mut room[16..]);
     }
 }

@@ -1,0 +1,21 @@
+use mathlib.Core.Path.{sym, ◌∙◌}
+use lib.ListN.{length}
+use Rattle.modes.specs.Cbc.{cbc_enc_aes}
+use Rattle.modes.proofs.Rooms.{refused, done, has_room}
+use Rattle.modes.proofs.cbc_enc_aes.Goals as goal
+
+pub enc_parts-requires : goal.enc_parts-requires
+enc_parts-requires c = let a = c.args in
+    has_room (length a.input.now) (length a.room.now)
+    (sym c.takes.ensures ∙ c.if-takes.true)
+
+pub returns-then-takes : goal.returns-then-takes
+returns-then-takes c = let a = c.args in
+    done _ (cbc_enc_aes a.iv a.key a.input.now) a.room.now _
+    (sym c.takes.ensures
+    ∙ c.if-takes.true) c.enc_parts.ensures
+
+pub returns : goal.returns
+returns c = let a = c.args in
+    refused _ (cbc_enc_aes a.iv a.key a.input.now) a.room.now
+    (sym c.takes.ensures ∙ c.if-takes.false)
