@@ -18,8 +18,8 @@ pub data InTurn (limit : ℕ) (s : List ℕ) (from : ℕ) (before : Gathered) : 
       → InTurn limit s from before (p + n) k'
 
 -- the kind bytes of these records, the last first; and how many of them are b
-abbrev pub kinds_taken : {limit : ℕ} {s : List ℕ} {from p : ℕ} {before k : Gathered} → InTurn limit s from before p k
-    → List ℕ
+abbrev pub kinds_taken : {limit : ℕ} {s : List ℕ} {from : ℕ} {before : Gathered} {p : ℕ} {k : Gathered}
+    → InTurn limit s from before p k → List ℕ
 kinds_taken begins = []
 kinds_taken {s = s} (goes_on {p = p} h e) = byte_at (drop p s) 0 ∷ kinds_taken h
 

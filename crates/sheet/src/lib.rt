@@ -52,7 +52,7 @@ pub const LOCK_RECORD: usize = 1 + LOCK_BODY;
 pub const KEYS_AT: usize = FEATURE_RECORD + SIZE_RECORD;
 
 // Why a sheet is refused.
-#[derive(Drop)]
+#[derive(Clone, Copy)]
 pub enum SheetFault {
     Cut,
     Unknown,
@@ -63,7 +63,7 @@ pub enum SheetFault {
 }
 
 // The kind of a record, by its first byte: 01 to 06, or none of them.
-#[derive(Drop)]
+#[derive(Clone, Copy)]
 pub enum Kind {
     FeatureRecord,
     SizeRecord,
@@ -75,7 +75,7 @@ pub enum Kind {
 }
 
 // Record 01: BlockSize 1, Rev 0, Rev 1, IAM1 and IAM2, IAM3, MAM, and the ProtModes.
-#[derive(Drop)]
+#[derive(Clone, Copy)]
 pub struct Features {
     pub blocksize1: bool,
     pub rev0: bool,
@@ -90,14 +90,14 @@ pub struct Features {
 }
 
 // Record 02: the words of the two areas.
-#[derive(Drop)]
+#[derive(Clone, Copy)]
 pub struct Sizes {
     pub identity: u16,
     pub user: u16,
 }
 
 // Record 03: KeyID, whether there is a MAC key, MPI, ENC_key, MAC_key.
-#[derive(Drop)]
+#[derive(Clone, Copy)]
 pub struct Key {
     pub id: u8,
     pub mac: bool,
@@ -107,14 +107,14 @@ pub struct Key {
 }
 
 // Record 04, at the place of its number.
-#[derive(Drop)]
+#[derive(Clone, Copy)]
 pub struct Slot {
     pub present: bool,
     pub profile: Profile,
 }
 
 // Record 05. The first `count` entries are used.
-#[derive(Drop)]
+#[derive(Clone, Copy)]
 pub struct Locks {
     pub count: usize,
     pub table: [Lock; LOCK_LIMIT],
@@ -122,7 +122,7 @@ pub struct Locks {
 
 // The terms on which a tag serves: what a sheet says beside its keys, which stay in the sheet (`key_table`). An entry
 // that no record filled is zero, so that equal meanings are equal values.
-#[derive(Drop)]
+#[derive(Clone, Copy)]
 pub struct Terms {
     pub features: Features,
     pub sizes: Sizes,
@@ -133,7 +133,7 @@ pub struct Terms {
 // What the next record is held against: the kind of the record before (0 where there is none), how many keys and how
 // many profiles there are, the least KeyID and the least profile number that may come, and the area and the end of the
 // lock before (0 where there is none).
-#[derive(Drop)]
+#[derive(Clone, Copy)]
 pub struct Marks {
     pub last: u8,
     pub keys: usize,
@@ -145,14 +145,14 @@ pub struct Marks {
 }
 
 // What is gathered of the records so far.
-#[derive(Drop)]
+#[derive(Clone, Copy)]
 pub struct Gathered {
     pub marks: Marks,
     pub terms: Terms,
 }
 
 // A record is taken, with this many bytes; or it is the end record; or it is refused.
-#[derive(Drop)]
+#[derive(Clone, Copy)]
 pub enum Finding {
     Taken(usize),
     Ended,
@@ -160,28 +160,28 @@ pub enum Finding {
 }
 
 // What the kind byte and the number of bytes after it decide.
-#[derive(Drop)]
+#[derive(Clone, Copy)]
 pub enum Head {
     Open,
     Shut(SheetFault),
 }
 
 // The finding on a record, and what is gathered after it.
-#[derive(Drop)]
+#[derive(Clone, Copy)]
 pub struct Judged {
     pub finding: Finding,
     pub gathered: Gathered,
 }
 
 // A whole sheet, or a refusal with its place.
-#[derive(Drop)]
+#[derive(Clone, Copy)]
 pub enum SheetVerdict {
     Whole,
     Refused(SheetFault, usize),
 }
 
 // The terms of a sheet and how many key records it has. A refused sheet has the empty terms, and none.
-#[derive(Drop)]
+#[derive(Clone, Copy)]
 pub struct Reading {
     pub verdict: SheetVerdict,
     pub terms: Terms,

@@ -1,0 +1,47 @@
+use native.Mathlib.Omega.{arith}
+use Rattle.sheet.specs.Limits.{key_limit}
+use Rattle.sheet.proofs.Judgements.{judged_none, judged_shut, judged_open, body_fits, body_few, body_long}
+use Rattle.sheet.proofs.Verdicts.{judge_told}
+use Rattle.sheet.proofs.judge.Goals as goal
+
+pub returns-then-rest-eq0 : goal.returns-then-rest-eq0
+returns-then-rest-eq0 c =
+    let told = judge_told key_limit c.args.rest.now c.args.gathered _ (judged_none key_limit c.args.rest.now c.args.gathered
+    c.if-rest-eq0.true) in
+    record { value = told.0; finding_value = told.1 }
+
+pub overflow_add-e : goal.overflow_add-e
+overflow_add-e c =
+    let h = body_fits key_limit c.args.rest.now c.args.gathered _ _ _ c.if-rest-eq0.false c.opening.ensures
+    c.in-Open.is c.kind_of-q.ensures c.body_length-e.ensures in
+    omega arith
+
+pub slice_bounds-judge_body-end : goal.slice_bounds-judge_body-end
+slice_bounds-judge_body-end c =
+    let h = body_fits key_limit c.args.rest.now c.args.gathered _ _ _ c.if-rest-eq0.false c.opening.ensures
+    c.in-Open.is c.kind_of-q.ensures c.body_length-e.ensures in
+    omega arith
+
+pub judge_body-requires : goal.judge_body-requires
+judge_body-requires c =
+    let opened = c.in-Open.is in (
+      body_long key_limit c.args.rest.now c.args.gathered _ _ _ c.if-rest-eq0.false c.opening.ensures opened
+          c.kind_of-q.ensures c.body_length-e.ensures,
+      body_few key_limit c.args.rest.now c.args.gathered _ _ _ c.if-rest-eq0.false c.opening.ensures opened
+          c.kind_of-q.ensures c.body_length-e.ensures,
+    )
+
+pub returns-in-Shut : goal.returns-in-Shut
+returns-in-Shut c =
+    let told = judge_told key_limit c.args.rest.now c.args.gathered _
+    (judged_shut key_limit c.args.rest.now c.args.gathered _ _ c.if-rest-eq0.false c.opening.ensures
+    c.in-Shut.is) in
+    record { value = told.0; finding_value = told.1 }
+
+pub returns-in-Open : goal.returns-in-Open
+returns-in-Open c =
+    let told = judge_told key_limit c.args.rest.now c.args.gathered _
+    (judged_open key_limit c.args.rest.now c.args.gathered _ _ _ _ c.if-rest-eq0.false c.opening.ensures
+    c.in-Open.is c.kind_of-q.ensures c.body_length-e.ensures
+    c.judge_body.ensures) in
+    record { value = told.0; finding_value = told.1 }

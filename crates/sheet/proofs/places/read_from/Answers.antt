@@ -1,0 +1,60 @@
+use mathlib.Core.Path.{refl, sym, ◌∙◌}
+use native.Mathlib.Omega.{arith}
+use native.Mathlib.Nat.{le_of_lt}
+use Rattle.sheet.specs.Limits.{key_limit}
+use Rattle.sheet.proofs.Walks.{read_faulty, read_tail, read_whole, read_taken, read_cut}
+use Rattle.sheet.proofs.Verdicts.{read_as}
+use Rattle.sheet.proofs.places.read_from.Goals as goal
+
+pub loop-at-init : goal.loop-at-init
+loop-at-init c = refl
+
+pub returns-in-Faulty : goal.returns-in-Faulty
+returns-in-Faulty c = let l = c.loop-at in
+    let t = le_of_lt c.loop-at-test.true in
+    let j = c.judge_at-j.ensures.0 in
+    let h = read_faulty key_limit c.args.s.now l.at l.gathered _ t j _ c.in-Faulty.is in
+    read_as _ _ (c.refuse.ensures ∙ sym h ∙ l.invariant)
+
+pub returns-then-at-s : goal.returns-then-at-s
+returns-then-at-s c = let l = c.loop-at in
+    let t = le_of_lt c.loop-at-test.true in
+    let j = c.judge_at-j.ensures.0 in
+    let e = c.in-Ended.is in
+    let h = read_tail key_limit c.args.s.now l.at l.gathered _ t j e c.if-at-s.true in
+    read_as _ _ (c.refuse-then-at-s.ensures ∙ sym h ∙ l.invariant)
+
+pub returns-in-Ended : goal.returns-in-Ended
+returns-in-Ended c = let l = c.loop-at in
+    let t = le_of_lt c.loop-at-test.true in
+    let j = c.judge_at-j.ensures.0 in
+    let e = c.in-Ended.is in
+    let h = read_whole key_limit c.args.s.now l.at l.gathered _ t j e c.if-at-s.false in
+    read_as _ _ (sym h ∙ l.invariant)
+
+pub overflow_add-at-in-Taken : goal.overflow_add-at-in-Taken
+overflow_add-at-in-Taken c = let l = c.loop-at in
+    let t = le_of_lt c.loop-at-test.true in
+    let j = c.judge_at-j.ensures.0 in
+    let h = read_taken key_limit c.args.s.now l.at l.gathered _ t j _ c.in-Taken.is in
+    omega arith
+
+pub loop-at-smaller : goal.loop-at-smaller
+loop-at-smaller c = let l = c.loop-at in
+    let t = le_of_lt c.loop-at-test.true in
+    let j = c.judge_at-j.ensures.0 in
+    let h = read_taken key_limit c.args.s.now l.at l.gathered _ t j _ c.in-Taken.is in
+    omega arith
+
+pub loop-at-preserved : goal.loop-at-preserved
+loop-at-preserved c = let l = c.loop-at in
+    let t = le_of_lt c.loop-at-test.true in
+    let j = c.judge_at-j.ensures.0 in
+    let h = read_taken key_limit c.args.s.now l.at l.gathered _ t j _ c.in-Taken.is in
+    sym h.2 ∙ l.invariant
+
+pub returns : goal.returns
+returns c =
+    let l = c.loop-at in
+    let h = read_cut key_limit c.args.s.now l.at l.gathered c.loop-at-test.false in
+    read_as _ _ (c.refuse-2.ensures ∙ sym h ∙ l.invariant)
