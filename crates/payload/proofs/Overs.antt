@@ -7,7 +7,6 @@ use lib.ListN.{length, take, drop, length-append, length-drop, drop_of_length-le
 use lib.Seq.{take_at, drop_at, drop-drop, length-take-le}
 use Rattle.modes.specs.Room.{over}
 use Rattle.modes.proofs.Chains.{tail_part}
-use Rattle.modes.proofs.Rooms.{copied}
 
 -- a part that runs to the end of the room, back in its place
 pub tail_back : (k : ℕ) (room d z : List ℕ) → z ≡ over d (take (length room - k) (drop k room))
@@ -17,12 +16,6 @@ tail_back k room d z e =
     drop_of_length-le (drop k room) {i = length room - k} (simp length-drop (omega arith)) in
     ap (λ (l : List ℕ). take k room ++ l) (ap (λ (l : List ℕ). z ++ l) n ∙ append-nil z ∙ e
     ∙ ap (over d) (tail_part k room))
-
--- the same of a copy
-pub copied_back : (k : ℕ) (room d z : List ℕ) → z ≡ take (length d) d ++ drop (length d)
-    (take (length room - k) (drop k room))
-    → take k room ++ (z ++ drop (length room - k) (drop k room)) ≡ take k room ++ over d (drop k room)
-copied_back k room d z e = tail_back k room d z (copied d (take (length room - k) (drop k room)) z e)
 
 -- d behind the part p
 over_next : (p d room : List ℕ) (n : ℕ) → length p ≡ n

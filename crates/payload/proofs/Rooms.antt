@@ -2,7 +2,7 @@
 use mathlib.Core.Path.{◌≡◌, refl, sym, ap, ap₂, ◌∙◌}
 use mathlib.Core.Bool.{Bool, true, false}
 use mathlib.Core.List.{List, ◌++◌}
-use Prim.Native.Nat.{ℕ, ◌+◌, ◌-◌, ◌≤◌, ◌<◌}
+use Prim.Native.Nat.{ℕ, ◌+◌, ◌≤◌, ◌<◌}
 use native.Mathlib.Omega.{arith}
 use borrow.Author.Tests.{le-leb, lt-leb}
 use lib.Dec.{leb}
@@ -11,7 +11,7 @@ use lib.Seq.{length-take-le}
 use Rattle.ground.specs.Choice.{pick, both}
 use Rattle.modes.specs.Room.{over}
 use Rattle.frames.specs.Built.{Built}
-use Rattle.payload.proofs.Overs.{copied_back, over_behind}
+use Rattle.payload.proofs.Overs.{over_behind}
 
 both_none : (b : Bool) → both b false ≡ false
 both_none true = refl
@@ -42,14 +42,6 @@ module _ (fit : Bool) (n : ℕ) (m room : List ℕ) where
 module _ (at : ℕ) (d room : List ℕ) (h : at + length d ≤ length room) where
   put_long : length (take at room ++ d) ≡ at + length d
   put_long = length-append (take at room) d ∙ ap (λ (k : ℕ). k + length d) (length-take-le at room (omega arith))
-
-  pub put_built : (z : List ℕ) → z ≡ take (length d) d ++ drop (length d) (take (length room - at) (drop at room))
-      → Built true (at + length d) (take at room ++ d) room true
-      (take at room ++ (z ++ drop (length room - at) (drop at room)))
-  put_built z e =
-      over_built true (at + length d) (take at room ++ d) room refl h put_long
-      (take at room ++ (z ++ drop (length room - at) (drop at room)))
-      (copied_back at room d z e ∙ over_behind at d room (omega arith))
 
   pub put_over : (answer : Bool) (after : List ℕ) → Built true (at + length d) (take at room ++ d) room answer after
       → after ≡ take at room ++ over d (drop at room)

@@ -5,12 +5,10 @@ use mathlib.Core.List.{List, [], ◌∷◌, ◌++◌, append_assoc}
 use Prim.Native.Nat.{ℕ, zero, suc, ◌+◌, ◌-◌, ◌≤◌}
 use native.Mathlib.Omega.{arith}
 use lib.ListN.{length, take, drop, replicate, length-append, length-replicate}
-use lib.Seq.{length-take-le}
 use Rattle.modes.specs.Room.{over}
-use Rattle.modes.proofs.Rooms.{copied}
 use Rattle.frames.specs.Built.{Built}
 use Rattle.payload.specs.Data.{filled}
-use Rattle.payload.proofs.Overs.{over_all, put_next}
+use Rattle.payload.proofs.Overs.{put_next}
 use Rattle.payload.proofs.Rooms.{put_over}
 
 abbrev pub zeros_of : ℕ → List ℕ
@@ -50,14 +48,6 @@ filled_part (x ∷ s) (suc n) (suc k) h l =
 pub filled_long : (n : ℕ) (s : List ℕ) → length s ≤ n → length (filled n s) ≡ n
 unfolding filled
 filled_long n s h = omega (arith, zeros_long (n - length s), length-append s (zeros_of (n - length s)))
-
--- zeros over all of a room
-pub cleared : (n k : ℕ) (room r : List ℕ) → n ≡ length room → n ≤ k
-    → r ≡ take (length (take n (zeros_of k))) (take n (zeros_of k)) ++ drop (length (take n (zeros_of k))) room
-    → r ≡ zeros_of n
-cleared n k room r e h f =
-    copied (take n (zeros_of k)) room r f ∙ over_all (take n (zeros_of k)) room
-    (length-take-le n (zeros_of k) (omega (arith, zeros_long k)) ∙ e) ∙ take_zeros k n h
 
 -- two parts over zeros
 pub laid : (a b r s t : List ℕ) (n : ℕ) (x y : Bool) → length a + length b ≤ n → r ≡ zeros_of n

@@ -31,7 +31,7 @@ pub fn put(room: &mut [u8], at: usize, src: &[u8]) -> bool
     if room.len() - at < src.len() {
         return false;
     }
-    bytes::copy(src, &mut room[at..]);
+    room[at..at + src.len()].copy_from_slice(src);
     true
 }
 
@@ -66,7 +66,7 @@ fn lay(room: &mut [u8], a: &[u8], b: &[u8])
     let zeros = [0u8; DATA_ROOM];
     let n = room.len();
     let i = a.len();
-    bytes::copy(&zeros[..n], &mut *room);
+    room.copy_from_slice(&zeros[..n]);
     put(&mut *room, 0, a);
     put(room, i, b);
 }
