@@ -127,7 +127,7 @@ pub fn iam1(keys: &[u8], message: &[u8], draws: [u8; 10]) -> Challenged
         return unchallenged(fault);
     }
     let mut reply = [0u8; 22];
-    bytes::copy(&draws, &mut reply);
+    reply[..10].copy_from_slice(&draws);
     Challenged {
         outcome: Outcome::Replied(10),
         session: Session {

@@ -110,7 +110,7 @@ fn open_data(key: Key, mode: ProtMode, f: Iam3, m: &[u8], out: &mut [u8])
         modes::cbc_dec_aes(iv, enc, &m[20..end], out);
         return;
     }
-    bytes::copy(&m[20..end], out);
+    out[..end - 20].copy_from_slice(&m[20..end]);
 }
 
 // Where the ProtMode has a MAC: is it that of A and the data blocks as they were sent (9.5.8.4, 9.5.8.5)?

@@ -19,7 +19,7 @@ fn send(outcome: Outcome, session: Session, reply: &[u8], room: &mut [u8]) -> Re
         × (room.new ≡ over (take (reply_length outcome) reply.now) room.old) }
 {
     let n = reply_length(outcome);
-    bytes::copy(&reply[..n], room);
+    room[..n].copy_from_slice(&reply[..n]);
     Reacted { outcome, session }
 }
 

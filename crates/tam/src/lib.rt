@@ -50,7 +50,7 @@ pub fn tam1(keys: &[u8], message: &[u8], draws: [u8; 10]) -> Given
     let key = found.key;
     let block = replies::tam1_reply(key, f, draws);
     let mut reply = [0u8; REPLY_ROOM];
-    bytes::copy(&block, &mut reply);
+    reply[..16].copy_from_slice(&block);
     Given {
         outcome: Outcome::Replied(16),
         reply,

@@ -48,7 +48,7 @@ fn body(enc: [u8; 16], mode: ProtMode, a: [u8; 16], p: &[u8], room: &mut [u8])
         modes::cbc_enc_aes(a, enc, p, room);
         return;
     }
-    bytes::copy(p, room);
+    room[..p.len()].copy_from_slice(p);
 }
 
 // The block a, and behind it the data as they are sent.
@@ -69,7 +69,7 @@ fn carried(rev: bool, custom: Custom, words: &[u8]) -> [u8; DATA_ROOM]
     ensures { result ≡ over (carried_data rev custom words.now) (replicate 144 0) }
 {
     let mut whole = [0u8; DATA_MOST];
-    bytes::copy(words, &mut whole);
+    whole[..words.len()].copy_from_slice(words);
     let size = custom.blocksize;
     let n = data_length(size, custom.blockcount);
     let mut p = [0u8; DATA_ROOM];
