@@ -13,14 +13,14 @@ use octets::{sixteen, word_at};
 use sheet::{KEY_BODY, KEY_RECORD, Key};
 
 /// The record of a KeyID: whether there is one, and the record, all zero where there is none.
-#[derive(Drop)]
+#[derive(Clone, Copy)]
 pub struct Found {
     pub present: bool,
     pub key: Key,
 }
 
 // Where a record starts.
-#[derive(Drop)]
+#[derive(Clone, Copy)]
 enum Place {
     At(usize),
     Nowhere,
