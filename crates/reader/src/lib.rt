@@ -9,7 +9,7 @@ ghost use Rattle.std.specs.Prelude.{◌≡◌};
 ghost use Rattle.reader.specs.Numbers.{number_of};
 
 /// The keys that the reader has of one record.
-#[derive(Drop)]
+#[derive(Clone, Copy)]
 pub struct Keys {
     pub enc: [u8; 16],
     pub mac: bool,
@@ -17,7 +17,7 @@ pub struct Keys {
 }
 
 /// Why the reader's side refuses: the scope paper's numbers 20 to 24.
-#[derive(Drop)]
+#[derive(Clone, Copy)]
 pub enum ReaderFault {
     ReplyLength,
     ChallengeWrong,
