@@ -40,7 +40,7 @@ use Rattle.sheet_laws.proofs.Forth.{profile_rises, profile_within, profile_forth
 use Rattle.sheet_laws.proofs.Forth.{lock_within, lock_forth, area_05}
 use Rattle.sheet.proofs.Back.{features_back}
 use Rattle.sheet_laws.proofs.Lists.{keys_more, next_key_lem, keys_written_lem}
-use Rattle.sheet_laws.proofs.Lists.{locks_more, next_area_lem, next_word, locks_written_lem}
+use Rattle.sheet_laws.proofs.Lists.{locks_more, next_area_lem, next_word_lem, locks_written_lem}
 use Rattle.sheet_laws.proofs.Lists.{up_length, up_fine, up_written}
 
 -- a kind behind the opening records is at least 03, and at least the one before
@@ -236,7 +236,7 @@ module _ (limit : ℕ) where
         slot_few = w.slot_few;
         locks = locks_more 0 0 z ls x w.locks (rw (w.area_next, w.word_next) at one);
         area_next = sym (next_area_lem 0 ls x ∙ area_05 m.area m.word z b y l r);
-        word_next = sym (next_word 0 ls x);
+        word_next = sym (next_word_lem 0 ls x);
         lock_few = rw (longer no_lock lock_limit ls x) (omega arith);
         no_slots = λ e. absurd (let n : ⊥ = omega arith in n);
         no_locks = λ e. absurd (let n : ⊥ = omega arith in n);
