@@ -39,7 +39,8 @@ room block len r e t = leb-true _ _ (sym e ∙ t)
 
 module _ (block : Block) (area : List ℕ) where
   pub part_in : first_byte block + byte_count block ≤ length area
-      → take (first_byte block + byte_count block - first_byte block) (drop (first_byte block) area) ≡ part_of block area
+      → take (first_byte block + byte_count block - first_byte block) (drop (first_byte block) area)
+      ≡ part_of block area
   unfolding part_of within
   part_in h = simp (le-leb _ _ h, add-sub_cancel_left)
 

@@ -119,7 +119,8 @@ module _ (name : Area) (block : Block) (bytes area : List ℕ) where
       → get_or (stored_in name block bytes area) i 0 ≡ get_or area i 0
   unfolding stored_in
   stored_outside i o =
-      picked (λ (l : List ℕ). get_or l i 0 ≡ get_or area i 0) (same_area name block.area) (written block bytes area) area
+      picked (λ (l : List ℕ). get_or l i 0 ≡ get_or area i 0) (same_area name block.area) (written block bytes area)
+      area
       (λ t. written_outside block bytes area i o) (λ t. refl)
 
 -- of the two areas, the block's own is the one that is written

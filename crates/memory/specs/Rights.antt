@@ -1,6 +1,7 @@
 -- Locked words, and the right of a key record to a profile: the scope paper, "Memory" and number 4; ISO/IEC 29167-10,
 -- clause 11.
-use Rattle.std.specs.Prelude.{ℕ, zero, suc, ◌+◌, ◌/◌, ◌%◌, ◌^◌, Bool, false, ◌&&◌, ◌||◌, List, [], ◌∷◌, take, leb, ltb, eqb}
+use Rattle.std.specs.Prelude.{ℕ, zero, suc, ◌+◌, ◌/◌, ◌%◌, ◌^◌, Bool, false, ◌&&◌, ◌||◌, List, [], ◌∷◌, take, leb, ltb}
+use Rattle.std.specs.Prelude.{eqb}
 use Rattle.memory.specs.declared.Area.{Area}
 use Rattle.memory.specs.declared.Area.TheVariants.{Identity}
 use Rattle.memory.specs.declared.Block.{Block}

@@ -94,7 +94,8 @@ module _ (limit : ℕ) (s : List ℕ) where
       ap finding_number (sym e) ∙ judged_number_lem limit (drop p s) (kinds_taken h) k (counted limit s h)
 
   -- a first fault is on the list
-  fault_listed : {f : SheetFault} {p : ℕ} → FirstFault limit s 0 nothing_gathered f p → PaperSays limit s (number_of f) p
+  fault_listed : {f : SheetFault} {p : ℕ} → FirstFault limit s 0 nothing_gathered f p
+      → PaperSays limit s (number_of f) p
   fault_listed (there {p = p} {k = k} {f = f} h e) =
       let q : number_of f ≡ paper_number limit (drop p s) (kinds_taken h) k = found h (Faulty f) e in
       subst (λ (n : ℕ). PaperSays limit s n p) (sym q) (line h (omega (arith, some_number f)))

@@ -134,7 +134,8 @@ module _ (limit : ℕ) (s : List ℕ) where
   sheet_refused f p = rw (from_start limit s) at (refused_exactly limit s 0 nothing_gathered (omega arith) f p)
 
   -- all of the reading, not its verdict alone
-  pub sheet_stops : {f : SheetFault} {p : ℕ} → FirstFault limit s 0 nothing_gathered f p → read_of limit s ≡ refused_at f p
+  pub sheet_stops : {f : SheetFault} {p : ℕ} → FirstFault limit s 0 nothing_gathered f p
+      → read_of limit s ≡ refused_at f p
   sheet_stops h = sym (from_start limit s) ∙ (refused_there limit s 0 nothing_gathered (omega arith) h).1
 
   pub sheet_whole : Accepted limit s ↔ ((k : Gathered) × Complete limit s 0 nothing_gathered k)

@@ -92,8 +92,8 @@ module _ (limit : ℕ) where
   -- 02
   sound_sizes : (c b : List ℕ) (k : Gathered) (ks : List Key) → Sound limit c k ks → Bytes b → length b ≡ 4
       → sizes_rule b ≡ true → in_order k.marks.last 2 ≡ true → Sound limit (c ++ (2 ∷ b)) (with_sizes k b) ks
-  unfolding in_order nothing_gathered no_marks with_features with_sizes empty_terms profile_limit lock_limit keys_written
-      profiles_written locks_written
+  unfolding in_order nothing_gathered no_marks with_features with_sizes empty_terms profile_limit lock_limit
+      keys_written profiles_written locks_written
   sound_sizes c b k ks none y l r o = let z : ◌≡◌ {A = ℕ} 0 1 = cc in absurd (omega arith)
   sound_sizes c b k ks (first f h) y l r o =
       let n = sizes_low b y l r in
@@ -251,12 +251,14 @@ module _ (limit : ℕ) where
       (more f z (lock_marks m b) ks ss (ls ++ x ∷ []) w')
 
   -- one record of any kind
-  by_kind_lem : (q : Kind) (b c : List ℕ) (k k' : Gathered) (ks : List Key) → Took q b k k' → Sound limit c k ks → Bytes b
+  by_kind_lem : (q : Kind) (b c : List ℕ) (k k' : Gathered) (ks : List Key) → Took q b k k' → Sound limit c k ks
+      → Bytes b
       → length b ≡ body_length q → in_order k.marks.last (code_of q) ≡ true → too_many limit q k ≡ false
       → Sound limit (c ++ (code_of q ∷ b)) k' (ks ++ key_said q b)
   by_kind_lem q b c k k' ks (took_features r) s y l o t = rw (append-nil ks) (sound_features c b k ks s l r o)
   by_kind_lem q b c k k' ks (took_sizes r) s y l o t = rw (append-nil ks) (sound_sizes c b k ks s y l r o)
-  by_kind_lem q b c k k' ks (took_key r) s y l o t = sound_key c b k ks s y l r o (key_room_lem limit KeyRecord k refl t)
+  by_kind_lem q b c k k' ks (took_key r) s y l o t =
+      sound_key c b k ks s y l r o (key_room_lem limit KeyRecord k refl t)
   by_kind_lem q b c k k' ks (took_profile r) s y l o t = rw (append-nil ks) (sound_profile c b k ks s y l r o)
   by_kind_lem q b c k k' ks (took_lock r) s y l o t =
       rw (append-nil ks) (sound_lock c b k ks s y l r o (lock_room limit LockRecord k refl t))

@@ -42,8 +42,8 @@ abbrev pub smallest : List ℕ
 smallest = 0x01 ∷ 0x00 ∷ 0x00 ∷ 0x02 ∷ 0x00 ∷ 0x00 ∷ 0x00 ∷ 0x00 ∷ 0x06 ∷ []
 
 pub example_11 : (limit : ℕ) → read_of limit smallest ≡ whole empty_terms 0
-unfolding read_of walk after judged_of opened_of too_many kind_of in_order record_of with_features with_sizes features_rule
-    features_of sizes_rule sizes_of word_limit nothing_gathered no_marks empty_terms no_features
+unfolding read_of walk after judged_of opened_of too_many kind_of in_order record_of with_features with_sizes
+    features_rule features_of sizes_rule sizes_of word_limit nothing_gathered no_marks empty_terms no_features
 example_11 limit = refl
 
 -- example (12): the empty sheet is 30 at 0
@@ -79,8 +79,8 @@ cut_first limit = refl
 
 -- 01 00 00 is 30 at 3
 pub cut_second : (limit : ℕ) → read_of limit (0x01 ∷ 0x00 ∷ 0x00 ∷ []) ≡ refused_at Cut 3
-unfolding read_of walk after judged_of opened_of too_many kind_of in_order record_of with_features features_rule features_of
-    nothing_gathered no_marks empty_terms
+unfolding read_of walk after judged_of opened_of too_many kind_of in_order record_of with_features features_rule
+    features_of nothing_gathered no_marks empty_terms
 cut_second limit = refl
 
 -- a first byte 00 or 07 is 31 at 0
@@ -94,14 +94,14 @@ unknown_7 limit t = refl
 
 -- 01 00 00 06 is 32 at 3: 02 is not second
 pub end_second : (limit : ℕ) → read_of limit (0x01 ∷ 0x00 ∷ 0x00 ∷ 0x06 ∷ []) ≡ refused_at Order 3
-unfolding read_of walk after judged_of opened_of too_many kind_of in_order record_of with_features features_rule features_of
-    nothing_gathered no_marks empty_terms
+unfolding read_of walk after judged_of opened_of too_many kind_of in_order record_of with_features features_rule
+    features_of nothing_gathered no_marks empty_terms
 end_second limit = refl
 
 -- a byte behind the end record of example (11) is 35 at its place
 pub tail : (limit : ℕ) → read_of limit (smallest ++ 0x06 ∷ []) ≡ refused_at Tail 9
-unfolding read_of walk after judged_of opened_of too_many kind_of in_order record_of with_features with_sizes features_rule
-    features_of sizes_rule sizes_of word_limit nothing_gathered no_marks empty_terms no_features
+unfolding read_of walk after judged_of opened_of too_many kind_of in_order record_of with_features with_sizes
+    features_rule features_of sizes_rule sizes_of word_limit nothing_gathered no_marks empty_terms no_features
 tail limit = refl
 
 -- one record of each kind: key 05 with a MAC key, profile 2 of area 1, a lock in area 1
@@ -142,8 +142,9 @@ each_terms = record {
 
 pub each_kind : read_of key_limit one_of_each ≡ whole each_terms 1
 unfolding read_of walk after judged_of opened_of too_many kind_of in_order record_of with_features with_sizes with_key
-    with_profile with_lock features_rule features_of sizes_rule sizes_of key_rule key_of profile_rule slot_of lock_rule lock_of
-    inside words_in area_of all_zero word_limit key_limit profile_limit lock_limit nothing_gathered no_marks empty_terms keyed
+    with_profile with_lock features_rule features_of sizes_rule sizes_of key_rule key_of profile_rule slot_of lock_rule
+    lock_of inside words_in area_of all_zero word_limit key_limit profile_limit lock_limit nothing_gathered no_marks
+    empty_terms keyed
 each_kind = refl
 
 -- its key stands in its key table
@@ -219,8 +220,8 @@ pub equal_ids : read_of key_limit
     ∷ 0x03 ∷ 0x05 ∷ replicate 35 0 ++ (0x03 ∷ 0x05 ∷ replicate 35 0))
     ≡ refused_at Value 45
 unfolding read_of walk after judged_of opened_of too_many kind_of in_order record_of with_features with_sizes with_key
-    features_rule features_of sizes_rule sizes_of key_rule key_of all_zero word_limit key_limit nothing_gathered no_marks
-    empty_terms
+    features_rule features_of sizes_rule sizes_of key_rule key_of all_zero word_limit key_limit nothing_gathered
+    no_marks empty_terms
 equal_ids = refl
 
 -- a sheet with one word in each area, up to its third record
@@ -230,26 +231,30 @@ one_word_each t = 0x01 ∷ 0x00 ∷ 0x00 ∷ 0x02 ∷ 0x00 ∷ 0x01 ∷ 0x00 ∷
 -- 33 at 8: a profile in area 2, a profile of no words, a profile and a lock that end one word past their area
 pub area_two : (limit : ℕ)
     → read_of limit (one_word_each (0x04 ∷ 0x00 ∷ 0x02 ∷ 0x00 ∷ 0x00 ∷ 0x00 ∷ 0x01 ∷ [])) ≡ refused_at Value 8
-unfolding read_of walk after judged_of opened_of too_many kind_of in_order record_of with_features with_sizes features_rule
-    features_of sizes_rule sizes_of profile_rule inside words_in word_limit profile_limit nothing_gathered no_marks empty_terms
+unfolding read_of walk after judged_of opened_of too_many kind_of in_order record_of with_features with_sizes
+    features_rule features_of sizes_rule sizes_of profile_rule inside words_in word_limit profile_limit nothing_gathered
+    no_marks empty_terms
 area_two limit = refl
 
 pub no_words : (limit : ℕ)
     → read_of limit (one_word_each (0x04 ∷ 0x00 ∷ 0x00 ∷ 0x00 ∷ 0x00 ∷ 0x00 ∷ 0x00 ∷ [])) ≡ refused_at Value 8
-unfolding read_of walk after judged_of opened_of too_many kind_of in_order record_of with_features with_sizes features_rule
-    features_of sizes_rule sizes_of profile_rule inside words_in word_limit profile_limit nothing_gathered no_marks empty_terms
+unfolding read_of walk after judged_of opened_of too_many kind_of in_order record_of with_features with_sizes
+    features_rule features_of sizes_rule sizes_of profile_rule inside words_in word_limit profile_limit nothing_gathered
+    no_marks empty_terms
 no_words limit = refl
 
 pub profile_past : (limit : ℕ)
     → read_of limit (one_word_each (0x04 ∷ 0x00 ∷ 0x00 ∷ 0x00 ∷ 0x00 ∷ 0x00 ∷ 0x02 ∷ [])) ≡ refused_at Value 8
-unfolding read_of walk after judged_of opened_of too_many kind_of in_order record_of with_features with_sizes features_rule
-    features_of sizes_rule sizes_of profile_rule inside words_in word_limit profile_limit nothing_gathered no_marks empty_terms
+unfolding read_of walk after judged_of opened_of too_many kind_of in_order record_of with_features with_sizes
+    features_rule features_of sizes_rule sizes_of profile_rule inside words_in word_limit profile_limit nothing_gathered
+    no_marks empty_terms
 profile_past limit = refl
 
 pub lock_past : (limit : ℕ)
     → read_of limit (one_word_each (0x05 ∷ 0x01 ∷ 0x00 ∷ 0x00 ∷ 0x00 ∷ 0x02 ∷ [])) ≡ refused_at Value 8
-unfolding read_of walk after judged_of opened_of too_many kind_of in_order record_of with_features with_sizes features_rule
-    features_of sizes_rule sizes_of lock_rule inside words_in word_limit lock_limit nothing_gathered no_marks empty_terms
+unfolding read_of walk after judged_of opened_of too_many kind_of in_order record_of with_features with_sizes
+    features_rule features_of sizes_rule sizes_of lock_rule inside words_in word_limit lock_limit nothing_gathered
+    no_marks empty_terms
 lock_past limit = refl
 
 -- a profile and a lock that end with their area are accepted
@@ -271,7 +276,7 @@ end_terms = record {
 }
 
 pub at_the_end : (limit : ℕ) → read_of limit up_to_the_end ≡ whole end_terms 0
-unfolding read_of walk after judged_of opened_of too_many kind_of in_order record_of with_features with_sizes with_profile
-    with_lock features_rule features_of sizes_rule sizes_of profile_rule slot_of lock_rule lock_of inside words_in area_of
-    word_limit key_limit profile_limit lock_limit nothing_gathered no_marks empty_terms no_features
+unfolding read_of walk after judged_of opened_of too_many kind_of in_order record_of with_features with_sizes
+    with_profile with_lock features_rule features_of sizes_rule sizes_of profile_rule slot_of lock_rule lock_of inside
+    words_in area_of word_limit key_limit profile_limit lock_limit nothing_gathered no_marks empty_terms no_features
 at_the_end limit = refl

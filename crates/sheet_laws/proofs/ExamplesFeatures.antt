@@ -62,8 +62,8 @@ module _ (limit f m : ℕ) where
 
   rest_read : walk limit (0x02 ∷ 0x00 ∷ 0x00 ∷ 0x00 ∷ 0x00 ∷ 0x06 ∷ []) 0 3 (with_features nothing_gathered body)
       ≡ featured (features_of body)
-  unfolding walk after judged_of opened_of too_many kind_of in_order record_of with_features with_sizes sizes_rule sizes_of
-      word_limit nothing_gathered no_marks empty_terms
+  unfolding walk after judged_of opened_of too_many kind_of in_order record_of with_features with_sizes sizes_rule
+      sizes_of word_limit nothing_gathered no_marks empty_terms
   rest_read = refl
 
   says : (x : Features) → features_rule body ≡ true → features_of body ≡ x → read_of limit (small f m) ≡ featured x

@@ -47,7 +47,8 @@ behind_opening limit t = opened limit no_features sixteen t refl (omega arith) (
 
 -- 32: 01 again at once
 pub again_at_once : (limit : ℕ) (t : List ℕ) → RefusedBy limit (0x01 ∷ 0x00 ∷ 0x00 ∷ 0x01 ∷ t) 32 3
-unfolding read_of judged_of opened_of kind_of in_order too_many record_of nothing_gathered no_marks features_rule with_features
+unfolding read_of judged_of opened_of kind_of in_order too_many record_of nothing_gathered no_marks features_rule
+    with_features
 again_at_once limit t =
     let k = with_features nothing_gathered (0 ∷ 0 ∷ []) in
     refused_told limit (0x01 ∷ 0x00 ∷ 0x00 ∷ 0x01 ∷ t) Order 3

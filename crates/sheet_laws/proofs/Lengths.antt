@@ -179,7 +179,8 @@ module _ (z : Sizes) (i : z.identity ≤ word_limit) (u : z.user ≤ word_limit)
       let y = kind_byte 4 (profile_body n p) (omega arith) (bytes_cons n t (omega arith) part) in
       rw w.0 y
 
-  slots_bytes : (n : ℕ) (ss : List Slot) → n + length ss ≤ profile_limit → SlotsFine z ss → Bytes (profiles_written n ss)
+  slots_bytes : (n : ℕ) (ss : List Slot) → n + length ss ≤ profile_limit → SlotsFine z ss
+      → Bytes (profiles_written n ss)
   unfolding profiles_written
   slots_bytes n [] h w = bytes_none
   slots_bytes n (s ∷ ss) h w =

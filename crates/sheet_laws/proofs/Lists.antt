@@ -60,7 +60,8 @@ pub next_word_lem : (word : ℕ) (ls : List Lock) (x : Lock) → next_word word 
 next_word_lem word [] x = refl
 next_word_lem word (l ∷ ls) x = next_word_lem (l.first.0 + l.words) ls x
 
-pub locks_written_lem : (ls : List Lock) (x : Lock) → locks_written (ls ++ x ∷ []) ≡ locks_written ls ++ (5 ∷ lock_body x)
+pub locks_written_lem : (ls : List Lock) (x : Lock)
+    → locks_written (ls ++ x ∷ []) ≡ locks_written ls ++ (5 ∷ lock_body x)
 unfolding locks_written
 locks_written_lem [] x = append-nil (5 ∷ lock_body x)
 locks_written_lem (l ∷ ls) x =

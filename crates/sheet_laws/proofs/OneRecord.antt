@@ -37,7 +37,8 @@ module _ (limit b : ℕ) (q : Kind) (c r : List ℕ) (k : Gathered) (eq : kind_o
       rw (eq, known, order, few, le-ltb (length (c ++ r)) (body_length q) fits, take_at c r (body_length q) long)
 
   -- it is refused for its values
-  pub stop_at : (at : ℕ) → (record_of q c k).finding ≡ Faulty Value → walk limit (b ∷ c ++ r) 0 at k ≡ refused_at Value at
+  pub stop_at : (at : ℕ) → (record_of q c k).finding ≡ Faulty Value
+      → walk limit (b ∷ c ++ r) 0 at k ≡ refused_at Value at
   stop_at at e = walk_faulty limit at k (b ∷ c ++ r) Value (ap (λ (j : Judged). j.finding) judged ∙ e)
 
 -- or taken

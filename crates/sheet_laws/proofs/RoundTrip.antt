@@ -97,7 +97,8 @@ module _ (limit : ℕ) (f : Features) (z : Sizes) (R : Reading) (r : List ℕ) w
         let t = profiles_written (n + 1) ss in
         let c = profile_body n x.profile in
         let fine = profile_fine number n z x.profile b p w.1 in
-        let g = go_on limit 4 ProfileRecord c (t ++ r) k (with_profile k c) refl refl (order_on last 4 l h (omega arith))
+        let g =
+        go_on limit 4 ProfileRecord c (t ++ r) k (with_profile k c) refl refl (order_on last 4 l h (omega arith))
         (lt-leb profile_limit profiles (omega arith)) (profile_length n x.profile) (rw fine) at in
         rw (
           w.0,
@@ -129,7 +130,8 @@ module _ (limit : ℕ) (f : Features) (z : Sizes) (R : Reading) (r : List ℕ) w
       → walk limit r 0 at (state f z (marks_of last keys profiles id number area word) ss all) ≡ R) where
     locks_walk : (ls before : List Lock) (at last area word : ℕ) → before ++ ls ≡ all → LocksRise area word z ls
         → 2 ≤ last → last ≤ 5
-        → walk limit (locks_written ls ++ r) 0 at (state f z (marks_of last keys profiles id number area word) ss before)
+        → walk limit (locks_written ls ++ r) 0 at
+        (state f z (marks_of last keys profiles id number area word) ss before)
         ≡ R
     unfolding locks_written kind_of too_many record_of lock_body
     locks_walk [] before at last area word e w l h = rw (sym (append-nil before) ∙ e) (on at last area word l h)
@@ -156,8 +158,8 @@ pub opened : (limit : ℕ) (f : Features) (z : Sizes) (r : List ℕ) → implies
     → z.identity ≤ word_limit → z.user ≤ word_limit
     → read_of limit (1 ∷ features_body f ++ (2 ∷ sizes_body z ++ r))
     ≡ walk limit r 0 keys_at (state f z (marks_of 2 0 0 0 0 0 0) [] [])
-unfolding read_of kind_of in_order too_many record_of nothing_gathered no_marks empty_terms with_features with_sizes profile_limit
-    lock_limit
+unfolding read_of kind_of in_order too_many record_of nothing_gathered no_marks empty_terms with_features with_sizes
+    profile_limit lock_limit
 opened limit f z r h a b =
     let k = with_features nothing_gathered (features_body f) in
     go_on limit 1 FeatureRecord (features_body f) (2 ∷ sizes_body z ++ r) nothing_gathered k refl refl refl refl

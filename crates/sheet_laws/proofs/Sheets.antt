@@ -188,7 +188,8 @@ module _ (limit : ℕ) where
         let h = finish ran.bytes ran.gathered keys_of ran.holds.sound ran.ordered in
         (subst (Within limit) (sym said) h.0, ap written said ∙ h.1 ∙ ran.sheet)
 
-    -- The key records stand together where `key_table` takes them: the keys that the walk meets one by one are its keys.
+    -- The key records stand together where `key_table` takes them: the keys that the walk meets one by one are its
+    -- keys.
     pub keys_stand : keys_met limit s ≡ keys_in (key_table s (read_of limit s).keys)
     keys_stand =
         ran.holds.met (6 ∷ []) ran.sheet

@@ -6,7 +6,8 @@ use Rattle.sheet.proofs.judge.Goals as goal
 
 pub returns-then-rest-eq0 : goal.returns-then-rest-eq0
 returns-then-rest-eq0 c =
-    let told = judge_told key_limit c.args.rest.now c.args.gathered _ (judged_none key_limit c.args.rest.now c.args.gathered
+    let told =
+    judge_told key_limit c.args.rest.now c.args.gathered _ (judged_none key_limit c.args.rest.now c.args.gathered
     c.if-rest-eq0.true) in
     record { value = told.0; finding_value = told.1 }
 

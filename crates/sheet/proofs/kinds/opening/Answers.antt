@@ -22,11 +22,13 @@ returns-then-too_many c =
 pub returns-then-left-body_length : goal.returns-then-left-body_length
 returns-then-left-body_length c =
     shut_cut key_limit c.args.b c.args.left c.args.gathered _ c.kind_of-q.ensures _ c.is_unknown.ensures
-    c.if-is_unknown.false _ c.in_order.ensures (ap not c.if-not-in_order.false) _ c.too_many.ensures c.if-too_many.false _
+    c.if-is_unknown.false _ c.in_order.ensures (ap not c.if-not-in_order.false) _ c.too_many.ensures
+    c.if-too_many.false _
     c.body_length.ensures c.if-left-body_length.true
 
 pub returns : goal.returns
 returns c =
     opens key_limit c.args.b c.args.left c.args.gathered _ c.kind_of-q.ensures _ c.is_unknown.ensures
-    c.if-is_unknown.false _ c.in_order.ensures (ap not c.if-not-in_order.false) _ c.too_many.ensures c.if-too_many.false _
+    c.if-is_unknown.false _ c.in_order.ensures (ap not c.if-not-in_order.false) _ c.too_many.ensures
+    c.if-too_many.false _
     c.body_length.ensures c.if-left-body_length.false

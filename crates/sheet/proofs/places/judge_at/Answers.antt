@@ -5,7 +5,8 @@ use Rattle.sheet.proofs.places.judge_at.Goals as goal
 
 pub returns-then-s-at : goal.returns-then-s-at
 returns-then-s-at c =
-    judged_as _ _ (judged_behind key_limit c.args.s.now c.args.at c.args.gathered _ c.if-s-at.true c.judge.ensures.value)
+    judged_as _ _
+    (judged_behind key_limit c.args.s.now c.args.at c.args.gathered _ c.if-s-at.true c.judge.ensures.value)
 
 pub returns : goal.returns
 returns c =
