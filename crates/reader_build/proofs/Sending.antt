@@ -40,20 +40,21 @@ use Rattle.reader_build.specs.Builds.{sent_data, iam3_response, iam3_whole}
 
 -- ---- the data as they are sent
 
-module _ (mode : ProtMode) (b : Bool) (enc a p room after : List ℕ) (told : b ≡ encrypts mode) where
-  pub data_chained : (answer : Chaining) → b ≡ true → length p % 16 ≡ 0 → length p ≤ length room
+module _ (mode : ProtMode) (b : Bool) (enc a p room : List ℕ) (told : b ≡ encrypts mode) where
+  pub data_chained : (after : List ℕ) (answer : Chaining) → b ≡ true → length p % 16 ≡ 0 → length p ≤ length room
       → Into (chains (length p) (length room)) (cbc_enc_aes_inv a enc p) room answer after
       → after ≡ over (sent_data enc mode a p) room
   unfolding sent_data
-  data_chained answer t w h i =
+  data_chained after answer t w h i =
       i.leaves ∙ ap (λ (x : Bool). pick x (over (cbc_enc_aes_inv a enc p) room) room)
       (enough (length p) (length room) w h)
       ∙ ap (λ (x : Bool). over (pick x (cbc_enc_aes_inv a enc p) p) room) (sym t ∙ told)
 
-  pub data_plain : b ≡ false → after ≡ take (length p) p ++ drop (length p) room
-      → after ≡ over (sent_data enc mode a p) room
+  pub data_plain : (front : List ℕ) → b ≡ false → front ≡ p
+      → front ++ drop (length p) room ≡ over (sent_data enc mode a p) room
   unfolding sent_data
-  data_plain f e = copied p room after e ∙ ap (λ (x : Bool). over (pick x (cbc_enc_aes_inv a enc p) p) room) (sym f ∙ told)
+  data_plain front f e = copied p room front (length p) refl e
+      ∙ ap (λ (x : Bool). over (pick x (cbc_enc_aes_inv a enc p) p) room) (sym f ∙ told)
 
 -- ---- lengths
 
@@ -175,7 +176,8 @@ module _ (keys : Keys) (custom : Custom) (protmode : ℕ) (mode : ProtMode) (a p
         response_long keys mode a p sixteen whole_blocks_lem,
       )
 
-  module _ (room r : List ℕ) (answer : Bool) (fit : select_fits 0 custom protmode ≡ true) (h : message_room ≤ length room)
+  module _ (room r : List ℕ) (answer : Bool) (fit : select_fits 0 custom protmode ≡ true)
+      (h : message_room ≤ length room)
       (b : Built (select_fits 0 custom protmode) 20 (iam3_head head) room answer r)
     where
       head_laid : r ≡ over (iam3_head head) room

@@ -11,8 +11,8 @@ ghost use Rattle.frames.specs.Fields.{custom_fits};
 ghost use Rattle.frames.specs.Lengths.{message_room};
 ghost use Rattle.frames.specs.Modes.{prot_mode_of};
 ghost use Rattle.reader.specs.Own.{mode_fits};
-ghost use Rattle.reader_build.specs.Builds.{purpose_fits, data_fits, iam3_fits};
-ghost use Rattle.reader_build.specs.Builds.{tam1_made, tam2_made, iam1_made, mam1_made, iam2_made, mam2_made, iam3_made};
+ghost use Rattle.reader_build.specs.Builds.{purpose_fits, data_fits, iam3_fits, iam3_made};
+ghost use Rattle.reader_build.specs.Builds.{tam1_made, tam2_made, iam1_made, mam1_made, iam2_made, mam2_made};
 ghost use Rattle.reader_build.specs.Makes.{Makes};
 
 use frames::build::{iam1_into, iam2_into, mam1_into, mam2_into, tam1_into, tam2_into};
@@ -26,7 +26,7 @@ use reader::{Keys, ReaderFault};
 use sent::{iam3_whole, response};
 
 /// What a builder answers: a message of so many bytes in the room's first bytes, or a refusal, and the room as it was.
-#[derive(Drop)]
+#[derive(Clone, Copy)]
 pub enum Made {
     Message(usize),
     Refused(ReaderFault),

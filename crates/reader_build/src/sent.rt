@@ -39,7 +39,7 @@ fn sent_data(enc: [u8; 16], mode: ProtMode, a: [u8; 16], p: &[u8], room: &mut [u
         modes_inverse::cbc_enc_aes_inv(a, enc, p, room);
         return;
     }
-    bytes::copy(p, room);
+    room[..p.len()].copy_from_slice(p);
 }
 
 // IResponse of IAM3 into a room that starts with the block a already: the data behind it, and the MAC over both
