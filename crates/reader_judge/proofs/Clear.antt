@@ -1,5 +1,5 @@
 -- A TAM2 reply: its parts as the code takes them, and its data in the clear.
-use mathlib.Core.Path.{◌≡◌, sym, ap, ap₂, ◌∙◌}
+use mathlib.Core.Path.{◌≡◌, refl, sym, ap, ap₂, ◌∙◌}
 use mathlib.Core.Bool.{Bool, true, false}
 use mathlib.Core.List.{List, ◌++◌}
 use Prim.Native.Nat.{ℕ, ◌+◌, ◌*◌, ◌-◌, ◌/◌, ◌%◌, ◌≤◌}
@@ -66,6 +66,11 @@ words_most rev c p fit =
     let rest = drop (header_part c.blocksize rev) p in
     omega (arith, length-take n rest, min-le_left n (length rest), blocks_hold rev c, blocks_fit rev c fit)
 
+-- so that a data room has them
+pub words_held : (rev : Bool) (c : Custom) (p words room : List ℕ) → custom_fits c ≡ true → words ≡ words_in rev c p
+    → 144 ≤ length room → length words ≤ length room
+words_held rev c p words room fit e h = omega (arith, ap length e, words_most rev c p fit)
+
 -- ---- what is opened
 
 module _ (keys : Keys) (mode : ProtMode) (f : Tam2) (reply : List ℕ)
@@ -89,57 +94,58 @@ module _ (keys : Keys) (mode : ProtMode) (f : Tam2) (reply : List ℕ)
       picked false a b p q = q
 
   -- by the call that chains, and by the copy
-  module _ (r : ℕ) (room after : List ℕ) (e : r ≡ blocks_length f.custom.blocksize f.rev f.custom.blockcount)
+  module _ (r : ℕ) (room : List ℕ) (e : r ≡ blocks_length f.custom.blocksize f.rev f.custom.blockcount)
       (fits : blocks_length f.custom.blocksize f.rev f.custom.blockcount ≤ length room) where
     sent : take (16 + r - 16) (drop 16 reply) ≡ data_sent f reply
     sent = let k : 16 + r - 16 ≡ r = omega arith in ap (λ (j : ℕ). take j (drop 16 reply)) (k ∙ e)
 
-    pub opened_chained : (iv : List ℕ) (answer : Chaining) → encrypts mode ≡ true → iv ≡ first_block reply
+    pub opened_chained : (iv after : List ℕ) (answer : Chaining) → encrypts mode ≡ true → iv ≡ first_block reply
         → Into (chains (length (take (16 + r - 16) (drop 16 reply))) (length room))
         (cbc_dec_aes_inv iv keys.enc (take (16 + r - 16) (drop 16 reply))) room answer after
         → after ≡ over (opened_data keys mode f reply) room
     unfolding opened_data
-    opened_chained iv answer t v i =
+    opened_chained iv after answer t v i =
         let part = take (16 + r - 16) (drop 16 reply) in
         let l : length part ≡ length (data_sent f reply) = ap length sent in
         let whole : length part % 16 ≡ 0 = omega (arith, sent_whole) in
         let small : length part ≤ length room = omega (arith, sent_long) in
-        let opens : cbc_dec_aes_inv (take 16 reply) keys.enc (data_sent f reply) ≡ opened_data keys mode f reply = rw t in
+        let opens : cbc_dec_aes_inv (take 16 reply) keys.enc (data_sent f reply) ≡ opened_data keys mode f reply =
+        rw t in
         into_taken (chains (length part) (length room)) (cbc_dec_aes_inv iv keys.enc part) room after answer i
         (enough (length part) (length room) whole small)
         ∙ ap (λ (d : List ℕ). over d room) (ap₂ (λ (x y : List ℕ). cbc_dec_aes_inv x keys.enc y)
         (v ∙ first_block_is reply (omega arith)) sent ∙ opens)
 
-    pub opened_plain : encrypts mode ≡ false
-        → after ≡ take (length (take (16 + r - 16) (drop 16 reply))) (take (16 + r - 16) (drop 16 reply)) ++ drop
-        (length (take (16 + r - 16) (drop 16 reply))) room
-        → after ≡ over (opened_data keys mode f reply) room
+    pub opened_plain : (front : List ℕ) → encrypts mode ≡ false → front ≡ take (16 + r - 16) (drop 16 reply)
+        → front ++ drop (16 + r - 16) room ≡ over (opened_data keys mode f reply) room
     unfolding opened_data
-    opened_plain t q =
+    opened_plain front t q =
+        let part = take (16 + r - 16) (drop 16 reply) in
         let opens : data_sent f reply ≡ opened_data keys mode f reply = rw t in
-        copied (take (16 + r - 16) (drop 16 reply)) room after q ∙ ap (λ (d : List ℕ). over d room) (sent ∙ opens)
+        let long : length part ≡ 16 + r - 16 = omega (arith, ap length sent, sent_long) in
+        copied part room front (16 + r - 16) long q ∙ ap (λ (d : List ℕ). over d room) (sent ∙ opens)
 
   -- the front of a room that holds it
   pub opened_front : (n : ℕ) (room after : List ℕ)
       → n ≡ blocks_length f.custom.blocksize f.rev f.custom.blockcount
       → after ≡ over (opened_data keys mode f reply) room
       → take n after ≡ opened_data keys mode f reply
-  opened_front n room after e q = ap (take n) q ∙ over_taken (opened_data keys mode f reply) room n (opened_long ∙ sym e)
+  opened_front n room after e q =
+      ap (take n) q ∙ over_taken (opened_data keys mode f reply) room n (opened_long ∙ sym e)
 
 -- ---- what is handed over
 
-pub stored : (mode : ProtMode) (f : Tam2) (p words room after : List ℕ) (r : Judgement)
+pub stored : (mode : ProtMode) (f : Tam2) (p words room front : List ℕ) (r : Judgement)
     → header_fits f.rev f.custom p ≡ true
     → filler_fits f.rev f.custom p ≡ true
     → words ≡ words_in f.rev f.custom p → r ≡ said_of (carries (worth_of mode) words)
-    → after ≡ take (length words) words ++ drop (length words) room
-    → Judges (data_finding mode f p) room r after
+    → front ≡ words → Judges (data_finding mode f p) room r (front ++ drop (length words) room)
 unfolding data_finding
-stored mode f p words room after r h k e s q =
+stored mode f p words room front r h k e s q =
     judges_as (passes _ _ _ _ h (passes _ _ _ _ k (ends _ _)))
-    (judges (carries (worth_of mode) (words_in f.rev f.custom p)) room after r
+    (judges (carries (worth_of mode) (words_in f.rev f.custom p)) room (front ++ drop (length words) room) r
     (s ∙ ap (λ (l : List ℕ). said_of (carries (worth_of mode) l)) e)
-    (copied words room after q ∙ ap (λ (l : List ℕ). over l room) e))
+    (copied words room front (length words) refl q ∙ ap (λ (l : List ℕ). over l room) e))
 
 -- the fields of a message of bytes fit their bits
 pub tam2_in_range : (m : List ℕ) → Bytes m → custom_fits (tam2_of m).custom ≡ true

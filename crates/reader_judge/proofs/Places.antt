@@ -13,8 +13,8 @@ use Rattle.reader_judge.specs.Opened.{block_fits, challenge_in}
 
 -- the tag's challenge out of its two parts
 pub challenge_made : (b reply : List ℕ) → length b ≡ 16 → length reply ≡ 22
-    → get_or reply 16 0 ∷ get_or reply 17 0 ∷ get_or reply 18 0 ∷ get_or reply 19 0 ∷ get_or reply 20 0 ∷ get_or reply 21 0
-    ∷ get_or b 2 0 ∷ get_or b 3 0 ∷ get_or b 4 0 ∷ get_or b 5 0 ∷ []
+    → get_or reply 16 0 ∷ get_or reply 17 0 ∷ get_or reply 18 0 ∷ get_or reply 19 0 ∷ get_or reply 20 0
+    ∷ get_or reply 21 0 ∷ get_or b 2 0 ∷ get_or b 3 0 ∷ get_or b 4 0 ∷ get_or b 5 0 ∷ []
     ≡ challenge_in b reply
 unfolding challenge_in
 challenge_made b reply h e = λ i. drop 16 (listed reply 22 e i) ++ take 4 (drop 2 (listed b 16 h i))

@@ -12,8 +12,8 @@ use Rattle.frames.specs.declared.Tam2.{Tam2 as Tam2Fields}
 use Rattle.frames.specs.declared.Mam1.{Mam1 as Mam1Fields}
 use Rattle.frames.specs.Constants.{c_tam1, c_mam1, tam2_constant}
 use Rattle.frames.specs.Kinds.{kind_of}
-use Rattle.frames.specs.Lengths.{tam1_reply_length, tam2_reply_length, tam2_mac_at, iam1_reply_length, mam1_reply_length}
-use Rattle.frames.specs.Lengths.{empty_reply_length}
+use Rattle.frames.specs.Lengths.{tam1_reply_length, tam2_reply_length, tam2_mac_at, iam1_reply_length}
+use Rattle.frames.specs.Lengths.{mam1_reply_length, empty_reply_length}
 use Rattle.frames.specs.Messages.{tam1_of, tam2_of, mam1_of}
 use Rattle.frames.specs.declared.ProtMode.{ProtMode}
 use Rattle.frames.specs.Modes.{in_mode, prot_mode_of}

@@ -21,7 +21,7 @@ use said::refused;
 /// What a reply's data are worth: none came; no MAC proves them (ProtModes 0 and 1); the MAC proves them (2 and 3).
 /// In TAM2 Rev 0 what is proved is the blocks as they were sent: neither their address and number nor the ProtMode
 /// that the tag saw.
-#[derive(Drop)]
+#[derive(Clone, Copy)]
 pub enum Worth {
     NoData,
     Unproved,
@@ -29,7 +29,7 @@ pub enum Worth {
 }
 
 /// The end of a judgement.
-#[derive(Drop)]
+#[derive(Clone, Copy)]
 pub enum Verdict {
     Accepted,
     Refused(ReaderFault),
@@ -37,7 +37,7 @@ pub enum Verdict {
 
 /// What the judge says of a reply: the verdict; how many bytes of data stand in the data room's first bytes, and what
 /// they are worth; whether the tag issued a challenge, and the challenge (zeros where not).
-#[derive(Drop)]
+#[derive(Clone, Copy)]
 pub struct Judgement {
     pub verdict: Verdict,
     pub data: usize,

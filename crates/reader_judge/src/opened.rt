@@ -58,7 +58,7 @@ pub fn open_data(keys: Keys, mode: ProtMode, f: Tam2, reply: &[u8], out: &mut [u
         modes_inverse::cbc_dec_aes_inv(iv, enc, &reply[16..end], out);
         return;
     }
-    bytes::copy(&reply[16..end], out);
+    out[..end - 16].copy_from_slice(&reply[16..end]);
 }
 
 /// Where the ProtMode has a MAC: is it that of the authentication block and the data as they came (9.4.7.1)?

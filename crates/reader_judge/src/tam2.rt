@@ -31,7 +31,7 @@ fn judge_data(mode: ProtMode, f: Tam2, p: &[u8], room: &mut [u8]) -> Judgement
         return refused(ReaderFault::HeaderWrong);
     }
     let words = payload::words_in(f.rev, custom, p);
-    bytes::copy(words, room);
+    room[..words.len()].copy_from_slice(words);
     carries(mode, words)
 }
 
