@@ -2,7 +2,7 @@
 use mathlib.Core.Path.{◌≡◌, sym, ap, ◌∙◌}
 use mathlib.Core.List.{List, [], ◌∷◌, ◌++◌}
 use Prim.Native.Nat.{ℕ}
-use lib.ListN.{length, get_or, take, drop, replicate, length-replicate}
+use lib.ListN.{length, get_or, drop, replicate, length-replicate}
 use Rattle.modes.specs.Room.{over}
 use Rattle.modes.proofs.Rooms.{copied}
 use Rattle.sheet.specs.declared.Key.{Key}
@@ -65,14 +65,13 @@ module _ (keys : List Key) (m draws : List ℕ) (v : Checked) where
     abbrev iam1_session : Session
     iam1_session = record { state = IamInit; keyid = f.keyid; tchallenge = draws; ichallenge = replicate 4 0 }
 
-    pub iam1_fine : (after : List ℕ) → length draws ≡ 10 → v ≡ Fine
-        → after ≡ take (length draws) draws ++ drop (length draws) zeros
+    pub iam1_fine : (front : List ℕ) → length draws ≡ 10 → v ≡ Fine → front ≡ draws
         → Challenges (iam1_checked keys m) draws (iam1_held m draws)
-        (record { outcome = Replied 10; session = iam1_session; reply = after })
-    iam1_fine after ten x h =
+        (record { outcome = Replied 10; session = iam1_session; reply = front ++ drop 10 zeros })
+    iam1_fine front ten x h =
         challenges _ draws (iam1_held m draws) _ (iam1_judged ∙ x) (ap Replied (sym ten))
         (λ j. record { state = IamInit; keyid = (e j).keyid; tchallenge = draws; ichallenge = replicate 4 0 })
-        (copied draws zeros after h)
+        (copied draws zeros front 10 ten h)
 
   -- MAM1
   module _ (f : Mam1Fields) (e : f ≡ mam1_of m) (w : v ≡ judged (opening_checks Mam1 f.rfu f.keyid keys m)) where

@@ -20,7 +20,7 @@ mod replies; // replies.rt: what the tag sends
 mod opened; // opened.rt: what is judged of what the reader sent
 
 /// The states of Annex A.
-#[derive(Drop)]
+#[derive(Clone, Copy)]
 pub enum State {
     Initial,
     IamInit,
@@ -30,7 +30,7 @@ pub enum State {
 
 /// What the tag holds from one message to the next: its state, the KeyID that was named, its own challenge, and the
 /// last 32 bits of the reader's.
-#[derive(Drop)]
+#[derive(Clone, Copy)]
 pub struct Session {
     pub state: State,
     pub keyid: u8,

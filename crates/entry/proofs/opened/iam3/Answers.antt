@@ -1,0 +1,21 @@
+-- `entry::opened::iam3` meets its contract.
+use mathlib.Core.Path.{◌≡◌, sym, ◌∙◌}
+use mathlib.Core.Bool.{false}
+use Rattle.entry.specs.Opened.{iam3_proof}
+use Rattle.entry.proofs.Sent.{nothing_proved}
+use Rattle.entry.proofs.opened.iam3.Goals as goal
+
+pub iam3_in_mode-requires : goal.iam3_in_mode-requires
+iam3_in_mode-requires c = (c.requires.0, sym c.prot_mode.ensures ∙ c.in-Mode.is, c.requires.1)
+
+pub returns-in-NoMode : goal.returns-in-NoMode
+returns-in-NoMode c =
+    let e : iam3_proof c.args.key c.args.held c.args.f c.args.m.now ≡ false =
+    nothing_proved c.args.key c.args.held c.args.f c.args.m.now (sym c.prot_mode.ensures ∙ c.in-NoMode.is)
+    in
+    record {
+      outcome = rw e c.refused.ensures.0;
+      session = rw e c.refused.ensures.1;
+      in_identity = rw e;
+      in_user = rw e;
+    }
