@@ -2,7 +2,7 @@
 use mathlib.Core.Path.{◌≡◌, sym, ap, ◌∙◌}
 use mathlib.Core.List.{List, ◌++◌}
 use Prim.Native.Nat.{ℕ}
-use lib.ListN.{length, take, drop, replicate}
+use lib.ListN.{length, drop, replicate}
 use Rattle.modes.specs.Room.{over}
 use Rattle.modes.proofs.Rooms.{copied}
 use Rattle.memory.specs.declared.Block.{Block}
@@ -56,14 +56,15 @@ module _ (keys : List Key) (m draws : List ℕ) (v : Checked) where
         → Gives (tam1_checked keys m) (tam1_sent keys m draws) g
     tam1_wrong fault g x t = refuses _ _ g fault (tam1_judged ∙ x) t
 
-    pub tam1_fine : (k : Key) (block after : List ℕ) → v ≡ Fine → k ≡ key_with f.keyid keys
-        → block ≡ tam1_reply k f draws → after ≡ take (length block) block ++ drop (length block) zeros
-        → Gives (tam1_checked keys m) (tam1_sent keys m draws) (record { outcome = Replied 16; reply = after })
-    tam1_fine k block after x ke re h =
+    pub tam1_fine : (k : Key) (block front : List ℕ) → v ≡ Fine → k ≡ key_with f.keyid keys
+        → block ≡ tam1_reply k f draws → length block ≡ 16 → front ≡ block
+        → Gives (tam1_checked keys m) (tam1_sent keys m draws)
+        (record { outcome = Replied 16; reply = front ++ drop 16 zeros })
+    tam1_fine k block front x ke re l h =
         let full : k ≡ key_with (tam1_of m).keyid keys = ke ∙ (λ j. key_with (e j).keyid keys) in
         let made : block ≡ tam1_sent keys m draws = re ∙ (λ j. tam1_reply (full j) (e j) draws) in
         gives _ _ _ (tam1_judged ∙ x) (ap Replied (sym (tam1_long _ (tam1_of m) draws)))
-        (copied block zeros after h ∙ ap (λ (l : List ℕ). over l zeros) made)
+        (copied block zeros front 16 l h ∙ ap (λ (l : List ℕ). over l zeros) made)
 
 module _ (setup : Setup) (m draws : List ℕ) (v : Checked) where
   -- TAM2

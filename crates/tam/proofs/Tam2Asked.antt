@@ -25,7 +25,8 @@ module _ (m : List ℕ) (h : Bytes m) where
   pub tam2_custom_fits : custom_fits (tam2_of m).custom ≡ true
   unfolding tam2_of
   tam2_custom_fits =
-      select_custom_fits (size_of (byte_at m 0 / 16 % 2)) (byte_at m 12) (byte_at m 13) (byte_at m 14) (h 12) (h 13) (h 14)
+      select_custom_fits (size_of (byte_at m 0 / 16 % 2)) (byte_at m 12) (byte_at m 13) (byte_at m 14) (h 12) (h 13)
+      (h 14)
 
   pub tam1_challenge : Ten (tam1_of m).ichallenge
   unfolding tam1_of

@@ -6,7 +6,7 @@ use Prim.Native.Nat.{ℕ, ◌+◌, ◌%◌, ◌≤◌}
 use native.Mathlib.Omega.{arith}
 use borrow.Author.Tests.{eq-eqb}
 use lib.Dec.{eqb}
-use lib.ListN.{length, take, drop, replicate, length-append}
+use lib.ListN.{length, take, drop, replicate, length-append, length-drop, length-replicate}
 use lib.Seq.{length-take-le}
 use Rattle.ground.specs.Bytes.{two_bytes}
 use Rattle.ground.specs.Choice.{pick, both}
@@ -47,17 +47,19 @@ mac_of mode mackey s = pick (has_mac mode) (cmac96 mackey s) []
 
 -- ---- the data as they are sent, into a room
 
-module _ (mode : ProtMode) (b : Bool) (enc a p room after : List ℕ) (told : b ≡ encrypts mode) where
-  pub body_chained : (answer : Chaining) → b ≡ true → length p % 16 ≡ 0 → length p ≤ length room
+module _ (mode : ProtMode) (b : Bool) (enc a p room : List ℕ) (told : b ≡ encrypts mode) where
+  pub body_chained : (after : List ℕ) (answer : Chaining) → b ≡ true → length p % 16 ≡ 0 → length p ≤ length room
       → Into (chains (length p) (length room)) (cbc_enc_aes a enc p) room answer after
       → after ≡ over (pick (encrypts mode) (cbc_enc_aes a enc p) p) room
-  body_chained answer t w h i =
+  body_chained after answer t w h i =
       i.leaves ∙ ap (λ (x : Bool). pick x (over (cbc_enc_aes a enc p) room) room) (enough (length p) (length room) w h)
       ∙ ap (λ (x : Bool). over (pick x (cbc_enc_aes a enc p) p) room) (sym t ∙ told)
 
-  pub body_plain : b ≡ false → after ≡ take (length p) p ++ drop (length p) room
-      → after ≡ over (pick (encrypts mode) (cbc_enc_aes a enc p) p) room
-  body_plain f e = copied p room after e ∙ ap (λ (x : Bool). over (pick x (cbc_enc_aes a enc p) p) room) (sym f ∙ told)
+  pub body_plain : (front : List ℕ) → b ≡ false → front ≡ p
+      → front ++ drop (length p) room ≡ over (pick (encrypts mode) (cbc_enc_aes a enc p) p) room
+  body_plain front f e =
+      copied p room front (length p) refl e
+      ∙ ap (λ (x : Bool). over (pick x (cbc_enc_aes a enc p) p) room) (sym f ∙ told)
 
 -- ---- header, words and zeros
 
@@ -68,21 +70,28 @@ module _ (rev : Bool) (c : Custom) (words : List ℕ) (fit : custom_fits c ≡ t
     data_most = omega (arith, data_bound c.blocksize c.blockcount, (custom_range c fit).blockcount)
 
     -- the words over zeros, as many bytes of them as the fields say
-    whole_words : (n : ℕ) (whole : List ℕ) → n ≡ data_length c.blocksize c.blockcount
-        → whole ≡ take (length words) words ++ drop (length words) (replicate 128 0)
-        → take n whole ≡ filled (data_length c.blocksize c.blockcount) words
-    whole_words n whole en e =
-        ap₂ {C = List ℕ} take en (copied words (replicate 128 0) whole e ∙ zeros_filled 128 words)
+    whole_words : (n : ℕ) (front : List ℕ) → n ≡ data_length c.blocksize c.blockcount → front ≡ words
+        → take n (front ++ drop (length words) (replicate 128 0)) ≡ filled (data_length c.blocksize c.blockcount) words
+    whole_words n front en e =
+        ap₂ {C = List ℕ} take en (copied words (replicate 128 0) front (length words) refl e ∙ zeros_filled 128 words)
         ∙ filled_part words (data_length c.blocksize c.blockcount) 128 count data_most
 
-    pub carried_made : (n : ℕ) (x : Bool) (whole p : List ℕ) → n ≡ data_length c.blocksize c.blockcount
-        → whole ≡ take (length words) words ++ drop (length words) (replicate 128 0)
-        → Built (both (custom_fits c) (eqb (length (take n whole)) (data_length c.blocksize c.blockcount)))
-        (blocks_length c.blocksize rev c.blockcount) (carried_data rev c (take n whole)) (replicate 144 0) x p
+    pub whole_long : (front : List ℕ) → front ≡ words
+        → length (front ++ drop (length words) (replicate 128 0)) ≡ 128
+    whole_long front e =
+        length-append front (drop (length words) (replicate 128 0))
+        ∙ ap₂ {C = ℕ} (λ x y. x + y) (ap length e) (length-drop (length words) (replicate 128 0))
+        ∙ omega (arith, data_most, length-replicate {A = ℕ} 128 0)
+
+    pub carried_made : (n : ℕ) (x : Bool) (front p : List ℕ) → n ≡ data_length c.blocksize c.blockcount
+        → front ≡ words → (let whole = front ++ drop (length words) (replicate 128 0) in
+        Built (both (custom_fits c) (eqb (length (take n whole)) (data_length c.blocksize c.blockcount)))
+        (blocks_length c.blocksize rev c.blockcount) (carried_data rev c (take n whole)) (replicate 144 0) x p)
         → p ≡ over (carried_data rev c words) (replicate 144 0)
-    carried_made n x whole p en e b =
+    carried_made n x front p en e b =
+        let whole = front ++ drop (length words) (replicate 128 0) in
         let d = data_length c.blocksize c.blockcount in
-        let w : take n whole ≡ filled d words = whole_words n whole en e in
+        let w : take n whole ≡ filled d words = whole_words n front en e in
         let l : length (take n whole) ≡ d = ap length w ∙ filled_long d words count in
         built_over _ _ (carried_data rev c (take n whole)) (replicate 144 0)
         (ap₂ both fit (eq-eqb (length (take n whole)) d l)) (omega (arith, blocks_fit rev c fit))
@@ -111,7 +120,8 @@ module _ (key : Key) (m : Tam2) (words draws : List ℕ) (mode : ProtMode) (fit 
         → Built (mac_takes mode (16 + n)) (16 + n + mac_length mode)
         (with_mac key.mackey mode (take (16 + n) r)) r y z
         → result ≡ tam2_reply_length m.custom.blocksize m.rev m.custom.blockcount mode
-        → (result ≡ length (tam2_in_mode key m words draws mode)) × (z ≡ over (tam2_in_mode key m words draws mode) room)
+        → (result ≡ length (tam2_in_mode key m words draws mode))
+        × (z ≡ over (tam2_in_mode key m words draws mode) room)
     unfolding with_mac
     tam2_made_lem n result y p k a room r z en ep ek ea er lr hr bz eresult =
         let q = carried_data m.rev m.custom words in
