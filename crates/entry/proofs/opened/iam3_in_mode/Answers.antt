@@ -16,12 +16,12 @@ use Rattle.entry.proofs.opened.iam3_in_mode.Goals as goal
 
 pub open_data-requires : goal.open_data-requires
 open_data-requires c =
-    (c.requires.2, data_most c.args.f c.args.m.now (λ i. (c.shared_slice_known-1.given i).fits) c.requires.0 _ refl)
+    (c.requires.2, data_most c.args.f c.args.m.now (λ i. (c.type_inv.m i).fits) c.requires.0 _ refl)
 
 pub slice_bounds-room-end : goal.slice_bounds-room-end
 slice_bounds-room-end c =
     let most =
-    data_most c.args.f c.args.m.now (λ i. (c.shared_slice_known-1.given i).fits) c.requires.0 _
+    data_most c.args.f c.args.m.now (λ i. (c.type_inv.m i).fits) c.requires.0 _
     c.blocks_length-n.ensures
     in
     omega (arith, most)
@@ -29,8 +29,8 @@ slice_bounds-room-end c =
 pub slice_bounds-proved-end : goal.slice_bounds-proved-end
 slice_bounds-proved-end c =
     let n = c.blocks_length-n in
-    let most = data_most c.args.f c.args.m.now (λ i. (c.shared_slice_known-1.given i).fits) c.requires.0 _ n.ensures in
-    sym (length-take-le n.result c.open_data.new.out (omega (arith, most)))
+    let most = data_most c.args.f c.args.m.now (λ i. (c.type_inv.m i).fits) c.requires.0 _ n.ensures in
+    sym (length-take-le _ c.open_data.new.out (omega (arith, most)))
 
 pub proved-requires : goal.proved-requires
 proved-requires c =
@@ -59,16 +59,16 @@ returns-then-not-proved c =
 pub slice_bounds-room-end-2 : goal.slice_bounds-room-end-2
 slice_bounds-room-end-2 c =
     let most =
-    data_most c.args.f c.args.m.now (λ i. (c.shared_slice_known-1.given i).fits) c.requires.0 _
+    data_most c.args.f c.args.m.now (λ i. (c.type_inv.m i).fits) c.requires.0 _
     c.blocks_length-n.ensures in
     omega (arith, most)
 
 pub slice_bounds-write-end : goal.slice_bounds-write-end
 slice_bounds-write-end c =
     let n = c.blocks_length-n in
-    let most = data_most c.args.f c.args.m.now (λ i. (c.shared_slice_known-1.given i).fits) c.requires.0 _ n.ensures
+    let most = data_most c.args.f c.args.m.now (λ i. (c.type_inv.m i).fits) c.requires.0 _ n.ensures
     in
-    sym (length-take-le n.result c.open_data.new.out (omega (arith, most)))
+    sym (length-take-le _ c.open_data.new.out (omega (arith, most)))
 
 pub returns : goal.returns
 returns c =
