@@ -9,7 +9,7 @@ use reader::{Keys, ReaderFault};
 use reader_build::Made;
 
 /// What the trainee picks.
-#[derive(Drop)]
+#[derive(Clone, Copy)]
 pub enum Method {
     Tam1,
     Tam2,
@@ -19,7 +19,7 @@ pub enum Method {
 }
 
 /// The method, the reader's keys, the fields of its messages, and its random bytes: a message reads those that it has.
-#[derive(Drop)]
+#[derive(Clone, Copy)]
 pub struct Plan {
     pub method: Method,
     pub keys: Keys,
