@@ -9,7 +9,7 @@ pub mod records; // records.rt: what a setup offers, and what a message names
 pub mod judged; // judged.rt: the bench's check, and the line that opens TAM1, IAM1 and MAM1
 
 /// Why a message is refused: the scope paper's numbers 1 to 7.
-#[derive(Drop)]
+#[derive(Clone, Copy)]
 pub enum TagFault {
     OtherError,
     NotSupported,
@@ -21,7 +21,7 @@ pub enum TagFault {
 }
 
 /// The end of a line of checks.
-#[derive(Drop)]
+#[derive(Clone, Copy)]
 pub enum Checked {
     Fine,
     Wrong(TagFault),
@@ -29,7 +29,7 @@ pub enum Checked {
 
 /// What a message comes to: a reply of so many bytes, a reader that is let in with its Purpose (the reply is empty), or
 /// a refusal.
-#[derive(Drop)]
+#[derive(Clone, Copy)]
 pub enum Outcome {
     Replied(usize),
     Entered(u8),
