@@ -56,7 +56,8 @@ module _ (keys identity user : List ℕ) (tag : Tag) where
 
 -- what a run leaves
 pub played : (ds : List Doing) (xs : List Left) (keys : List ℕ) (tag : Tag) (identity user : List ℕ)
-    → Plays keys tag identity user ds xs → xs ≡ left_all stepped_of ds (run (keyed tag keys) identity user (events_of ds))
+    → Plays keys tag identity user ds xs
+    → xs ≡ left_all stepped_of ds (run (keyed tag keys) identity user (events_of ds))
 unfolding OneByOne left_all run events_of
 played [] [] keys tag identity user h = refl
 played [] (x ∷ xs) keys tag identity user h = absurd h

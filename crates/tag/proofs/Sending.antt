@@ -1,15 +1,9 @@
 -- A reply that is given with zeros behind it: as much of it as the outcome says goes into the room.
 use mathlib.Core.Path.{◌≡◌, refl, sym, ◌∙◌}
-use mathlib.Core.List.{List, map}
+use mathlib.Core.List.{List}
 use Prim.Native.Nat.{ℕ, ◌≤◌}
 use native.Mathlib.Omega.{arith}
-use lib.ListN.{length, take, length-map}
-use mir.Syntax.{w8}
-use mir.Val.{Val}
-use denote.Laws.{Is}
-use denote.Plain.{UInt}
-use denote.Array.{Array}
-use Rattle.field.proofs.Arrays.{array_length}
+use lib.ListN.{length, take}
 use Rattle.modes.specs.Room.{over}
 use Rattle.frames.specs.Lengths.{reply_room}
 use Rattle.offer.specs.declared.Checked.{Checked}
@@ -25,11 +19,6 @@ use Rattle.entry.specs.Given.{Challenges, challenge_room}
 use Rattle.tag.specs.Answers.{Call, replied, if_fine}
 use Rattle.tag.specs.Reactions.{Reacts}
 use Rattle.tag.proofs.Reacting.{told_fits, told_sent, reacts_sent}
-
--- the length of an array of bytes that is a field of what a call gave
-pub field_length : (n : ℕ) (xs : List ℕ) (vs : List Val) → Is (Array (UInt w8) n) (map (λ (v : ℕ). v) xs) vs
-    → length xs ≡ n
-field_length n xs vs p = sym (length-map xs (λ (v : ℕ). v)) ∙ array_length n (map (λ (v : ℕ). v) xs) vs p
 
 -- what `send` of the code asks for
 abbrev pub Fits : ℕ → List ℕ → List ℕ → Type 0

@@ -136,8 +136,8 @@ module _ (c : Call) where
   Leads k e = Accepted e.outcome → In k e
 
   kind_leads : (setup : Setup) (held : Session) (k : Kind) → Leads k (by_kind c setup held k)
-  unfolding by_kind tam1_answer tam2_answer iam1_answer iam2_answer iam3_answer mam1_answer mam2_answer replied let_in cleared
-      entered
+  unfolding by_kind tam1_answer tam2_answer iam1_answer iam2_answer iam3_answer mam1_answer mam2_answer replied let_in
+      cleared entered
   kind_leads setup held Tam1 = fine_case c (Leads Tam1) (λ f. refusal_not (In Tam1) f cleared) _ _ (λ h. refl)
   kind_leads setup held Tam2 = fine_case c (Leads Tam2) (λ f. refusal_not (In Tam2) f cleared) _ _ (λ h. refl)
   kind_leads setup held Iam1 = fine_case c (Leads Iam1) (λ f. refusal_not (In Iam1) f cleared) _ _ (λ h. refl)

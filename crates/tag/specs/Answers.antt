@@ -21,7 +21,8 @@ use Rattle.offer.specs.Judged.{lending_checks}
 use Rattle.tam.specs.Given.{tam1_checked, tam1_sent, tam2_checked, tam2_sent}
 use Rattle.entry.specs.declared.Session.{Session}
 use Rattle.entry.specs.Sessions.{cleared, entered}
-use Rattle.entry.specs.Given.{iam1_checked, iam1_held, iam2_checked, iam2_purpose, iam3_checked, iam3_purpose, iam3_stored}
+use Rattle.entry.specs.Given.{iam1_checked, iam1_held, iam2_checked, iam2_purpose, iam3_checked, iam3_purpose}
+use Rattle.entry.specs.Given.{iam3_stored}
 use Rattle.entry.specs.Given.{mam1_checked, mam1_sent, mam1_held, mam2_checked, mam2_purpose}
 use Rattle.tag.specs.States.{KeyedTag, holding, in_turn}
 

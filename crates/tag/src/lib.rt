@@ -16,7 +16,7 @@ mod kinds; // kinds.rt: what each kind that is answered comes to, in the room
 mod turns; // turns.rt: the checks before a message's kind counts
 
 /// A tag, but for its key table, which is lent with each call: the terms on which it serves, and what it holds.
-#[derive(Drop)]
+#[derive(Clone, Copy)]
 pub struct Tag {
     pub terms: Terms,
     pub session: Session,
