@@ -95,7 +95,7 @@ extern "C" {
  * and so takes no message.
  *
  * That is all that is asked: the library can't tell a stored tag from bytes that were made by hand. They are the
- * standard's tag where roualint_sheet made them and only these functions changed them since (theorem sheet-run in
+ * standard's tag where roualint_sheet made them and only these functions changed them since (theorem sheet_run in
  * crates/capi/proofs/Runs.antt). So keep them, like the keys they hold, where nobody else writes. Bytes from elsewhere
  * are safe to pass: every call returns and keeps to its contract. But whoever makes the bytes chooses keys and
  * challenges. */

@@ -22,8 +22,7 @@ ghost use Rattle.capi.specs.Reader.{mac_given, size_given, bits_given, keys_of, 
 use super::given;
 
 /// TAM1. Ruled out: a message in a room of 175 bytes; the challenge cut.
-#[unsafe(no_mangle)]
-pub extern "C" fn roualint_build_tam1(
+pub fn roualint_build_tam1(
     keyid: u8,
     ichallenge: &[u8; 10],
     room: &mut [u8],
@@ -39,8 +38,7 @@ pub extern "C" fn roualint_build_tam1(
 
 /// TAM2, by the reader's keys: BlockSize 0 (64-bit blocks) or 1 (16-bit blocks), Rev 0 or 1.
 /// Ruled out: BlockSize 2; ProtMode 2 with no MAC key.
-#[unsafe(no_mangle)]
-pub extern "C" fn roualint_build_tam2(
+pub fn roualint_build_tam2(
     enc: &[u8; 16],
     mac: &[u8],
     blocksize: u8,
@@ -72,8 +70,7 @@ pub extern "C" fn roualint_build_tam2(
 }
 
 /// IAM1. Ruled out: the first byte of MAM1; bytes behind the message cleared.
-#[unsafe(no_mangle)]
-pub extern "C" fn roualint_build_iam1(keyid: u8, room: &mut [u8], told: &mut usize) -> u8
+pub fn roualint_build_iam1(keyid: u8, room: &mut [u8], told: &mut usize) -> u8
     ensures { Builds true (iam1_made keyid) room.old result told.new room.new }
 {
     let made = reader_build::iam1(keyid, room);
@@ -83,8 +80,7 @@ pub extern "C" fn roualint_build_iam1(keyid: u8, room: &mut [u8], told: &mut usi
 
 /// IAM2, by the reader's keys: the answer to the challenge of an IAM1.
 /// Ruled out: IResponse by AES-ENC; Purpose 16.
-#[unsafe(no_mangle)]
-pub extern "C" fn roualint_build_iam2(
+pub fn roualint_build_iam2(
     enc: &[u8; 16],
     mac: &[u8],
     purpose: u8,
@@ -109,8 +105,7 @@ pub extern "C" fn roualint_build_iam2(
 
 /// IAM3, by the reader's keys: the same answer, and data to be written.
 /// Ruled out: fewer bytes of data than BlockCount says, filled up; BlockSize 2 taken for 1.
-#[unsafe(no_mangle)]
-pub extern "C" fn roualint_build_iam3(
+pub fn roualint_build_iam3(
     enc: &[u8; 16],
     mac: &[u8],
     blocksize: u8,
@@ -152,8 +147,7 @@ pub extern "C" fn roualint_build_iam3(
 }
 
 /// MAM1. Ruled out: the first byte of TAM1; a room of 175 bytes taken.
-#[unsafe(no_mangle)]
-pub extern "C" fn roualint_build_mam1(
+pub fn roualint_build_mam1(
     keyid: u8,
     ichallenge: &[u8; 10],
     room: &mut [u8],
@@ -169,8 +163,7 @@ pub extern "C" fn roualint_build_mam1(
 
 /// MAM2, by the reader's keys: the answer to the challenge of a MAM1.
 /// Ruled out: the two challenges exchanged; a MAC key of fifteen bytes.
-#[unsafe(no_mangle)]
-pub extern "C" fn roualint_build_mam2(
+pub fn roualint_build_mam2(
     enc: &[u8; 16],
     mac: &[u8],
     purpose: u8,

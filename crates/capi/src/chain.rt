@@ -8,8 +8,7 @@ ghost use Rattle.capi.specs.Chain.{Chains};
 
 /// CBC_ENC_AES (3.1.8) into the room's first bytes: 0. An input of no whole number of blocks, or a shorter room: 8, and
 /// the room as it was. Ruled out: AES-DEC in place of AES-ENC; a byte written behind the output.
-#[unsafe(no_mangle)]
-pub extern "C" fn roualint_cbc_enc_aes(
+pub fn roualint_cbc_enc_aes(
     iv: &[u8; 16],
     key: &[u8; 16],
     input: &[u8],
@@ -24,8 +23,7 @@ pub extern "C" fn roualint_cbc_enc_aes(
 
 /// CBC_DEC_AES (3.1.11), by AES-ENC; refused as roualint_cbc_enc_aes is.
 /// Ruled out: the chain taken from the output; AES-DEC in place of AES-ENC.
-#[unsafe(no_mangle)]
-pub extern "C" fn roualint_cbc_dec_aes(
+pub fn roualint_cbc_dec_aes(
     iv: &[u8; 16],
     key: &[u8; 16],
     input: &[u8],
@@ -40,8 +38,7 @@ pub extern "C" fn roualint_cbc_dec_aes(
 
 /// CBC_ENC_AES_INV (3.1.10), by AES-DEC; refused as roualint_cbc_enc_aes is.
 /// Ruled out: AES-ENC in place of AES-DEC; key and IV exchanged.
-#[unsafe(no_mangle)]
-pub extern "C" fn roualint_cbc_enc_aes_inv(
+pub fn roualint_cbc_enc_aes_inv(
     iv: &[u8; 16],
     key: &[u8; 16],
     input: &[u8],
@@ -56,8 +53,7 @@ pub extern "C" fn roualint_cbc_enc_aes_inv(
 
 /// CBC_DEC_AES_INV (3.1.9); refused as roualint_cbc_enc_aes is.
 /// Ruled out: the two forms over AES-DEC exchanged; a short room filled as far as it goes.
-#[unsafe(no_mangle)]
-pub extern "C" fn roualint_cbc_dec_aes_inv(
+pub fn roualint_cbc_dec_aes_inv(
     iv: &[u8; 16],
     key: &[u8; 16],
     input: &[u8],
@@ -72,8 +68,7 @@ pub extern "C" fn roualint_cbc_dec_aes_inv(
 
 /// CMAC-96 (3.1.13), twelve bytes into the room's first: 0. An input of no whole number of blocks, or of none, or a
 /// room of under 12: 8, and the room as it was. Ruled out: sixteen bytes written; the MAC of no block.
-#[unsafe(no_mangle)]
-pub extern "C" fn roualint_cmac_96(key: &[u8; 16], input: &[u8], room: &mut [u8]) -> u8
+pub fn roualint_cmac_96(key: &[u8; 16], input: &[u8], room: &mut [u8]) -> u8
     ensures { Chains (macs (length input.now) (length room.old))
         (cmac96 key.now input.now) room.old result room.new }
 {

@@ -9,8 +9,7 @@ use super::given;
 /// challenge, which then stands in challenge; else both are zeros. A refusal changes no byte of the room, and tells no
 /// data and no challenge. Ruled out: unproved data told as proved; data told though the reply is refused; the tag's
 /// challenge not handed over.
-#[unsafe(no_mangle)]
-pub extern "C" fn roualint_judge(
+pub fn roualint_judge(
     enc: &[u8; 16],
     mac: &[u8],
     message: &[u8],

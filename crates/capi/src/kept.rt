@@ -15,8 +15,7 @@ use tag::Tag;
 /// and the tag as it was.
 /// Ruled out: a tag changed by a refused sheet; a place of 0 for every refusal; bytes of an older tag left in the
 /// image.
-#[unsafe(no_mangle)]
-pub extern "C" fn roualint_sheet(sheet: &[u8], tag: &mut [u8; IMAGE], place: &mut usize) -> u8
+pub fn roualint_sheet(sheet: &[u8], tag: &mut [u8; IMAGE], place: &mut usize) -> u8
     ensures { SetUp sheet.now tag.old result place.new tag.new }
 {
     let verdict = image::lay(sheet, tag);
@@ -30,8 +29,7 @@ pub extern "C" fn roualint_sheet(sheet: &[u8], tag: &mut [u8; IMAGE], place: &mu
 
 /// Power-up and reset: 0, and nothing is held; the rest stays. Bytes that are no tag's: 7, and they stay as they are.
 /// Ruled out: a challenge that outlives the power; a tag made of bytes that are none.
-#[unsafe(no_mangle)]
-pub extern "C" fn roualint_power_up(tag: &mut [u8; IMAGE]) -> u8
+pub fn roualint_power_up(tag: &mut [u8; IMAGE]) -> u8
     ensures { PoweredUp tag.old result tag.new }
 {
     if !image::is_tag(tag) {
@@ -44,8 +42,7 @@ pub extern "C" fn roualint_power_up(tag: &mut [u8; IMAGE]) -> u8
 /// The tag's state, from its first byte, which is all that is read: 0 Initial, 1 IAM-Init, 2 MAM-Init, 3 IA-OK; 255
 /// where it is over 3.
 /// Ruled out: a byte over 3 taken for a state; 255 for a tag in IA-OK.
-#[unsafe(no_mangle)]
-pub extern "C" fn roualint_state(tag: &[u8; IMAGE]) -> u8
+pub fn roualint_state(tag: &[u8; IMAGE]) -> u8
     ensures { result ≡ state_said (byte_at tag.now 0) }
 {
     let state = tag[0];
@@ -64,8 +61,7 @@ fn bytes_of(words: u16) -> usize
 
 /// The sizes of the areas that the tag wants lent, in bytes: 0. Bytes that are no tag's: 7, and both sizes are 0.
 /// Ruled out: sizes in words; the two areas exchanged.
-#[unsafe(no_mangle)]
-pub extern "C" fn roualint_areas(tag: &[u8; IMAGE], identity: &mut usize, user: &mut usize) -> u8
+pub fn roualint_areas(tag: &[u8; IMAGE], identity: &mut usize, user: &mut usize) -> u8
     ensures { AreasOf tag.now result identity.new user.new }
 {
     if !image::is_tag(tag) {
@@ -94,8 +90,7 @@ fn purpose_of(outcome: Outcome) -> u8
 /// where none is); or 1 to 7, with length 0 and no byte of room and areas changed. The tag holds its next session.
 /// Bytes that are no tag's: 7, and they stay as they are.
 /// Ruled out: a session that is not kept; a Purpose told of a reader that is not let in; a length told with a refusal.
-#[unsafe(no_mangle)]
-pub extern "C" fn roualint_message(
+pub fn roualint_message(
     tag: &mut [u8; IMAGE],
     message: &[u8],
     draws: &[u8],

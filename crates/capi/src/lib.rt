@@ -1,5 +1,4 @@
-// The functions that a program in C or Rust links (`rt staticlib capi`). Nothing checks the caller: it must pass what
-// the parameters' types say.
+// The functions that a program in C or Rust links, by the exports of the same names in crate capi_c.
 #![tactic(auto)]
 
 ghost use Rattle.std.specs.Prelude.{◌≡◌};
@@ -15,8 +14,7 @@ pub mod chain; // chain.rt: chaining and the MAC
 
 /// How many bytes a kept tag has: 793.
 /// Ruled out: the length of one tag's; an image with no room for sixteen key records.
-#[unsafe(no_mangle)]
-pub extern "C" fn roualint_tag_bytes() -> usize
+pub fn roualint_tag_bytes() -> usize
     ensures { result ≡ image_length }
 {
     image::IMAGE
@@ -24,8 +22,7 @@ pub extern "C" fn roualint_tag_bytes() -> usize
 
 /// AES-ENC of a block, in place.
 /// Ruled out: AES-DEC; the block left as it was.
-#[unsafe(no_mangle)]
-pub extern "C" fn roualint_aes_enc(key: &[u8; 16], block: &mut [u8; 16])
+pub fn roualint_aes_enc(key: &[u8; 16], block: &mut [u8; 16])
     ensures { block.new ≡ aes_enc key.now block.old }
 {
     let output = aes::encrypt(*key, *block);
@@ -34,8 +31,7 @@ pub extern "C" fn roualint_aes_enc(key: &[u8; 16], block: &mut [u8; 16])
 
 /// AES-DEC of a block, in place.
 /// Ruled out: AES-ENC; the block left as it was.
-#[unsafe(no_mangle)]
-pub extern "C" fn roualint_aes_dec(key: &[u8; 16], block: &mut [u8; 16])
+pub fn roualint_aes_dec(key: &[u8; 16], block: &mut [u8; 16])
     ensures { block.new ≡ aes_dec key.now block.old }
 {
     let output = aes_inverse::decrypt(*key, *block);
