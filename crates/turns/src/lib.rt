@@ -17,7 +17,7 @@ pub mod asks; // asks.rt: the reader's turns
 pub mod answers; // answers.rt: the tag's turns
 
 /// Whose turn is next, or how the exchange ended. TAM has the first two turns, IAM and MAM all four.
-#[derive(Drop)]
+#[derive(Clone, Copy)]
 pub enum Next {
     ReaderOpens,
     TagAnswers,
@@ -29,21 +29,21 @@ pub enum Next {
 }
 
 /// The last message that was sent: so many of the bytes; zeros stand behind them.
-#[derive(Drop)]
+#[derive(Clone, Copy)]
 pub struct Sent {
     pub bytes: [u8; MESSAGE_ROOM],
     pub count: usize,
 }
 
 /// The last reply that came: so many of the bytes; zeros stand behind them.
-#[derive(Drop)]
+#[derive(Clone, Copy)]
 pub struct Reply {
     pub bytes: [u8; REPLY_ROOM],
     pub count: usize,
 }
 
 /// The data that the reader's side found in the reply that ended the exchange: so many of the bytes, and their worth.
-#[derive(Drop)]
+#[derive(Clone, Copy)]
 pub struct Found {
     pub bytes: [u8; DATA_ROOM],
     pub count: usize,
@@ -52,7 +52,7 @@ pub struct Found {
 
 /// What stands between two turns: whose turn is next, how many turns are left, the last message, the last reply, the
 /// challenge that the tag issued (zeros before), and what was found.
-#[derive(Drop)]
+#[derive(Clone, Copy)]
 pub struct Standing {
     pub next: Next,
     pub left: u8,
@@ -63,14 +63,14 @@ pub struct Standing {
 }
 
 /// What an exchange begins with, or 40 and an exchange without a turn.
-#[derive(Drop)]
+#[derive(Clone, Copy)]
 pub struct Begun {
     pub number: u8,
     pub standing: Standing,
 }
 
 /// What stands after the turns that were played, and the tag.
-#[derive(Drop)]
+#[derive(Clone, Copy)]
 pub struct Played {
     pub standing: Standing,
     pub tag: Tag,
