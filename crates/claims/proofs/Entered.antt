@@ -76,12 +76,12 @@ iam2_entered = iam2_enters iam2 (waiting IamInit) keys 0 (replicate 4 0) iam2_wa
     refl
 
 -- The power goes before it comes: the same message of the same reader is out of turn, since no challenge outlives it.
-pub iam2-after-power :
+pub iam2_after_power :
     answer_of iam2 (answer_to (waiting IamInit) [] user PowerUp).tag
     ≡ answer_with setup (refused iam2 OutOfTurn cleared)
 unfolding answer_to powered_up effect_of of_message in_order judged_to lending_checks offered in_turn after_iam1 cleared setup
     terms iam2_made iam2_message kind_of iam_kind
-iam2-after-power = refl
+iam2_after_power = refl
 
 abbrev mam2 : Call
 mam2 = call (mam2_made keys 0 (replicate 10 0) (drawn 0))
