@@ -21,8 +21,8 @@ zeros = replicate 793 0
 
 -- Zeros are the tag of the smallest sheet, powered up: it has no memory and no key, and so takes no message.
 pub zeros_image : image_of cleared empty_terms [] ≡ zeros
-unfolding image_of cleared empty_terms no_features no_slot no_lock features_body sizes_body profile_body lock_body bodies
-    profile_limit lock_limit area_number
+unfolding image_of cleared empty_terms no_features no_slot no_lock features_body sizes_body profile_body lock_body
+    bodies profile_limit lock_limit area_number
 zeros_image = refl
 
 pub zeros_tag : is_tag zeros ≡ true

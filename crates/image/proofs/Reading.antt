@@ -1,10 +1,10 @@
 -- What the functions of `read` find.
 use mathlib.Core.Path.{◌≡◌, sym, ap, ap₂, ◌∙◌}
-use mathlib.Core.Bool.{Bool, true, false, not}
+use mathlib.Core.Bool.{Bool, true, false}
 use mathlib.Core.List.{List}
 use Prim.Native.Nat.{ℕ, ◌+◌, ◌*◌, ◌-◌, ◌<◌, ◌≤◌}
 use native.Mathlib.Omega.{arith}
-use borrow.Author.Tests.{le-leb, lt-leb, le-ltb, lt-ltb, not-true, not-false}
+use borrow.Author.Tests.{le-leb, lt-leb, le-ltb, lt-ltb}
 use lib.ListN.{length, take, drop, length-drop}
 use lib.Seq.{take_all}
 use Rattle.ground.specs.Choice.{both, implies}
@@ -46,17 +46,17 @@ module _ (image : List ℕ) (long : length image ≡ 793) where
     unfolding session_in
     state_there = f ∙ ap at_rest e
 
-    pub waits : not b ≡ true → true ≡ rests (session_in image)
+    pub waits : b ≡ false → true ≡ rests (session_in image)
     unfolding rests
     waits h =
-        sym (ap (λ (x : Bool). implies x (all_zero (held_bytes (session_in image)))) (sym state_there ∙ not-true b h))
+        sym (ap (λ (x : Bool). implies x (all_zero (held_bytes (session_in image)))) (sym state_there ∙ h))
 
-    pub held_zeros : not b ≡ false → (r : Bool) → r ≡ all_zero (take 15 (drop 1 image)) → r ≡ rests (session_in image)
+    pub held_zeros : b ≡ true → (r : Bool) → r ≡ all_zero (take 15 (drop 1 image)) → r ≡ rests (session_in image)
     unfolding rests
     held_zeros h r g =
         g
         ∙ ap all_zero held_there
-        ∙ sym (ap (λ (x : Bool). implies x (all_zero (held_bytes (session_in image)))) (sym state_there ∙ not-false b h))
+        ∙ sym (ap (λ (x : Bool). implies x (all_zero (held_bytes (session_in image)))) (sym state_there ∙ h))
 
 -- ---- the tests of a tag's bytes, one after the other
 
@@ -87,8 +87,8 @@ module _ (image : List ℕ) where
         unfolding is_tag lock_limit key_limit
         tests = simp (lt-ltb _ 4 a, le-leb _ 16 b, le-leb (word_at image 199) 16 (omega arith), held_is)
 
-        pub not_held : not r ≡ true → false ≡ is_tag image
-        not_held h = sym (tests ∙ ap (λ (x : Bool). both x (rests (session_in image))) (not-true r h))
+        pub not_held : r ≡ false → false ≡ is_tag image
+        not_held h = sym (tests ∙ ap (λ (x : Bool). both x (rests (session_in image))) h)
 
-        pub is_held : not r ≡ false → (q : Bool) → q ≡ rests (session_in image) → q ≡ is_tag image
-        is_held h q j = j ∙ sym (tests ∙ ap (λ (x : Bool). both x (rests (session_in image))) (not-false r h))
+        pub is_held : r ≡ true → (q : Bool) → q ≡ rests (session_in image) → q ≡ is_tag image
+        is_held h q j = j ∙ sym (tests ∙ ap (λ (x : Bool). both x (rests (session_in image))) h)

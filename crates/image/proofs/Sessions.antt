@@ -19,7 +19,8 @@ use Rattle.offer.specs.Judged.{lending_checks}
 use Rattle.offer.proofs.Lines.{fails}
 use Rattle.entry.specs.Sessions.{cleared, entered}
 use Rattle.tag.specs.States.{KeyedTag, at_rest}
-use Rattle.tag.specs.Answers.{Effect, Call, refused, replied, let_in, tam1_answer, tam2_answer, iam1_answer, iam2_answer}
+use Rattle.tag.specs.Answers.{Effect, Call, refused, replied, let_in, tam1_answer, tam2_answer, iam1_answer}
+use Rattle.tag.specs.Answers.{iam2_answer}
 use Rattle.tag.specs.Answers.{iam3_answer, mam1_answer, mam2_answer, by_kind, of_lending, effect_of, answer_of}
 use Rattle.tag.proofs.Cases.{fine_case, effect_case}
 use Rattle.image.specs.Image.{rests}
@@ -44,8 +45,8 @@ module _ (c : Call) where
 
   module _ (tag : KeyedTag) (h : Fits tag.session) where
     kind_fits : (k : Kind) → Of (by_kind c tag.setup tag.session k)
-    unfolding by_kind tam1_answer tam2_answer iam1_answer iam2_answer iam3_answer mam1_answer mam2_answer replied let_in mam1_of
-        rests at_rest
+    unfolding by_kind tam1_answer tam2_answer iam1_answer iam2_answer iam3_answer mam1_answer mam2_answer replied let_in
+        mam1_of rests at_rest
     kind_fits Tam1 = fine_case c Of refused_fits _ _ (λ d. cleared_fits)
     kind_fits Tam2 = fine_case c Of refused_fits _ _ (λ d. cleared_fits)
     kind_fits Iam1 =

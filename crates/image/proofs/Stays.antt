@@ -61,7 +61,8 @@ module _ (image : List ℕ) (long : 16 ≤ length image) (e : is_tag image ≡ t
       let k = leb (word_at image 199) key_limit in
       let f = key_fits (keys_in (table_in image)) (session_in image).state (session_in image).keyid in
       let r = rests (session_in image) in
-      let a = (both_true (ltb (byte_at image 0) 4) (both (leb (byte_at image 118) lock_limit) (both k (both f r))) e).1 in
+      let a =
+      (both_true (ltb (byte_at image 0) 4) (both (leb (byte_at image 118) lock_limit) (both k (both f r))) e).1 in
       let b = (both_true (leb (byte_at image 118) lock_limit) (both k (both f r)) a).1 in
       (both_true f r (both_true k (both f r) b).1).1
 
