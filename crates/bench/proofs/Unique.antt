@@ -15,7 +15,7 @@ use Rattle.bench.proofs.woken.Kinds as woken-kinds
 use Rattle.bench.proofs.kept.Reads as kept
 use Rattle.bench.proofs.kept.Kinds as kept-kinds
 
-pub power_up_one : OneWalked power-up.ended (λ M. power-up.clauses {M = M})
+pub power_up_one : OneWalked power-up.ended (λ M 𝓤. power-up.clauses {M = M} {𝓤 = 𝓤})
     (λ κs a r e. e.0.now ≡ awake a.0.now.terms)
 power_up_one = ((λ M 𝓤 𝓛 mem run κs a g r e. refl), (λ κs a x y v w p q. (refl, one p q & refl)))
 
@@ -32,7 +32,7 @@ Stepping κs a r e =
     room.1.1.0.now) (keyed a.0.now a.1.0.now)) room.0.now
     (left r e.0.now) after.0.now after.1.0.now after.1.1.0.now
 
-pub step_one : OneWalked step.ended (λ M. step.clauses {M = M}) Stepping
+pub step_one : OneWalked step.ended (λ M 𝓤. step.clauses {M = M} {𝓤 = 𝓤}) Stepping
 step_one = (
   (λ M 𝓤 𝓛 mem run κs a g r e. refl),
   (λ κs a x y v w p q. (
