@@ -116,7 +116,7 @@ pub kept_refuses : Gives 6 kept-kinds.ps kept-kinds.r kept.Post
     (leaves r e.1.1.1.1.0.now e.1.1.1.1.1.0.now e.1.1.1.1.1.1.0.now) f)
 kept_refuses κs a r e h f v = tag_answers a.1.0.now _ _ _ _ _ f h v
 
--- `bench::step` is proved by a walk by hand, and its contract says `Stepping`
+-- the contract of `bench::step` says `Stepping`, by its own clauses
 pub step_in_place_said : States step-in-place.ended (λ M. step-in-place.clauses {M = M}) Stepping
 step_in_place_said = step_one.0
 
