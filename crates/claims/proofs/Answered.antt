@@ -7,7 +7,6 @@ use Prim.Native.Nat.{ℕ, zero, suc, ◌+◌}
 use native.Mathlib.Omega.{arith}
 use lib.ListN.{length, drop}
 use Rattle.ground.specs.Choice.{pick}
-use Rattle.modes.specs.Room as room
 use Rattle.modes.specs.Room.{over}
 use Rattle.sheet.specs.declared.SheetFault.{SheetFault}
 use Rattle.sheet.specs.declared.SheetFault.TheVariants.{Cut, Unknown, Order, Value, Many, Tail}

@@ -81,7 +81,8 @@ moded_quiet : (x : ProtModeField) (of : ProtMode → Finding) (none : Finding) �
 moded_quiet (Mode mode) of none h k = h mode
 moded_quiet NoMode of none h k = k
 
-in_mode_quiet : (keys : Keys) (f : Tam2Fields) (reply : List ℕ) (mode : ProtMode) → Quiet (tam2_in_mode keys f reply mode)
+in_mode_quiet : (keys : Keys) (f : Tam2Fields) (reply : List ℕ) (mode : ProtMode)
+    → Quiet (tam2_in_mode keys f reply mode)
 unfolding tam2_in_mode data_finding
 in_mode_quiet keys f reply mode = judged_quiet _ _ (judged_quiet _ _ (carries_quiet _ _))
 

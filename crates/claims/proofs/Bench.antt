@@ -84,9 +84,9 @@ sheet =
     ∷ 0x06 ∷ [])
 
 pub sheet_read : read_of key_limit sheet ≡ whole terms 1
-unfolding terms read_of walk after judged_of opened_of too_many kind_of in_order record_of with_features with_sizes with_key
-    with_profile features_rule features_of sizes_rule sizes_of key_rule profile_rule slot_of inside words_in area_of all_zero
-    word_limit key_limit profile_limit lock_limit nothing_gathered no_marks empty_terms
+unfolding terms read_of walk after judged_of opened_of too_many kind_of in_order record_of with_features with_sizes
+    with_key with_profile features_rule features_of sizes_rule sizes_of key_rule profile_rule slot_of inside words_in
+    area_of all_zero word_limit key_limit profile_limit lock_limit nothing_gathered no_marks empty_terms
 sheet_read = refl
 
 pub said : said_of key_limit sheet ≡ setup

@@ -40,7 +40,8 @@ use Rattle.reader.specs.declared.ReaderFault.{ReaderFault}
 use Rattle.reader.specs.Numbers as reader
 use Rattle.reader.specs.Own.{mode_fits, data_room}
 use Rattle.reader_build.specs.declared.Made.TheVariants.{Refused as NotMade}
-use Rattle.reader_build.specs.Builds.{purpose_fits, iam3_fits, tam1_made, tam2_made, iam1_made, mam1_made, iam2_made, mam2_made}
+use Rattle.reader_build.specs.Builds.{purpose_fits, iam3_fits, tam1_made, tam2_made, iam1_made, mam1_made, iam2_made}
+use Rattle.reader_build.specs.Builds.{mam2_made}
 use Rattle.reader_build.specs.Builds.{iam3_made}
 use Rattle.reader_build.specs.Makes.{Makes}
 use Rattle.reader_judge.specs.declared.Verdict.TheVariants.{Refused as NotBelieved}
@@ -117,7 +118,7 @@ pub kept_refuses : Gives 6 kept-kinds.ps kept-kinds.r kept.Post
 kept_refuses κs a r e h f v = tag_answers a.1.0.now _ _ _ _ _ f h v
 
 -- the contract of `bench::step` says `Stepping`, by its own clauses
-pub step_in_place_said : States step-in-place.ended (λ M. step-in-place.clauses {M = M}) Stepping
+pub step_in_place_said : States step-in-place.ended (λ M 𝓤. step-in-place.clauses {M = M} {𝓤 = 𝓤}) Stepping
 step_in_place_said = step_one.0
 
 pub step_in_place_refuses : (κs : Lfts 7) (a : Args (step-in-place.ended).signature κs)

@@ -30,7 +30,8 @@ use Rattle.ground.specs.Checks.{judged_to}
 use Rattle.offer.specs.Judged.{lending_checks}
 use Rattle.offer.proofs.Bytes.{zeros_bytes}
 use Rattle.keytable.specs.Named.{key_with}
-use Rattle.offer.specs.Records.{offered, size_offered, mode_offered, mode_served, mode_supported, slot_named, block_asked}
+use Rattle.offer.specs.Records.{offered, size_offered, mode_offered, mode_served, mode_supported, slot_named}
+use Rattle.offer.specs.Records.{block_asked}
 use Rattle.tag.specs.Answers.{Call, effect_of, answer_with, answer_of, of_message, in_order, refused, let_in}
 use Rattle.tag.specs.Runs.{PowerUp, answer_to}
 use Rattle.tag.specs.Reactions.{lent}
@@ -79,8 +80,8 @@ iam2_entered = iam2_enters iam2 (waiting IamInit) keys 0 (replicate 4 0) iam2_wa
 pub iam2_after_power :
     answer_of iam2 (answer_to (waiting IamInit) [] user PowerUp).tag
     ≡ answer_with setup (refused iam2 OutOfTurn cleared)
-unfolding answer_to powered_up effect_of of_message in_order judged_to lending_checks offered in_turn after_iam1 cleared setup
-    terms iam2_made iam2_message kind_of iam_kind
+unfolding answer_to powered_up effect_of of_message in_order judged_to lending_checks offered in_turn after_iam1 cleared
+    setup terms iam2_made iam2_message kind_of iam_kind
 iam2_after_power = refl
 
 abbrev mam2 : Call
@@ -114,13 +115,14 @@ unfolding judged_to lending_checks offered in_turn after_iam1 setup terms
 iam3_waits = record { bench = refl; there = refl; turn = refl }
 
 fits : iam3_fits keys custom 0 0 8 ≡ true
-unfolding iam3_fits mode_fits readerServes prot_mode_of has_mac purpose_fits data_fits data_length block_bytes custom_fits
+unfolding iam3_fits mode_fits readerServes prot_mode_of has_mac purpose_fits data_fits data_length block_bytes
+    custom_fits
 fits = refl
 
 pub writable : Writable setup (key_with 0 setup.keys) custom 0
-unfolding setup terms mode_supported mode_served mode_offered prot_mode_of has_mac key_with slot_named permitted size_offered
-    overruns last_word
-    profile_end block_asked wordsAsked address_of step_of some_locked meets_any key_limit profile_limit lock_limit
+unfolding setup terms mode_supported mode_served mode_offered prot_mode_of has_mac key_with slot_named permitted
+    size_offered overruns last_word profile_end block_asked wordsAsked address_of step_of some_locked meets_any
+    key_limit profile_limit lock_limit
 writable = record { mode = refl; present = refl; right = refl; size = refl; inside = refl; unlocked = refl }
 
 pub iam3_entered : answer_of (call iam3) (waiting IamInit)

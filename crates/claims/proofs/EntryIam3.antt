@@ -31,7 +31,8 @@ use Rattle.frames.proofs.Taken.{iam3_taken}
 use Rattle.payload.specs.Data.{carried_data, header_fits, filler_fits}
 use Rattle.payload.proofs.Data.{carried_long}
 use Rattle.payload.proofs.Recovered.{header_carried, words_carried, filler_carried}
-use Rattle.entry.specs.Opened.{purpose_in, iam_proof, sent_block, opened_in, opened_data, words_in, proved_in, iam3_proof}
+use Rattle.entry.specs.Opened.{purpose_in, iam_proof, sent_block, opened_in, opened_data, words_in, proved_in}
+use Rattle.entry.specs.Opened.{iam3_proof}
 use Rattle.entry.proofs.Sent.{opened_named, proof_named}
 use Rattle.entry.specs.Judged.{iam3_checks}
 use Rattle.keytable.specs.Named.{key_with}
@@ -59,7 +60,8 @@ small mode = omega (
 )
 
 -- what the reader held to be fit
-module _ (keys : Keys) (custom : Custom) (protmode purpose n : ℕ) (fit : iam3_fits keys custom protmode purpose n ≡ true)
+module _ (keys : Keys) (custom : Custom) (protmode purpose n : ℕ)
+    (fit : iam3_fits keys custom protmode purpose n ≡ true)
   where
     all : both (part_fits keys custom protmode purpose n) (custom_fits custom) ≡ true
     all = parts_fit keys custom protmode purpose n ∙ fit

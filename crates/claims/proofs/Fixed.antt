@@ -79,6 +79,12 @@ none : (s : List ℕ) → length s ≡ 0 → s ≡ []
 none [] e = refl
 none (x ∷ s) e = absurd (let z : ⊥ = omega arith in z)
 
+six_left : (l : List ℕ) → length l ≡ 22 → length (drop 16 l) ≡ 6
+six_left l n = omega (arith, length-drop 16 l)
+
+block_long : (l : List ℕ) (n mac : ℕ) → length l ≡ 16 + n + mac → 16 ≤ length l
+block_long l n mac long = omega arith
+
 -- ---- blocks
 
 -- an opened block that fits is the constant, four bytes and the challenge
@@ -146,7 +152,7 @@ module _ (keys : Keys) (key : Key) (share : Shares keys key) (he : Bytes keys.en
       let n : length reply ≡ 22 = eqb-true _ _ one.0 in
       let found : (mam1_finding keys f reply).challenge ≡ drop 16 reply ++ trnd_in keys reply =
       ap (λ (x : Finding). x.challenge) (one.2 ∙ two.2) in
-      let six : length (drop 16 reply) ≡ 6 = omega (arith, length-drop 16 reply) in
+      let six : length (drop 16 reply) ≡ 6 = six_left reply n in
       let inside : drop 6 (mam1_finding keys f reply).challenge ≡ trnd_in keys reply = ap (drop 6) found
       ∙ drop_at (drop 16 reply) (trnd_in keys reply) 6 six in
       let clear : take 6 (mam1_finding keys f reply).challenge ≡ drop 16 reply = ap (take 6) found
@@ -220,7 +226,8 @@ module _ (keys : Keys) (key : Key) (share : Shares keys key) (he : Bytes keys.en
 
       in_mode_fixed : (judgedInMode keys f reply mode).verdict ≡ Accepted
           → reply ≡ tam2_in_mode key f (judgedInMode keys f reply mode).bytes (trnd_in keys reply) mode
-      unfolding judgedInMode judged_to data_finding tam2_reply_length tam2_mac_at mac_fits tam2_in_mode tam2_body with_mac tam_block
+      unfolding judgedInMode judged_to data_finding tam2_reply_length tam2_mac_at mac_fits tam2_in_mode tam2_body
+          with_mac tam_block
       in_mode_fixed e =
           let one = accepted_first _ _ _ e in
           let two = accepted_first _ _ _ one.1 in
@@ -228,7 +235,7 @@ module _ (keys : Keys) (key : Key) (share : Shares keys key) (he : Bytes keys.en
           let four = accepted_first _ _ _ three.1 in
           let five = accepted_first _ _ _ four.1 in
           let n : length reply ≡ 16 + count + mac_length mode = eqb-true _ _ one.0 in
-          let long : 16 ≤ length reply = omega arith in
+          let long : 16 ≤ length reply = block_long reply count (mac_length mode) n in
           let words : (judgedInMode keys f reply mode).bytes ≡ words_in f.rev f.custom opened =
           ap (λ (x : Finding). x.bytes) (one.2 ∙ two.2 ∙ three.2 ∙ four.2 ∙ five.2) in
           let k = two_bytes (tam2_constant f.rev mode) in
@@ -309,6 +316,7 @@ fixed_twice keys key m reply other room share he hr ho e same-found same-trnd =
     ∙ e in
     fixed keys key m reply room share he hr e
     ∙ ap (λ (x : Finding). remade key m (trnd_in keys reply) x (kind_of (byte_at m 0))) same-found
-    ∙ remade_same key m (trnd_in keys reply) (trnd_in keys other) (judgement_of keys m other room) (kind_of (byte_at m 0))
+    ∙ remade_same key m (trnd_in keys reply) (trnd_in keys other) (judgement_of keys m other room)
+    (kind_of (byte_at m 0))
     same-trnd
     ∙ sym (fixed keys key m other room share he ho e')

@@ -33,7 +33,8 @@ use Rattle.tam.specs.Replies.{tam1_reply, tam2_reply}
 use Rattle.entry.specs.declared.State.TheVariants.{IamInit, MamInit}
 use Rattle.entry.specs.Sessions.{cleared}
 use Rattle.entry.specs.Replies.{mam1_reply}
-use Rattle.tag.specs.Answers.{if_fine, replied, answer_with, tam1_answer, tam2_answer, iam1_answer, mam1_answer, by_kind}
+use Rattle.tag.specs.Answers.{if_fine, replied, answer_with, tam1_answer, tam2_answer, iam1_answer, mam1_answer}
+use Rattle.tag.specs.Answers.{by_kind}
 use Rattle.reader_build.specs.Builds.{tam1_made, tam2_made, iam1_made, mam1_made}
 use Rattle.claims.specs.Openings.{Tam1Answered, Tam2Answered, Iam1Answered, Mam1Answered}
 use Rattle.claims.proofs.InTurn.{in_turn_lem}

@@ -47,7 +47,8 @@ module _ (k purpose : ℕ) (middle tchallenge : List ℕ) (m4 : length middle �
   module _ (held : Session) (e : held.tchallenge ≡ tchallenge) where
     pub iam_holds : iam_proof k held clear ≡ true
     unfolding iam_proof purpose_allowed
-    iam_holds = ap₂ both (eq-eqb (constant_in clear) k constant_in_lem) (ap₂ same challenge_in_lem e ∙ same_self tchallenge)
+    iam_holds =
+        ap₂ both (eq-eqb (constant_in clear) k constant_in_lem) (ap₂ same challenge_in_lem e ∙ same_self tchallenge)
 
     pub middle_holds : held.ichallenge ≡ middle → same (middle_in clear) held.ichallenge ≡ true
     middle_holds q = ap₂ same middle_in_lem q ∙ same_self middle

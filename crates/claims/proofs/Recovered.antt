@@ -82,9 +82,9 @@ unfolding bench keys_in records_in key_of keyid_used kind_of iam_kind iam1_of ke
 shares = record { has = record { enc = refl; mackey = refl }; mac = refl }
 
 called : Called table bench [] user (brings iam1 0) (answered 0)
-unfolding terms keys_in records_in key_of bench cleared at_rest in_turn judged_to offered has_key lending_checks opening_checks
-    effect_of of_message in_order by_kind iam1_answer if_fine replied refused kind_of iam_kind length_fits iam1_of key_limit
-    profile_limit
+unfolding terms keys_in records_in key_of bench cleared at_rest in_turn judged_to offered has_key lending_checks
+    opening_checks effect_of of_message in_order by_kind iam1_answer if_fine replied refused kind_of iam_kind
+    length_fits iam1_of key_limit profile_limit
 called = record { outcome = refl; number = refl; next = refl; reply = refl; identity = refl; user = refl }
 
 -- what the step left, as far as it says, goes to the judge, who finds what is due
@@ -97,7 +97,8 @@ challenge_recovered room e =
 
 -- an accepted reply is made again
 taken : (judgement_of keys iam1 (drawn 0) 144).verdict ≡ Accepted
-unfolding judgement_of of_kind judge.by_kind iam1_finding judged_to own_fits fields_fit length_fits kind_of iam_kind iam1_of
+unfolding judgement_of of_kind judge.by_kind iam1_finding judged_to own_fits fields_fit length_fits kind_of iam_kind
+    iam1_of
 taken = refl
 
 pub reply_fixed : drawn 0 ≡ remade key iam1 (trnd_in keys (drawn 0)) (judgement_of keys iam1 (drawn 0) 144)

@@ -32,7 +32,8 @@ refuses_everything s h p says standard =
 pub one_fixed_reply : (reply : List ℕ) → ShutOut HasRecord (OneFixedReply reply)
 unfolding steps
 one_fixed_reply reply s h p says standard =
-    let z = (tam1_tells s h 0 0 1 0 (omega arith) (omega arith) (omega arith) (omega arith) (sent 0 ∙ sym (sent 1))).0 in
+    let z =
+    (tam1_tells s h 0 0 1 0 (omega arith) (omega arith) (omega arith) (omega arith) (sent 0 ∙ sym (sent 1))).0 in
     omega arith
   where
     sent : (n : ℕ) → tam1_answered s h n 0 ≡ reply

@@ -18,7 +18,8 @@ use Rattle.frames.specs.Asked.{block_asked as wordsAsked}
 use Rattle.frames.specs.Fields.{custom_fits}
 use Rattle.frames.specs.Modes.{has_mac, prot_mode_of}
 use Rattle.keytable.specs.Named.{has_key, key_with}
-use Rattle.offer.specs.Records.{offered, size_offered, rev_offered, mode_offered, mode_served, mode_supported, slot_named}
+use Rattle.offer.specs.Records.{offered, size_offered, rev_offered, mode_offered, mode_served, mode_supported}
+use Rattle.offer.specs.Records.{slot_named}
 use Rattle.offer.specs.Records.{block_asked}
 use Rattle.entry.specs.Sessions.{cleared}
 use Rattle.tag.specs.Plays.{Brought, Step}
@@ -42,9 +43,9 @@ unfolding bench terms keys_in records_in key_of has_key
 has_record = record { keyid = 0; there = refl; bytes = are_bytes table refl; identity = refl; user = refl }
 
 has_readable : HasReadable start
-unfolding bench terms keys_in records_in key_of custom_fits mode_supported mode_served mode_offered prot_mode_of has_mac key_with
-    slot_named permitted size_offered rev_offered overruns last_word profile_end block_asked wordsAsked address_of step_of
-    profile_limit has_record
+unfolding bench terms keys_in records_in key_of custom_fits mode_supported mode_served mode_offered prot_mode_of has_mac
+    key_with slot_named permitted size_offered rev_offered overruns last_word profile_end block_asked wordsAsked
+    address_of step_of profile_limit has_record
 has_readable = record {
   holder = has_record;
   rev = true;
@@ -55,9 +56,9 @@ has_readable = record {
 }
 
 has_writable : HasWritable start
-unfolding bench terms keys_in records_in key_of offered custom_fits mode_supported mode_served mode_offered prot_mode_of has_mac
-    key_with slot_named permitted size_offered overruns last_word profile_end block_asked wordsAsked address_of step_of
-    some_locked meets_any area_of within profile_limit lock_limit has_record
+unfolding bench terms keys_in records_in key_of offered custom_fits mode_supported mode_served mode_offered prot_mode_of
+    has_mac key_with slot_named permitted size_offered overruns last_word profile_end block_asked wordsAsked address_of
+    step_of some_locked meets_any area_of within profile_limit lock_limit has_record
 has_writable = record {
   holder = has_record;
   iam1 = refl;

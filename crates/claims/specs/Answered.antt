@@ -104,7 +104,8 @@ abbrev pub SheetAnswers : Type 0
 SheetAnswers =
     (s : List ℕ) (f : SheetFault) (at : ℕ)
     → (read_of key_limit s).verdict ≡ NoSheet f at
-    → Among sheet_numbers (sheet.number_of f) × ((read_of key_limit s).terms ≡ empty_terms) × ((read_of key_limit s).keys ≡ 0)
+    → Among sheet_numbers (sheet.number_of f) × ((read_of key_limit s).terms ≡ empty_terms)
+    × ((read_of key_limit s).keys ≡ 0)
 
 -- `sheet::judge`: a record that is refused leaves what was gathered.
 abbrev pub RecordAnswers : Type 0

@@ -7,7 +7,8 @@ use Rattle.ground.specs.Bytes.{byte_at}
 use Rattle.frames.specs.declared.Kind.{Kind}
 use Rattle.frames.specs.declared.Kind.TheVariants.{Tam1, Tam2, Iam1, Iam2, Iam3, Mam1, Mam2, Unsupported}
 use Rattle.frames.specs.Kinds.{kind_of}
-use Rattle.frames.specs.Lengths.{tam1_reply_length, tam2_reply_length, iam1_reply_length, mam1_reply_length, empty_reply_length}
+use Rattle.frames.specs.Lengths.{tam1_reply_length, tam2_reply_length, iam1_reply_length, mam1_reply_length}
+use Rattle.frames.specs.Lengths.{empty_reply_length}
 use Rattle.frames.specs.Modes.{in_mode, prot_mode_of}
 use Rattle.frames.specs.Messages.{tam2_of}
 use Rattle.offer.specs.declared.Outcome.{Outcome}
@@ -127,4 +128,5 @@ LengthFixed =
 -- So one made-up length is enough, told once, on whatever tag, and wherever in a run.
 abbrev pub LengthsFixed : Type 0
 LengthsFixed =
-    (s : Start) (p : Program) → StandardOn s p → (ds : List Doing) (b : Brought) → Each (LengthTold b) (last_of p s ds b)
+    (s : Start) (p : Program) → StandardOn s p → (ds : List Doing) (b : Brought)
+    → Each (LengthTold b) (last_of p s ds b)
