@@ -38,7 +38,7 @@ use Rattle.claims.specs.Recovery.{Taken, worth_asked, due}
 use Rattle.claims.proofs.Openings.{tam1_answered_lem, tam2_answered}
 use Rattle.claims.proofs.Recovery.{recovery}
 use Rattle.exchange_claims.specs.Done.{opening_of, first_call, Fitted, DoneAfterTwo, Tam1Done, Tam2Done}
-use Rattle.exchange_claims.proofs.TwoTurns.{start, answer, finding, after, after_one, after_two}
+use Rattle.exchange_claims.proofs.TwoTurns.{start, answer, finding, after_one, after_two}
 
 -- an opening that is answered by r, of which the reader's side finds f
 module _ (x : Setting) (limit : ℕ) (tag : Tag) (identity user : List ℕ) (enough : 2 ≤ limit)

@@ -45,7 +45,7 @@ use Rattle.exchange.specs.Runs.{played_of}
 use Rattle.exchange_claims.proofs.Stepping.{one_turn, by_turns, reader_turn, tag_turn, played_turns}
 use Rattle.exchange_claims.proofs.Ending.{never_a_fifth}
 use Rattle.exchange_claims.specs.Done.{opening_of, first_call, closing_of, second_call, with_session}
-use Rattle.exchange_claims.proofs.TwoTurns.{whose_turn, start, answer, sent, there, finding, opens}
+use Rattle.exchange_claims.proofs.TwoTurns.{whose_turn, start, answer, sent, there, opens}
 
 module _ (x : Setting) (limit : ℕ) (tag : Tag) (identity user : List ℕ) (r challenge : List ℕ) (held : Session) where
   -- the challenge that came

@@ -8,7 +8,6 @@ use lib.Dec.{eqb}
 use lib.ListN.{length, take}
 use Rattle.ground.specs.Bytes.{byte_at}
 use Rattle.ground.specs.Choice.{pick}
-use Rattle.modes.specs.Room.{over}
 use Rattle.frames.specs.declared.Kind.{Kind}
 use Rattle.frames.specs.Kinds.{kind_of, iam_kind}
 use Rattle.frames.specs.Messages.{iam1_message}
@@ -20,7 +19,6 @@ use Rattle.offer.specs.Judged.{lending_checks}
 use Rattle.offer.specs.Records.{offered}
 use Rattle.entry.specs.declared.State.{State}
 use Rattle.entry.specs.Sessions.{cleared}
-use Rattle.tag.specs.declared.Tag.{Tag}
 use Rattle.tag.specs.Answers.{
   Effect,
   Call,

@@ -13,7 +13,7 @@ use Rattle.reader.specs.declared.ReaderFault.TheVariants.{OwnMessage}
 use Rattle.offer.specs.declared.Outcome.{Outcome}
 use Rattle.offer.specs.declared.Outcome.TheVariants.{Replied}
 use Rattle.tag.specs.declared.Tag.{Tag}
-use Rattle.tag.specs.Answers.{Answer, Call, answer_of}
+use Rattle.tag.specs.Answers.{Answer, answer_of}
 use Rattle.tag.specs.Reactions.{lent}
 use Rattle.tag.specs.States.{keyed, keyless}
 use Rattle.reader_judge.specs.Findings.{Finding}
