@@ -145,7 +145,8 @@ module _ (x : Setting) where
   ahead t = to_come t.standing.next two
 
   -- by who is next
-  module _ (n : ℕ) (t : Table) (h : ahead t ≤ suc n) (later : (u : Table) → ahead u ≤ n → Settled (by_turns x n u)) where
+  module _ (n : ℕ) (t : Table) (h : ahead t ≤ suc n)
+      (later : (u : Table) → ahead u ≤ n → Settled (by_turns x n u)) where
     after_tag : tag_next t.standing ≡ true → Settled (by_turns x n (one_turn x t))
     unfolding answered
     after_tag e =
