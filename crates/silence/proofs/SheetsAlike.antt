@@ -14,12 +14,15 @@ use Rattle.sheet.specs.declared.Kind.{Kind}
 use Rattle.sheet.specs.declared.Kind.TheVariants.{FeatureRecord, SizeRecord, KeyRecord, ProfileRecord, LockRecord}
 use Rattle.sheet.specs.declared.Kind.TheVariants.{EndRecord, NoRecord}
 use Rattle.sheet.specs.declared.Gathered.{Gathered}
+use Rattle.sheet.specs.declared.Reading.{Reading}
 use Rattle.sheet.specs.Kinds.{kind_of, body_length}
+use Rattle.sheet.specs.Limits.{key_limit}
 use Rattle.octets.specs.Alike.{all_zero}
 use Rattle.sheet.specs.Records.{key_rule, key_of}
 use Rattle.sheet.specs.Judgement.{opened_of, taken_if, with_key, record_of, only_if, judged_of}
 use Rattle.sheet.specs.KeysMet.{key_said}
-use Rattle.silence.specs.Silence.{RecordAlike, RecordsAlike}
+use Rattle.sheet.specs.Sheet.{read_of, said_of}
+use Rattle.silence.specs.Silence.{RecordAlike, RecordsAlike, SetupsAlike}
 use Rattle.silence.specs.Sheets.{KeyBodiesAlike, BodiesAlike}
 
 module _ (named : ℕ → Bool) where
@@ -83,7 +86,8 @@ module _ (named : ℕ → Bool) where
   record_alike EndRecord b c k h = refl
   record_alike NoRecord b c k h = refl
 
-  pub said_alike : (q : Kind) (b c : List ℕ) → BodiesAlike named q b c → RecordsAlike named (key_said q b) (key_said q c)
+  pub said_alike : (q : Kind) (b c : List ℕ) → BodiesAlike named q b c
+      → RecordsAlike named (key_said q b) (key_said q c)
   unfolding RecordsAlike
   said_alike FeatureRecord b c h = tt
   said_alike SizeRecord b c h = tt
@@ -101,3 +105,16 @@ module _ (named : ℕ → Bool) where
   judged_alike limit b u v k e h =
       let body : List ℕ → List ℕ = take (body_length (kind_of b)) in
       λ j. only_if (opened_of limit b (e j) k) k (record_alike (kind_of b) (body u) (body v) k h j)
+
+  -- two sheets that are read the same and whose keys are alike set two tags up alike
+  pub setup_alike : (u v : List ℕ) → read_of key_limit u ≡ read_of key_limit v
+      → RecordsAlike named (said_of key_limit u).keys (said_of key_limit v).keys
+      → SetupsAlike named (said_of key_limit u) (said_of key_limit v)
+  unfolding said_of
+  setup_alike u v r records = record {
+    features = ap (λ (q : Reading). q.terms.features) r;
+    sizes = ap (λ (q : Reading). q.terms.sizes) r;
+    records = records;
+    profiles = ap (λ (q : Reading). q.terms.profiles) r;
+    locks = ap (λ (q : Reading). q.terms.locks) r;
+  }

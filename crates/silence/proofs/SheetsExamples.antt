@@ -19,8 +19,8 @@ abbrev pub sheet : ℕ → ℕ → List ℕ
 sheet e m = 1 ∷ 0 ∷ 0 ∷ 2 ∷ 0 ∷ 0 ∷ 0 ∷ 0 ∷ 3 ∷ 2 ∷ 1 ∷ 0 ∷ 0 ∷ (replicate 16 e ++ (replicate 16 m ++ (6 ∷ [])))
 
 pub taken : (e m : ℕ) → (read_of key_limit (sheet e m)).verdict ≡ Whole
-unfolding read_of walk after judged_of opened_of record_of with_features with_sizes with_key kind_of in_order too_many key_limit
-    word_limit features_rule sizes_rule key_rule nothing_gathered no_marks empty_terms
+unfolding read_of walk after judged_of opened_of record_of with_features with_sizes with_key kind_of in_order too_many
+    key_limit word_limit features_rule sizes_rule key_rule nothing_gathered no_marks empty_terms
 taken e m = refl
 
 pub sheet_hidden : (named : ℕ → Bool) → named 2 ≡ false → (e m e' m' : ℕ) → SheetsAlike named (sheet e m) (sheet e' m')

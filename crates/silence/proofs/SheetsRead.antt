@@ -25,7 +25,7 @@ use Rattle.silence.specs.Names.{named_in}
 use Rattle.silence.specs.Silence.{RecordsAlike}
 use Rattle.silence.specs.Sheets.{AlikeFrom, SheetsAlike, SheetsReadAlike, SilentSheets}
 use Rattle.claims.proofs.Answered.{walk_empty}
-use Rattle.silence.proofs.SheetsAlike.{none_alike, joined_alike, said_alike, judged_alike}
+use Rattle.silence.proofs.SheetsAlike.{none_alike, joined_alike, said_alike, judged_alike, setup_alike}
 use Rattle.silence.proofs.Silence.{silent}
 
 module _ (named : ℕ → Bool) where
@@ -126,13 +126,7 @@ sheets_read_alike named u v y z h =
     let r = same named u v y z h in
     record {
       verdict = ap (λ (q : Reading). q.verdict) r;
-      setup = record {
-        features = ap (λ (q : Reading). q.terms.features) r;
-        sizes = ap (λ (q : Reading). q.terms.sizes) r;
-        records = keys_alike named u v y z h (read_of key_limit u).verdict refl;
-        profiles = ap (λ (q : Reading). q.terms.profiles) r;
-        locks = ap (λ (q : Reading). q.terms.locks) r;
-      };
+      setup = setup_alike named u v r (keys_alike named u v y z h (read_of key_limit u).verdict refl);
     }
 
 pub silent_sheets : SilentSheets

@@ -168,8 +168,8 @@ pub answered : (enc : List ℕ) (l : Key) (a b : ℕ) → answers (carrying (our
       identity = [];
       user = 1 ∷ 2 ∷ a ∷ b ∷ [];
     } ∷ []
-unfolding run answer_to powered_up effect_of lending_checks judged_to of_message in_order kind_of iam_kind offered in_turn at_rest
-    cleared by_kind iam1_answer iam1_of opening_checks length_fits has_key carrying if_fine replied
+unfolding run answer_to powered_up effect_of lending_checks judged_to of_message in_order kind_of iam_kind offered
+    in_turn at_rest cleared by_kind iam1_answer iam1_of opening_checks length_fits has_key carrying if_fine replied
 answered enc l a b = refl
 
 -- Two tags that differ in every key byte of the second client's record, and in its word, and answer alike.

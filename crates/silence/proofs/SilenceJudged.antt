@@ -39,7 +39,8 @@ use Rattle.offer.specs.declared.Checked.TheVariants.{Fine}
 use Rattle.ground.specs.Checks.{◌else◌}
 use Rattle.offer.specs.Checks.{judged}
 use Rattle.keytable.specs.Named.{has_key, key_with}
-use Rattle.offer.specs.Records.{size_offered, rev_offered, mode_offered, mode_served, mode_supported, slot_named, block_asked}
+use Rattle.offer.specs.Records.{size_offered, rev_offered, mode_offered, mode_served, mode_supported, slot_named}
+use Rattle.offer.specs.Records.{block_asked}
 use Rattle.entry.specs.Opened.{iam_proof, mam_proof, iam3_proof}
 use Rattle.offer.specs.Judged.{draw_bytes, lending_checks, opening_checks}
 use Rattle.tam.specs.Judged.{tam2_checks}

@@ -34,7 +34,8 @@ use Rattle.ground.specs.Checks.{judged_to}
 use Rattle.entry.specs.Sessions.{cleared}
 use Rattle.tag.specs.States.{holding, in_turn, powered_up}
 use Rattle.keytable.specs.Named.{has_key, key_with}
-use Rattle.offer.specs.Records.{offered, size_offered, rev_offered, mode_offered, mode_served, mode_supported, slot_named}
+use Rattle.offer.specs.Records.{offered, size_offered, rev_offered, mode_offered, mode_served, mode_supported}
+use Rattle.offer.specs.Records.{slot_named}
 use Rattle.offer.specs.Records.{block_asked}
 use Rattle.tam.specs.Replies.{tam_block, tam1_reply, tam2_body, tam2_in_mode, tam2_reply}
 use Rattle.offer.specs.Judged.{lending_checks, opening_checks}
@@ -150,8 +151,9 @@ answered : (enc : List ℕ) (l : Key) (a b : ℕ) → answers (carrying (ours en
           [];
       user = 1 ∷ 2 ∷ a ∷ b ∷ [];
     } ∷ []
-unfolding run answer_to powered_up effect_of lending_checks judged_to of_message in_order kind_of tam_kind offered in_turn by_kind
-    tam1_answer tam1_of bytes_from opening_checks length_fits has_key key_with carrying if_fine replied tam1_reply tam_block
+unfolding run answer_to powered_up effect_of lending_checks judged_to of_message in_order kind_of tam_kind offered
+    in_turn by_kind tam1_answer tam1_of bytes_from opening_checks length_fits has_key key_with carrying if_fine replied
+    tam1_reply tam_block
 answered enc l a b = refl
 
 -- Two tags that differ in the ENC_key of record 1, and are told apart by their replies.
@@ -206,14 +208,13 @@ word_answered : (enc : List ℕ) (l : Key) (a b : ℕ) → answers (carrying (ou
           [];
       user = a ∷ b ∷ 3 ∷ 4 ∷ [];
     } ∷ []
-unfolding run answer_to powered_up effect_of lending_checks judged_to of_message in_order kind_of tam_kind offered in_turn by_kind
-    tam2_answer tam2_of bytes_from size_of select_custom tam2_checks length_fits size_offered rev_offered mode_supported
-    mode_served mode_offered prot_mode_of has_mac has_key key_with slot_named block_asked wordsAsked address_of step_of overruns
-    profile_end last_word
-    permitted window_of area_of part_of within carrying if_fine replied tam2_reply tam2_in_mode tam2_body tam_block
-    by_mode
-    tam2_constant encrypts with_mac carried_data filled header_of header_start header_length header_part data_length carried
-    blocks_length d_of block_bytes block_size_bit
+unfolding run answer_to powered_up effect_of lending_checks judged_to of_message in_order kind_of tam_kind offered
+    in_turn by_kind tam2_answer tam2_of bytes_from size_of select_custom tam2_checks length_fits size_offered
+    rev_offered mode_supported mode_served mode_offered prot_mode_of has_mac has_key key_with slot_named block_asked
+    wordsAsked address_of step_of overruns profile_end last_word permitted window_of area_of part_of within carrying
+    if_fine replied tam2_reply tam2_in_mode tam2_body tam_block by_mode tam2_constant encrypts with_mac carried_data
+    filled header_of header_start header_length header_part data_length carried blocks_length d_of block_bytes
+    block_size_bit
 word_answered enc l a b = refl
 
 -- Two tags that differ in that word, and are told apart by their replies, whatever the keys are.

@@ -43,7 +43,8 @@ sides i a e = tested (ltb i a) refl (ltb i e) refl
 -- ---- the same bytes stored in both
 
 module _ (i : ℕ) where
-  cond_agree : (t : Bool) (x y x' y' : List ℕ) → (t ≡ true → get_or x i 0 ≡ get_or x' i 0) → get_or y i 0 ≡ get_or y' i 0
+  cond_agree : (t : Bool) (x y x' y' : List ℕ) → (t ≡ true → get_or x i 0 ≡ get_or x' i 0)
+      → get_or y i 0 ≡ get_or y' i 0
       → get_or (cond t x y) i 0 ≡ get_or (cond t x' y') i 0
   cond_agree true x y x' y' f e = f refl
   cond_agree false x y x' y' f e = e
