@@ -122,7 +122,8 @@ module _ (image message draws room identity user : List ℕ) (r told purpose : �
   Then = Refuses image room identity user r told purpose after reply i u
 
   -- the tag's bytes after each refusal
-  held : (f : TagFault) → is_tag image ≡ true → r ≡ number_of f → after ≡ kept (session_after f (session_in image)) image
+  held : (f : TagFault) → is_tag image ≡ true → r ≡ number_of f
+      → after ≡ kept (session_after f (session_in image)) image
       → after ≡ pick (eqb r 7) image (kept cleared image)
   held OtherError t n e = rw n e
   held NotSupported t n e = rw n e
@@ -134,7 +135,8 @@ module _ (image message draws room identity user : List ℕ) (r told purpose : �
 
   -- a tag's answer, by its outcome
   by_outcome : (t : is_tag image ≡ true) (o : Outcome) → (answer_of call (keyed_in image)).outcome ≡ o
-      → Answered image (answer_of call (keyed_in image)) room r told purpose after reply i u → Answers tag_numbers r Then
+      → Answered image (answer_of call (keyed_in image)) room r told purpose after reply i u
+      → Answers tag_numbers r Then
   by_outcome t (Replied n) e h = inl (h.number ∙ ap number_given e)
   by_outcome t (Entered p) e h = inl (h.number ∙ ap number_given e)
   by_outcome t (Refused f) e h =

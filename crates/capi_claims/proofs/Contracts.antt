@@ -18,8 +18,8 @@ use Rattle.modes.specs.Room.{chains, macs}
 use Rattle.modes_inverse.specs.CbcInv.{cbc_enc_aes_inv, cbc_dec_aes_inv}
 use Rattle.frames.specs.Fields.{custom_fits}
 use Rattle.reader.specs.Own.{mode_fits}
-use Rattle.reader_build.specs.Builds.{purpose_fits, iam3_fits, tam1_made, tam2_made, iam1_made, mam1_made, iam2_made, mam2_made}
-use Rattle.reader_build.specs.Builds.{iam3_made}
+use Rattle.reader_build.specs.Builds.{purpose_fits, iam3_fits, tam1_made, tam2_made, iam1_made, mam1_made, iam2_made}
+use Rattle.reader_build.specs.Builds.{mam2_made, iam3_made}
 use Rattle.image.specs.Places.{image_length}
 use Rattle.capi.specs.Chain.{Chains}
 use Rattle.capi.specs.Kept.{SetUp, AreasOf}

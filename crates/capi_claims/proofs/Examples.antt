@@ -1,7 +1,7 @@
 -- No premise is hollow: two sheets that differ in every key byte of a record that no message names, set up by
 -- `roualint_sheet`, and the tag that one of them says at its power-up.
 use mathlib.Core.Path.{◌≡◌, refl, sym, ap}
-use mathlib.Core.Bool.{true, false}
+use mathlib.Core.Bool.{false}
 use mathlib.Core.List.{List, []}
 use Prim.Native.Nat.{ℕ}
 use Rattle.ground.specs.Bytes.{Bytes}
@@ -62,7 +62,8 @@ pub calls_told_apart_by_nothing : (ds : List Doing) → named_in (events_of ds) 
     → SameCalls nowhere nowhere ls rs
 calls_told_apart_by_nothing ds h ls rs p q =
     (silent_calls ds ours theirs [] [] 0 0 0 0 _ _ nowhere nowhere our_bytes their_bytes
-    (sheet_hidden (named_in (events_of ds)) h 1 2 3 4) (set_up 1 2 []) (set_up 3 4 [])).2 ls rs refl (same_memory ds) p q
+    (sheet_hidden (named_in (events_of ds)) h 1 2 3 4) (set_up 1 2 []) (set_up 3 4 [])).2 ls rs refl
+    (same_memory ds) p q
 
 pub recovers_awake : Recovers (sheet_image cleared ours) (holding (said_of key_limit ours) cleared)
 unfolding powered_up
