@@ -34,25 +34,28 @@ pub struct Crates {
 }
 
 impl Crates {
-    pub fn read(root: &Path, kit_libraries: &Path) -> io::Result<Crates> {
+    pub fn read(root: &Path) -> io::Result<Crates> {
         let own = fs::read_to_string(root.join("crates.txt"))?;
-        let kit = fs::read_to_string(kit_libraries.join("libs.txt"))?;
-        let lines = own.lines().chain(kit.lines()).filter_map(line).collect();
         Ok(Crates {
             root: root.to_path_buf(),
-            lines,
+            lines: own.lines().filter_map(line).collect(),
         })
     }
 
-    /// All that the program reaches, of the repository and of the kit.
+    /// The libraries that a crate names, of the repository and of the kit.
+    pub fn uses(&self, name: &str) -> Vec<String> {
+        let line = self.lines.iter().find(|line| line.name == name);
+        line.map_or(Vec::new(), |line| line.needs.clone())
+    }
+
+    /// All crates of the repository that the program reaches.
     pub fn reached(&self) -> Vec<String> {
         let mut reached = vec![PROGRAM.to_string()];
         let mut at = 0;
         while at < reached.len() {
-            let line = self.lines.iter().find(|line| line.name == reached[at]);
-            for name in line.map_or(&[][..], |line| &line.needs) {
-                if !reached.contains(name) {
-                    reached.push(name.clone());
+            for name in self.uses(&reached[at]) {
+                if self.own(&name) && !reached.contains(&name) {
+                    reached.push(name);
                 }
             }
             at += 1;
@@ -73,7 +76,7 @@ impl Crates {
     /// The crates whose mutants are made where none are named.
     pub fn worked(&self) -> Vec<String> {
         let mut names = self.reached();
-        names.retain(|name| self.own(name) && !AROUND.contains(&name.as_str()));
+        names.retain(|name| !AROUND.contains(&name.as_str()));
         names.sort();
         names
     }

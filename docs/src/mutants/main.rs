@@ -46,18 +46,18 @@ fn main() -> ExitCode {
 
 /// Whether every survivor is explained.
 fn run(settings: &Settings) -> io::Result<bool> {
-    let kit = Kit::at(&settings.guide, &settings.machine);
-    let crates = Crates::read(Path::new("."), &kit.libraries)?;
+    let kit = Kit::at(&settings.guide);
+    let crates = Crates::read(Path::new("."))?;
     let given = (!settings.crates.is_empty()).then(|| settings.crates.clone());
     let names = given.unwrap_or_else(|| crates.worked());
     let mut sources = Vec::new();
     for name in &names {
         sources.extend(crates.sources(name)?);
     }
-    let os = Path::new("docs/src/mutants/os.c");
-    let room = Room::new(&kit, &crates, settings.folder.join("room"), os)?;
-    if !room.module()? {
-        return Err(io::Error::other("the front end does not take the program itself"));
+    let played = Path::new("docs/src/mutants/played.c");
+    let room = Room::new(&kit, &crates, settings.folder.join("room"), played)?;
+    if let Some(places) = room.module()? {
+        return Err(io::Error::other(format!("the front end does not take the program itself: {places:?}")));
     }
     let all = list::all(&sources, &room.called()?);
     println!("{} slips could be made in {}", all.len(), names.join(", "));
@@ -140,11 +140,11 @@ fn refused(room: &Room, sources: &[Source], mutants: &[Numbered]) -> io::Result<
         room.write(&source.of, &source.file, &woven.text)?;
         files.push((source, woven));
     }
-    if room.module()? {
+    let Some(places) = room.module()? else {
         return Ok(None);
-    }
+    };
     let mut refused = HashSet::new();
-    for (of, file, line) in room.refused()? {
+    for (of, file, line) in places {
         let woven = files.iter().find(|(source, _)| source.of == of && source.file == file);
         refused.extend(woven.and_then(|(_, woven)| woven.at(line)));
     }

@@ -1,41 +1,55 @@
 //! A folder in which programs are built: a copy of the sources, and the compiler that keeps the module.
 
 use crate::crates::{files, Crates, PROGRAM};
-use crate::kit::{done, quiet, Kit, SOON};
+use crate::kit::{done, Kit, SOON};
 use crate::woven::{ASKED, ASKS};
 use std::collections::HashSet;
 use std::fs;
 use std::io;
 use std::path::{Path, PathBuf};
-use std::process::Command;
+use std::process::{Command, Stdio};
 
 pub struct Room<'a> {
     kit: &'a Kit,
     folder: PathBuf,
-    /// Each library with the file that it starts at.
-    libraries: Vec<(String, PathBuf)>,
+    /// Each library with those that it uses, and the file that it starts at.
+    libraries: Vec<(String, Vec<String>, PathBuf)>,
 }
 
+/// Where the front end refuses the sources: crate, file and line.
+pub type Place = (String, PathBuf, usize);
+
 impl<'a> Room<'a> {
-    /// `os` is the C code that the kit's library os calls.
-    pub fn new(kit: &'a Kit, crates: &Crates, folder: PathBuf, os: &Path) -> io::Result<Room<'a>> {
+    /// `played` is the C code that says which mutant is played.
+    pub fn new(kit: &'a Kit, crates: &Crates, folder: PathBuf, played: &Path) -> io::Result<Room<'a>> {
         kit.keeper(&folder)?;
-        done(Command::new("gcc").arg("-c").arg(os).arg("-o").arg(folder.join("os.o")))?;
+        let object = folder.join("played.o");
+        done(Command::new("gcc").arg("-c").arg(played).arg("-o").arg(object))?;
         let libraries = Vec::new();
         let mut room = Room { kit, folder, libraries };
         copy(&crates.folder(PROGRAM), &room.sources(PROGRAM))?;
-        for name in ["std".to_string()].into_iter().chain(crates.reached()) {
-            let kits = kit.libraries.join(&name).join("src");
-            let folder = if crates.own(&name) { room.sources(&name) } else { kits };
-            if crates.own(&name) {
-                copy(&crates.folder(&name), &folder)?;
-            }
-            room.libraries.push((name, folder.join("lib.rt")));
+        let mut kits = vec!["std".to_string()];
+        for name in crates.reached() {
+            let (folder, mut uses) = (room.sources(&name), crates.uses(&name));
+            copy(&crates.folder(&name), &folder)?;
+            kits.extend(uses.iter().filter(|used| !crates.own(used)).cloned());
+            uses.extend(["core", "std", ASKS].map(str::to_string));
+            room.libraries.push((name, uses, folder.join("lib.rt")));
         }
         let asks = room.sources(ASKS);
         fs::create_dir_all(&asks)?;
         fs::write(asks.join("lib.rt"), ASKED)?;
-        room.libraries.push((ASKS.to_string(), asks.join("lib.rt")));
+        let uses = ["core", "std"].map(str::to_string).to_vec();
+        room.libraries.push((ASKS.to_string(), uses, asks.join("lib.rt")));
+        let mut at = 0;
+        while at < kits.len() {
+            let (name, uses) = (kits[at].clone(), kit.uses(&kits[at])?);
+            let new: Vec<String> = uses.iter().filter(|used| !kits.contains(used)).cloned().collect();
+            kits.extend(new);
+            let source = kit.source(&name);
+            room.libraries.push((name, uses, source));
+            at += 1;
+        }
         Ok(room)
     }
 
@@ -56,28 +70,24 @@ impl<'a> Room<'a> {
         command
             .arg(self.sources(PROGRAM).join("main.rt"))
             .args(["--crate-name", PROGRAM]);
-        for (name, file) in &self.libraries {
-            command.arg("--lib").arg(format!("{name}={}", file.display()));
+        for (name, uses, file) in &self.libraries {
+            command.arg("--lib").arg(format!("{name}:{}={}", uses.join(","), file.display()));
         }
     }
 
-    /// Makes a module of what stands in the room, and says whether the front end takes it.
-    pub fn module(&self) -> io::Result<bool> {
+    /// Makes a module of what stands in the room; or says what the front end refuses.
+    pub fn module(&self) -> io::Result<Option<Vec<Place>>> {
         let module = self.folder.join("module.bc");
         if module.exists() {
             fs::remove_file(&module)?;
         }
-        let mut command = self.kit.front();
-        self.words(command.arg("--toolchain").arg(&self.folder));
-        quiet(&mut command)?; // it fails, since the program does nothing
-        Ok(module.exists())
-    }
-
-    /// The lines that the front end refuses: crate, file and number.
-    pub fn refused(&self) -> io::Result<Vec<(String, PathBuf, usize)>> {
-        let mut command = self.kit.printer();
+        let mut command = self.kit.front(&self.folder);
         self.words(&mut command);
-        let said = String::from_utf8_lossy(&command.output()?.stderr).into_owned();
+        let said = command.stdin(Stdio::null()).output()?.stderr; // it fails, since the program does nothing
+        if module.exists() {
+            return Ok(None);
+        }
+        let said = String::from_utf8_lossy(&said).into_owned();
         let start = format!("{}/", self.folder.join("crates").display());
         let place = |line: &str| {
             let (of, rest) = line.strip_prefix(&start)?.split_once('/')?;
@@ -85,11 +95,8 @@ impl<'a> Room<'a> {
             let number = rest.split(':').next()?.parse().ok()?;
             Some((of.to_string(), PathBuf::from(file), number))
         };
-        Ok(said
-            .lines()
-            .filter(|line| line.contains(": error"))
-            .filter_map(place)
-            .collect())
+        let errors = said.lines().filter(|line| line.contains(": error"));
+        Ok(Some(errors.filter_map(place).collect()))
     }
 
     /// Makes a program of the module.
@@ -98,7 +105,7 @@ impl<'a> Room<'a> {
         self.kit.object(level, &self.folder.join("module.bc"), &object)?;
         let mut link = Command::new("gcc");
         link.arg("-Wl,--gc-sections").arg("-o").arg(self.program());
-        done(link.arg(object).arg(self.folder.join("os.o")))
+        done(link.arg(object).arg(self.folder.join("played.o")).args(self.kit.code()))
     }
 
     /// The functions that the program calls: those that the linker keeps where none is merged with its caller.

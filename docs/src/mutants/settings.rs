@@ -6,9 +6,8 @@ use std::io;
 use std::path::PathBuf;
 
 pub struct Settings {
-    /// The kit's first guide, which tells where the kit is, and the kind of machine.
+    /// The kit's first guide, which tells where the kit is.
     pub guide: String,
-    pub machine: String,
     pub folder: PathBuf,
     pub count: usize,
     pub seed: u64,
@@ -25,7 +24,6 @@ impl Settings {
     pub fn read(words: impl Iterator<Item = String>) -> io::Result<Settings> {
         let mut settings = Settings {
             guide: String::new(),
-            machine: String::new(),
             folder: PathBuf::new(),
             count: usize::MAX,
             seed: 1,
@@ -41,7 +39,6 @@ impl Settings {
             };
             match name {
                 "guide" => settings.guide = value.to_string(),
-                "machine" => settings.machine = value.to_string(),
                 "folder" => settings.folder = std::path::absolute(value)?,
                 "count" => settings.count = number(value)?,
                 "seed" => settings.seed = number(value)? as u64,

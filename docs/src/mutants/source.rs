@@ -113,9 +113,8 @@ impl Source {
         let open = self.next(at, &["("]);
         let close = self.behind(open);
         let mut place = self.next(close, &["{", ";"]);
-        let contract = CLAUSES.contains(&self.word(place - 1));
-        let head = at + 2..if contract { place - 1 } else { place };
-        while CLAUSES.contains(&self.word(place - 1)) {
+        let head = at + 2..self.clause(place).unwrap_or(place);
+        while self.clause(place).is_some() {
             place = self.next(self.behind(place), &["{", ";"]);
         }
         let end = self.behind(place);
@@ -129,6 +128,11 @@ impl Source {
             });
         }
         end
+    }
+
+    /// Where the clause starts whose bracket opens here, if it is one's: its word, or word and name.
+    fn clause(&self, open: usize) -> Option<usize> {
+        [open - 1, open - 2].into_iter().find(|at| CLAUSES.contains(&self.word(*at)))
     }
 
     fn parameters(&self, range: Range<usize>) -> Vec<String> {

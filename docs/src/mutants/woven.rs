@@ -4,9 +4,15 @@
 use crate::mutant::Mutant;
 use crate::source::{Function, Source};
 
-/// What is asked, as a crate of its own; `os.c` answers.
-pub const ASKED: &str =
-    "extern \"C\" {\n    fn mutant_played() -> usize;\n}\n\npub fn played() -> usize {\n    mutant_played()\n}\n";
+/// What is asked, as a crate of its own; `played.c` answers.
+pub const ASKED: &str = "unsafe extern \"C\" {
+    safe fn mutant_played() -> usize;
+}
+
+pub fn played() -> usize {
+    mutant_played()
+}
+";
 
 /// The name of that crate.
 pub const ASKS: &str = "mutants";
