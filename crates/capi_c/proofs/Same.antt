@@ -121,10 +121,12 @@ cbc_enc_aes_same κs a x e = refl
 pub cbc_dec_aes_same : Says 4 cbc-dec-aes-kinds.ps cbc-dec-aes-kinds.r cbc-dec-aes.Post capi-cbc-dec-aes.Post
 cbc_dec_aes_same κs a x e = refl
 
-pub cbc_enc_aes_inv_same : Says 4 cbc-enc-aes-inv-kinds.ps cbc-enc-aes-inv-kinds.r cbc-enc-aes-inv.Post capi-cbc-enc-aes-inv.Post
+pub cbc_enc_aes_inv_same : Says 4 cbc-enc-aes-inv-kinds.ps cbc-enc-aes-inv-kinds.r
+    cbc-enc-aes-inv.Post capi-cbc-enc-aes-inv.Post
 cbc_enc_aes_inv_same κs a x e = refl
 
-pub cbc_dec_aes_inv_same : Says 4 cbc-dec-aes-inv-kinds.ps cbc-dec-aes-inv-kinds.r cbc-dec-aes-inv.Post capi-cbc-dec-aes-inv.Post
+pub cbc_dec_aes_inv_same : Says 4 cbc-dec-aes-inv-kinds.ps cbc-dec-aes-inv-kinds.r
+    cbc-dec-aes-inv.Post capi-cbc-dec-aes-inv.Post
 cbc_dec_aes_inv_same κs a x e = refl
 
 pub cmac_96_same : Says 3 cmac-96-kinds.ps cmac-96-kinds.r cmac-96.Post capi-cmac-96.Post
