@@ -1,6 +1,6 @@
 // Words on standard output.
-use libc::STDOUT_FILENO;
+use std::io;
 
-pub fn text(words: &[u8]) {
-    io::write_all(STDOUT_FILENO, words);
+pub fn text(rt: &impl Print, words: &[u8]) -> io::Result<()> {
+    rt.write_all(words)
 }
