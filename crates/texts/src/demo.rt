@@ -58,5 +58,6 @@ fn put(text: &[u8], room: &mut [u8]) -> usize {
     if room.len() < text.len() {
         return 0;
     }
-    bytes::copy(text, room)
+    room[..text.len()].copy_from_slice(text);
+    text.len()
 }
