@@ -3,116 +3,121 @@
 use crate::words::{count, word};
 use lines::numbers::sum;
 use lines::print;
+use std::io;
 use text::{DecimalRead, HexRead};
 
 // Are there words for all fields but the last `optional` ones, no word too many, and can each be read? Fields begin at
 // word `from`, and `kinds` has a letter for each: n a number, h bytes, k sixteen bytes, m sixteen bytes or none, a an
 // area, r a room, d draws.
-pub fn read(line: &[u8], from: usize, kinds: &[u8], optional: usize) -> bool {
+pub fn read(
+    rt: &impl Print,
+    line: &[u8],
+    from: usize,
+    kinds: &[u8],
+    optional: usize,
+) -> io::Result<bool> {
     let words = count(line);
     if sum(words, optional) < sum(from, kinds.len()) {
-        print::text(b"error: word missing\n");
-        return false;
+        return wrong(rt, b"error: word missing\n");
     }
     if sum(from, kinds.len()) < words {
-        print::text(b"error: word too many\n");
-        return false;
+        return wrong(rt, b"error: word too many\n");
     }
-    each(line, from, words, kinds)
+    each(rt, line, from, words, kinds)
 }
 
-fn each(line: &[u8], from: usize, words: usize, kinds: &[u8]) -> bool {
+fn each(rt: &impl Print, line: &[u8], from: usize, words: usize, kinds: &[u8]) -> io::Result<bool> {
     let mut i: usize = 0;
     while i < kinds.len() {
         let at = sum(from, i);
         if words <= at {
             break;
         }
-        if !one(word(line, at), kinds[i]) {
-            return false;
+        if !one(rt, word(line, at), kinds[i])? {
+            return Ok(false);
         }
         i += 1;
     }
-    true
+    Ok(true)
 }
 
-fn one(field: &[u8], kind: u8) -> bool {
+fn one(rt: &impl Print, field: &[u8], kind: u8) -> io::Result<bool> {
     match kind {
-        b'n' => number_read(field),
-        b'k' => sixteen_read(field),
-        b'm' => mac_read(field),
-        b'a' => area_read(field),
-        b'r' => room_read(field),
-        b'd' => draws_read(field),
-        _ => bytes_read(field),
+        b'n' => number_read(rt, field),
+        b'k' => sixteen_read(rt, field),
+        b'm' => mac_read(rt, field),
+        b'a' => area_read(rt, field),
+        b'r' => room_read(rt, field),
+        b'd' => draws_read(rt, field),
+        _ => bytes_read(rt, field),
     }
 }
 
-fn number_read(field: &[u8]) -> bool {
+fn number_read(rt: &impl Print, field: &[u8]) -> io::Result<bool> {
     match text::read_decimal(field) {
-        DecimalRead::Number(_) => true,
-        DecimalRead::NotNumber => wrong(b"error: not a number\n"),
-        DecimalRead::Over => wrong(b"error: number over 65535\n"),
+        DecimalRead::Number(_) => Ok(true),
+        DecimalRead::NotNumber => wrong(rt, b"error: not a number\n"),
+        DecimalRead::Over => wrong(rt, b"error: number over 65535\n"),
     }
 }
 
-fn bytes_read(field: &[u8]) -> bool {
-    let mut room = io::buffer();
+fn bytes_read(rt: &impl Print, field: &[u8]) -> io::Result<bool> {
+    let mut room = [0u8; 4096];
     match text::read_hex(field, &mut room) {
-        HexRead::Bytes(_) => true,
-        HexRead::NotHex => wrong(b"error: not hex\n"),
-        HexRead::Odd => wrong(b"error: odd number of hex digits\n"),
-        HexRead::Over => wrong(b"error: over 4096 bytes\n"),
+        HexRead::Bytes(_) => Ok(true),
+        HexRead::NotHex => wrong(rt, b"error: not hex\n"),
+        HexRead::Odd => wrong(rt, b"error: odd number of hex digits\n"),
+        HexRead::Over => wrong(rt, b"error: over 4096 bytes\n"),
     }
 }
 
-fn sixteen_read(field: &[u8]) -> bool {
-    if !bytes_read(field) {
-        return false;
+fn sixteen_read(rt: &impl Print, field: &[u8]) -> io::Result<bool> {
+    if !bytes_read(rt, field)? {
+        return Ok(false);
     }
     if length(field) == 16 {
-        return true;
+        return Ok(true);
     }
-    wrong(b"error: not 16 bytes\n")
+    wrong(rt, b"error: not 16 bytes\n")
 }
 
-fn mac_read(field: &[u8]) -> bool {
+fn mac_read(rt: &impl Print, field: &[u8]) -> io::Result<bool> {
     if octets::same(field, b"-") {
-        return true;
+        return Ok(true);
     }
-    sixteen_read(field)
+    sixteen_read(rt, field)
 }
 
-fn area_read(field: &[u8]) -> bool {
-    if !number_read(field) {
-        return false;
+fn area_read(rt: &impl Print, field: &[u8]) -> io::Result<bool> {
+    if !number_read(rt, field)? {
+        return Ok(false);
     }
     if value(field) < 2 {
-        return true;
+        return Ok(true);
     }
-    wrong(b"error: area 0 or 1\n")
+    wrong(rt, b"error: area 0 or 1\n")
 }
 
-fn room_read(field: &[u8]) -> bool {
-    if !number_read(field) {
-        return false;
+fn room_read(rt: &impl Print, field: &[u8]) -> io::Result<bool> {
+    if !number_read(rt, field)? {
+        return Ok(false);
     }
     if value(field) <= 4096 {
-        return true;
+        return Ok(true);
     }
-    wrong(b"error: room over 4096\n")
+    wrong(rt, b"error: room over 4096\n")
 }
 
-fn draws_read(field: &[u8]) -> bool {
+fn draws_read(rt: &impl Print, field: &[u8]) -> io::Result<bool> {
     if octets::same(field, b"*") {
-        return true;
+        return Ok(true);
     }
-    bytes_read(field)
+    bytes_read(rt, field)
 }
 
-fn wrong(reason: &[u8]) -> bool {
-    print::text(reason);
-    false
+fn wrong(rt: &impl Print, reason: &[u8]) -> io::Result<bool> {
+    print::text(rt, reason)?;
+    Ok(false)
 }
 
 // The number of a field, 0 where it is none.
@@ -126,7 +131,7 @@ fn value(field: &[u8]) -> u16 {
 
 // How many bytes a field has.
 fn length(field: &[u8]) -> usize {
-    let mut room = io::buffer();
+    let mut room = [0u8; 4096];
     read_into(field, &mut room)
 }
 
