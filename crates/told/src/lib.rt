@@ -6,40 +6,41 @@ use console::answer::within;
 use entry::State;
 use lines::print;
 use offer::Outcome;
+use std::io;
 
-pub fn outcome(outcome: Outcome, state: State, room: &[u8]) {
+pub fn outcome(rt: &impl Print, outcome: Outcome, state: State, room: &[u8]) -> io::Result<()> {
     match outcome {
         Outcome::Replied(n) => {
             let e = within(n, room);
-            replied(&room[..e], state);
-            print::text(b" purpose -\n");
+            replied(rt, &room[..e], state)?;
+            print::text(rt, b" purpose -\n")
         }
         Outcome::Entered(purpose) => {
-            replied(b"", state);
-            print::text(b" purpose ");
-            answer::decimal(purpose as u16);
-            print::text(b"\n");
+            replied(rt, b"", state)?;
+            print::text(rt, b" purpose ")?;
+            answer::decimal(rt, purpose as u16)?;
+            print::text(rt, b"\n")
         }
         Outcome::Refused(_) => {
-            print::text(b"refused ");
-            answer::decimal(offer::number(outcome) as u16);
-            state_told(state);
-            print::text(b"\n");
+            print::text(rt, b"refused ")?;
+            answer::decimal(rt, offer::number(outcome) as u16)?;
+            state_told(rt, state)?;
+            print::text(rt, b"\n")
         }
     }
 }
 
-fn replied(reply: &[u8], state: State) {
-    print::text(b"reply ");
-    answer::hex(reply);
-    state_told(state);
+fn replied(rt: &impl Print, reply: &[u8], state: State) -> io::Result<()> {
+    print::text(rt, b"reply ")?;
+    answer::hex(rt, reply)?;
+    state_told(rt, state)
 }
 
-fn state_told(state: State) {
+fn state_told(rt: &impl Print, state: State) -> io::Result<()> {
     match state {
-        State::Initial => print::text(b" state Initial"),
-        State::IamInit => print::text(b" state IAM-Init"),
-        State::MamInit => print::text(b" state MAM-Init"),
-        State::IaOk => print::text(b" state IA-OK"),
+        State::Initial => print::text(rt, b" state Initial"),
+        State::IamInit => print::text(rt, b" state IAM-Init"),
+        State::MamInit => print::text(rt, b" state MAM-Init"),
+        State::IaOk => print::text(rt, b" state IA-OK"),
     }
 }
