@@ -9,6 +9,8 @@ use frames::sizes::REPLY_ROOM;
 use lines::numbers::{low_word, times};
 use lines::print;
 use sheet::{SheetVerdict, Terms};
+use std::io;
+use std::random::RandomSource;
 use tag::Tag;
 
 // The bytes of the longest key table.
@@ -21,7 +23,7 @@ pub fn key_room() -> [u8; KEY_TABLE] {
 
 // The tag's place on the bench from one command to the next: a tag, where a sheet was accepted, and the bytes lent of
 // its key table and of each area.
-#[derive(Drop)]
+#[derive(Clone, Copy)]
 pub struct Place {
     set: bool,
     tag: Tag,
@@ -45,34 +47,35 @@ pub fn empty() -> Place {
 }
 
 pub fn sheet(
+    rt: &impl Print,
     p: Place,
     line: &[u8],
     keys: &mut [u8],
     identity: &mut [u8],
     user: &mut [u8],
-) -> Place {
-    if !fields::read(line, 1, b"h", 0) {
-        return p;
+) -> io::Result<Place> {
+    if !fields::read(rt, line, 1, b"h", 0)? {
+        return Ok(p);
     }
-    let mut room = io::buffer();
+    let mut room = [0u8; 4096];
     let n = within(fields::bytes(line, 1, &mut room), &room);
     let reading = bench::cursor::read(&room[..n]);
     let verdict = reading.verdict;
     let terms = reading.terms;
     match verdict {
         SheetVerdict::Refused(fault, at) => {
-            print::text(b"refused ");
-            answer::decimal(sheet::number(fault) as u16);
-            print::text(b" at ");
-            answer::decimal(low_word(at));
-            print::text(b"\n");
-            return p;
+            print::text(rt, b"refused ")?;
+            answer::decimal(rt, sheet::number(fault) as u16)?;
+            print::text(rt, b" at ")?;
+            answer::decimal(rt, low_word(at))?;
+            print::text(rt, b"\n")?;
+            return Ok(p);
         }
         SheetVerdict::Whole => {
-            answer::ok();
+            answer::ok(rt)?;
             clear(identity);
             clear(user);
-            return set_up(terms, taken(&room[..n], reading.keys, keys));
+            return Ok(set_up(terms, taken(&room[..n], reading.keys, keys)));
         }
     }
 }
@@ -109,74 +112,93 @@ fn clear(area: &mut [u8]) {
     }
 }
 
-pub fn area(p: Place, line: &[u8], identity: &mut [u8], user: &mut [u8]) -> Place {
-    if !fields::read(line, 1, b"ah", 0) {
-        return p;
+pub fn area(
+    rt: &impl Print,
+    p: Place,
+    line: &[u8],
+    identity: &mut [u8],
+    user: &mut [u8],
+) -> io::Result<Place> {
+    if !fields::read(rt, line, 1, b"ah", 0)? {
+        return Ok(p);
     }
-    answer::ok();
+    answer::ok(rt)?;
     let mut after = p;
     if fields::number(line, 1) == 0 {
         after.identity = fields::bytes(line, 2, identity);
-        return after;
+        return Ok(after);
     }
     after.user = fields::bytes(line, 2, user);
-    after
+    Ok(after)
 }
 
-pub fn areas(p: Place, line: &[u8], identity: &[u8], user: &[u8]) {
-    if !fields::read(line, 1, b"", 0) {
-        return;
+pub fn areas(
+    rt: &impl Print,
+    p: Place,
+    line: &[u8],
+    identity: &[u8],
+    user: &[u8],
+) -> io::Result<()> {
+    if !fields::read(rt, line, 1, b"", 0)? {
+        return Ok(());
     }
     let i = within(p.identity, identity);
     let u = within(p.user, user);
-    print::text(b"area 0 ");
-    answer::hex(&identity[..i]);
-    print::text(b" area 1 ");
-    answer::hex(&user[..u]);
-    print::text(b"\n");
+    print::text(rt, b"area 0 ")?;
+    answer::hex(rt, &identity[..i])?;
+    print::text(rt, b" area 1 ")?;
+    answer::hex(rt, &user[..u])?;
+    print::text(rt, b"\n")
 }
 
 // Is there a tag? Where not, it is said.
-fn set(there: bool) -> bool {
+fn set(rt: &impl Print, there: bool) -> io::Result<bool> {
     if there {
-        return true;
+        return Ok(true);
     }
-    print::text(b"error: no tag yet\n");
-    false
+    print::text(rt, b"error: no tag yet\n")?;
+    Ok(false)
 }
 
-pub fn power(p: Place, line: &[u8]) -> Place {
-    if !fields::read(line, 1, b"", 0) {
-        return p;
+pub fn power(rt: &impl Print, p: Place, line: &[u8]) -> io::Result<Place> {
+    if !fields::read(rt, line, 1, b"", 0)? {
+        return Ok(p);
     }
-    if !set(p.set) {
-        return p;
+    if !set(rt, p.set)? {
+        return Ok(p);
     }
-    answer::ok();
+    answer::ok(rt)?;
     let tag = p.tag;
     let mut after = p;
     after.tag = bench::woken(tag);
-    after
+    Ok(after)
 }
 
-pub fn message(p: Place, line: &[u8], keys: &[u8], identity: &mut [u8], user: &mut [u8]) -> Place {
-    if !fields::read(line, 1, b"hdr", 2) {
-        return p;
+pub fn message(
+    rt: &(impl Print + RandomSource),
+    p: Place,
+    line: &[u8],
+    keys: &[u8],
+    identity: &mut [u8],
+    user: &mut [u8],
+) -> io::Result<Place> {
+    if !fields::read(rt, line, 1, b"hdr", 2)? {
+        return Ok(p);
     }
-    if !set(p.set) {
-        return p;
+    if !set(rt, p.set)? {
+        return Ok(p);
     }
     if random(line) {
         let mut draws = [0u8; 10];
-        if libc::getentropy(&mut draws) != 0 {
-            print::text(b"error: no random bytes\n");
-            return p;
+        if rt.fill_bytes(&mut draws).is_err() {
+            print::text(rt, b"error: no random bytes\n")?;
+            return Ok(p);
         }
-        return sent(p, line, &draws, keys, identity, user);
+        return sent(rt, p, line, &draws, keys, identity, user);
     }
-    let mut room = io::buffer();
+    let mut room = [0u8; 4096];
     let n = within(fields::bytes(line, 2, &mut room), &room);
-    sent(p, line, &room[..n], keys, identity, user)
+    sent(rt, p, line, &room[..n], keys, identity, user)
 }
 
 // Are the draws those of the system's random source?
@@ -188,18 +210,20 @@ fn random(line: &[u8]) -> bool {
 }
 
 fn sent(
+    rt: &impl Print,
     p: Place,
     line: &[u8],
     draws: &[u8],
     keys: &[u8],
     identity: &mut [u8],
     user: &mut [u8],
-) -> Place {
-    let mut message = io::buffer();
+) -> io::Result<Place> {
+    let mut message = [0u8; 4096];
     let m = within(fields::bytes(line, 1, &mut message), &message);
-    let mut room = io::buffer();
+    let mut room = [0u8; 4096];
     let r = within(room_of(line), &room);
     stepped(
+        rt,
         p,
         keys,
         &message[..m],
@@ -219,6 +243,7 @@ fn room_of(line: &[u8]) -> usize {
 
 // One message, played by the tag where the bench keeps it.
 fn stepped(
+    rt: &impl Print,
     p: Place,
     keys: &[u8],
     message: &[u8],
@@ -226,7 +251,7 @@ fn stepped(
     room: &mut [u8],
     identity: &mut [u8],
     user: &mut [u8],
-) -> Place {
+) -> io::Result<Place> {
     let t = p.tag;
     let i = within(p.identity, identity);
     let u = within(p.user, user);
@@ -244,8 +269,8 @@ fn stepped(
     let next = s.tag;
     let session = next.session;
     let state = session.state;
-    told::outcome(outcome, state, room);
+    told::outcome(rt, outcome, state, room)?;
     let mut after = p;
     after.tag = next;
-    after
+    Ok(after)
 }
