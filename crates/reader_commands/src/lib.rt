@@ -12,9 +12,10 @@ use lines::print;
 use reader::Keys;
 use reader_build::Made;
 use reader_judge::{Judgement, Verdict, Worth, judge};
+use std::io;
 
 // The reader's keys from one command to the next, where there are some.
-#[derive(Drop)]
+#[derive(Clone, Copy)]
 pub struct Keyring {
     held: bool,
     keys: Keys,
@@ -32,107 +33,105 @@ pub fn empty() -> Keyring {
     }
 }
 
-pub fn keys(k: Keyring, line: &[u8]) -> Keyring {
-    if !fields::read(line, 1, b"km", 0) {
-        return k;
+pub fn keys(rt: &impl Print, k: Keyring, line: &[u8]) -> io::Result<Keyring> {
+    if !fields::read(rt, line, 1, b"km", 0)? {
+        return Ok(k);
     }
-    answer::ok();
-    Keyring {
+    answer::ok(rt)?;
+    Ok(Keyring {
         held: true,
         keys: Keys {
             enc: fields::sixteen(line, 1),
             mac: !octets::same(word(line, 2), b"-"),
             mackey: fields::sixteen(line, 2),
         },
-    }
+    })
 }
 
 // Has the reader's side its keys? Where not, it is said.
-fn held(k: Keyring) -> bool {
+fn held(rt: &impl Print, k: Keyring) -> io::Result<bool> {
     if k.held {
-        return true;
+        return Ok(true);
     }
-    print::text(b"error: no keys yet\n");
-    false
+    print::text(rt, b"error: no keys yet\n")?;
+    Ok(false)
 }
 
-pub fn build(k: Keyring, line: &[u8]) {
+pub fn build(rt: &impl Print, k: Keyring, line: &[u8]) -> io::Result<()> {
     let name = word(line, 1);
     if name.len() == 0 {
-        print::text(b"error: word missing\n");
-        return;
+        return print::text(rt, b"error: word missing\n");
     }
     let kind = orders::kind_of(name);
     if let Kind::Unsupported = kind {
-        print::text(b"error: unknown message\n");
-        return;
+        return print::text(rt, b"error: unknown message\n");
     }
-    if !orders::read(kind, line) {
-        return;
+    if !orders::read(rt, kind, line)? {
+        return Ok(());
     }
     if orders::keyed(kind) {
-        if !held(k) {
-            return;
+        if !held(rt, k)? {
+            return Ok(());
         }
     }
     let keys = k.keys;
     let mut room = [0u8; MESSAGE_ROOM];
     let made = orders::made(keys, kind, line, &mut room);
-    built(made, &room);
+    built(rt, made, &room)
 }
 
-fn built(made: Made, room: &[u8]) {
+fn built(rt: &impl Print, made: Made, room: &[u8]) -> io::Result<()> {
     match made {
         Made::Message(n) => {
             let e = within(n, room);
-            print::text(b"message ");
-            answer::hex(&room[..e]);
-            print::text(b"\n");
+            print::text(rt, b"message ")?;
+            answer::hex(rt, &room[..e])?;
+            print::text(rt, b"\n")
         }
-        Made::Refused(fault) => answer::refused(reader::number(fault)),
+        Made::Refused(fault) => answer::refused(rt, reader::number(fault)),
     }
 }
 
-pub fn judged(k: Keyring, line: &[u8]) {
-    if !fields::read(line, 1, b"hh", 0) {
-        return;
+pub fn judged(rt: &impl Print, k: Keyring, line: &[u8]) -> io::Result<()> {
+    if !fields::read(rt, line, 1, b"hh", 0)? {
+        return Ok(());
     }
-    if !held(k) {
-        return;
+    if !held(rt, k)? {
+        return Ok(());
     }
     let keys = k.keys;
-    let mut message = io::buffer();
+    let mut message = [0u8; 4096];
     let m = within(fields::bytes(line, 1, &mut message), &message);
-    let mut reply = io::buffer();
+    let mut reply = [0u8; 4096];
     let r = within(fields::bytes(line, 2, &mut reply), &reply);
     let mut room = [0u8; DATA_ROOM];
     let j = judge(keys, &message[..m], &reply[..r], &mut room);
-    told(j, &room);
+    told(rt, j, &room)
 }
 
-fn told(j: Judgement, room: &[u8]) {
+fn told(rt: &impl Print, j: Judgement, room: &[u8]) -> io::Result<()> {
     let verdict = j.verdict;
     match verdict {
-        Verdict::Refused(fault) => answer::refused(reader::number(fault)),
-        Verdict::Accepted => accepted(j, room),
+        Verdict::Refused(fault) => answer::refused(rt, reader::number(fault)),
+        Verdict::Accepted => accepted(rt, j, room),
     }
 }
 
-fn accepted(j: Judgement, room: &[u8]) {
+fn accepted(rt: &impl Print, j: Judgement, room: &[u8]) -> io::Result<()> {
     let worth = j.worth;
     let challenge = j.challenge;
     let n = within(j.data, room);
-    print::text(b"accepted data ");
-    answer::hex(&room[..n]);
-    print::text(b" challenge ");
+    print::text(rt, b"accepted data ")?;
+    answer::hex(rt, &room[..n])?;
+    print::text(rt, b" challenge ")?;
     if j.issued {
-        answer::hex(&challenge);
+        answer::hex(rt, &challenge)?;
     } else {
-        answer::hex(b"");
+        answer::hex(rt, b"")?;
     }
     match worth {
-        Worth::NoData => print::text(b" -\n"),
-        Worth::Unproved => print::text(b" unproved\n"),
-        Worth::Proved => print::text(b" proved\n"),
+        Worth::NoData => print::text(rt, b" -\n"),
+        Worth::Unproved => print::text(rt, b" unproved\n"),
+        Worth::Proved => print::text(rt, b" proved\n"),
     }
 }

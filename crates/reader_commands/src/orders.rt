@@ -9,6 +9,7 @@ use memory::{BlockSize, Offset};
 use octets::same;
 use reader::{Keys, ReaderFault};
 use reader_build::Made;
+use std::io;
 
 pub fn kind_of(name: &[u8]) -> Kind {
     if same(name, b"tam1") {
@@ -36,16 +37,16 @@ pub fn kind_of(name: &[u8]) -> Kind {
 }
 
 // Can the fields of a message be read?
-pub fn read(kind: Kind, line: &[u8]) -> bool {
+pub fn read(rt: &impl Print, kind: Kind, line: &[u8]) -> io::Result<bool> {
     match kind {
-        Kind::Tam1 => fields::read(line, 2, b"nh", 0),
-        Kind::Tam2 => fields::read(line, 2, b"nnnhnnnn", 0),
-        Kind::Iam1 => fields::read(line, 2, b"n", 0),
-        Kind::Iam2 => fields::read(line, 2, b"nhh", 0),
-        Kind::Iam3 => fields::read(line, 2, b"nnnnnnhhh", 0),
-        Kind::Mam1 => fields::read(line, 2, b"nh", 0),
-        Kind::Mam2 => fields::read(line, 2, b"nhh", 0),
-        Kind::Unsupported => false,
+        Kind::Tam1 => fields::read(rt, line, 2, b"nh", 0),
+        Kind::Tam2 => fields::read(rt, line, 2, b"nnnhnnnn", 0),
+        Kind::Iam1 => fields::read(rt, line, 2, b"n", 0),
+        Kind::Iam2 => fields::read(rt, line, 2, b"nhh", 0),
+        Kind::Iam3 => fields::read(rt, line, 2, b"nnnnnnhhh", 0),
+        Kind::Mam1 => fields::read(rt, line, 2, b"nh", 0),
+        Kind::Mam2 => fields::read(rt, line, 2, b"nhh", 0),
+        Kind::Unsupported => Ok(false),
     }
 }
 
@@ -197,7 +198,7 @@ fn iam3(keys: Keys, line: &[u8], room: &mut [u8]) -> Made {
     if 1 < number(line, 2) {
         return out_of_range();
     }
-    let mut words = io::buffer();
+    let mut words = [0u8; 4096];
     let n = within(fields::bytes(line, 10, &mut words), &words);
     let protmode = small(line, 6);
     let purpose = small(line, 7);
