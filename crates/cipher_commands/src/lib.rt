@@ -7,30 +7,33 @@ use console::words::word;
 use console::{answer, fields};
 use lines::print;
 use modes::Chaining;
+use std::io;
 
-pub fn aes(line: &[u8]) {
+pub fn aes(rt: &impl Print, line: &[u8]) -> io::Result<()> {
     let form = word(line, 1);
     if form.len() == 0 {
-        print::text(b"error: word missing\n");
-        return;
+        return print::text(rt, b"error: word missing\n");
     }
     if octets::same(form, b"enc") {
-        if fields::read(line, 2, b"kk", 0) {
-            answer::out(&aes::encrypt(sixteen(line, 2), sixteen(line, 3)));
+        if fields::read(rt, line, 2, b"kk", 0)? {
+            answer::out(rt, &aes::encrypt(sixteen(line, 2), sixteen(line, 3)))?;
         }
-        return;
+        return Ok(());
     }
     if octets::same(form, b"dec") {
-        if fields::read(line, 2, b"kk", 0) {
-            answer::out(&aes_inverse::decrypt(sixteen(line, 2), sixteen(line, 3)));
+        if fields::read(rt, line, 2, b"kk", 0)? {
+            answer::out(
+                rt,
+                &aes_inverse::decrypt(sixteen(line, 2), sixteen(line, 3)),
+            )?;
         }
-        return;
+        return Ok(());
     }
-    print::text(b"error: unknown form\n");
+    print::text(rt, b"error: unknown form\n")
 }
 
 // The forms of 3.1.8 to 3.1.11.
-#[derive(Drop)]
+#[derive(Clone, Copy)]
 enum Form {
     EncAes,
     DecAes,
@@ -55,79 +58,93 @@ fn form_of(name: &[u8]) -> Form {
     Form::NoForm
 }
 
-pub fn cbc(line: &[u8]) {
+pub fn cbc(rt: &impl Print, line: &[u8]) -> io::Result<()> {
     let name = word(line, 1);
     if name.len() == 0 {
-        print::text(b"error: word missing\n");
-        return;
+        return print::text(rt, b"error: word missing\n");
     }
     let form = form_of(name);
     if let Form::NoForm = form {
-        print::text(b"error: unknown form\n");
-        return;
+        return print::text(rt, b"error: unknown form\n");
     }
-    if !fields::read(line, 2, b"kkhr", 0) {
-        return;
+    if !fields::read(rt, line, 2, b"kkhr", 0)? {
+        return Ok(());
     }
-    let mut input = io::buffer();
+    let mut input = [0u8; 4096];
     let n = within(fields::bytes(line, 4, &mut input), &input);
-    let mut room = io::buffer();
+    let mut room = [0u8; 4096];
     let r = within(fields::number(line, 5) as usize, &room);
-    chained(form, line, &input[..n], &mut room[..r]);
+    chained(rt, form, line, &input[..n], &mut room[..r])
 }
 
-fn chained(form: Form, line: &[u8], input: &[u8], room: &mut [u8]) {
+fn chained(
+    rt: &impl Print,
+    form: Form,
+    line: &[u8],
+    input: &[u8],
+    room: &mut [u8],
+) -> io::Result<()> {
     let iv = sixteen(line, 2);
     let key = sixteen(line, 3);
     match form {
         Form::EncAes => {
-            told(modes::cbc_enc_aes(iv, key, input, room), room, input.len());
+            told(
+                rt,
+                modes::cbc_enc_aes(iv, key, input, room),
+                room,
+                input.len(),
+            )
         }
         Form::DecAes => {
-            told(modes::cbc_dec_aes(iv, key, input, room), room, input.len());
+            told(
+                rt,
+                modes::cbc_dec_aes(iv, key, input, room),
+                room,
+                input.len(),
+            )
         }
         Form::EncAesInv => {
             told(
+                rt,
                 modes_inverse::cbc_enc_aes_inv(iv, key, input, room),
                 room,
                 input.len(),
-            );
+            )
         }
         Form::DecAesInv => {
             told(
+                rt,
                 modes_inverse::cbc_dec_aes_inv(iv, key, input, room),
                 room,
                 input.len(),
-            );
+            )
         }
-        Form::NoForm => {
-            return;
-        }
+        Form::NoForm => Ok(()),
     }
 }
 
-pub fn cmac(line: &[u8]) {
-    if !fields::read(line, 1, b"khr", 0) {
-        return;
+pub fn cmac(rt: &impl Print, line: &[u8]) -> io::Result<()> {
+    if !fields::read(rt, line, 1, b"khr", 0)? {
+        return Ok(());
     }
-    let mut input = io::buffer();
+    let mut input = [0u8; 4096];
     let n = within(fields::bytes(line, 2, &mut input), &input);
-    let mut room = io::buffer();
+    let mut room = [0u8; 4096];
     let r = within(fields::number(line, 3) as usize, &room);
-    authenticated(sixteen(line, 1), &input[..n], &mut room[..r]);
+    authenticated(rt, sixteen(line, 1), &input[..n], &mut room[..r])
 }
 
-fn authenticated(key: [u8; 16], input: &[u8], room: &mut [u8]) {
-    told(modes::cmac_96(key, input, room), room, 12);
+fn authenticated(rt: &impl Print, key: [u8; 16], input: &[u8], room: &mut [u8]) -> io::Result<()> {
+    told(rt, modes::cmac_96(key, input, room), room, 12)
 }
 
 // The room's first n bytes where the call is done.
-fn told(c: Chaining, room: &[u8], n: usize) {
+fn told(rt: &impl Print, c: Chaining, room: &[u8], n: usize) -> io::Result<()> {
     match c {
         Chaining::Done => {
             let e = within(n, room);
-            answer::out(&room[..e]);
+            answer::out(rt, &room[..e])
         }
-        Chaining::Refused => answer::refused(modes::number(c)),
+        Chaining::Refused => answer::refused(rt, modes::number(c)),
     }
 }
