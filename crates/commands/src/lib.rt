@@ -6,12 +6,14 @@ use console::words::word;
 use lines::print;
 use octets::same;
 use reader_commands::Keyring;
+use std::io;
+use std::random::RandomSource;
 use tag_commands::Place;
 use texts::explain;
 
 // What is kept from one command to the next, of each half. The bytes of the key table and of both areas stand beside
 // it.
-#[derive(Drop)]
+#[derive(Clone, Copy)]
 pub struct Desk {
     place: Place,
     keyring: Keyring,
@@ -34,7 +36,7 @@ fn with_keyring(d: Desk, keyring: Keyring) -> Desk {
     Desk { place, keyring }
 }
 
-#[derive(Drop)]
+#[derive(Clone, Copy)]
 enum Command {
     Sheet,
     Area,
@@ -101,77 +103,86 @@ fn named_else(name: &[u8]) -> Command {
 
 // The answer to a line that has a word, and the desk after it.
 pub fn answered(
+    rt: &(impl Print + RandomSource),
     d: Desk,
     line: &[u8],
     keys: &mut [u8],
     identity: &mut [u8],
     user: &mut [u8],
-) -> Desk {
+) -> io::Result<Desk> {
     let place = d.place;
     let keyring = d.keyring;
     match named(word(line, 0)) {
         Command::Sheet => {
-            return with_place(d, tag_commands::sheet(place, line, keys, identity, user));
+            return Ok(with_place(
+                d,
+                tag_commands::sheet(rt, place, line, keys, identity, user)?,
+            ));
         }
         Command::Area => {
-            return with_place(d, tag_commands::area(place, line, identity, user));
+            return Ok(with_place(d, tag_commands::area(rt, place, line, identity, user)?));
         }
         Command::Areas => {
-            tag_commands::areas(place, line, identity, user);
-            return d;
+            tag_commands::areas(rt, place, line, identity, user)?;
+            return Ok(d);
         }
         Command::Power => {
-            return with_place(d, tag_commands::power(place, line));
+            return Ok(with_place(d, tag_commands::power(rt, place, line)?));
         }
         Command::Message => {
-            return with_place(d, tag_commands::message(place, line, keys, identity, user));
+            return Ok(with_place(
+                d,
+                tag_commands::message(rt, place, line, keys, identity, user)?,
+            ));
         }
         Command::Keys => {
-            return with_keyring(d, reader_commands::keys(keyring, line));
+            return Ok(with_keyring(d, reader_commands::keys(rt, keyring, line)?));
         }
         Command::Build => {
-            reader_commands::build(keyring, line);
-            return d;
+            reader_commands::build(rt, keyring, line)?;
+            return Ok(d);
         }
         Command::Judge => {
-            reader_commands::judged(keyring, line);
-            return d;
+            reader_commands::judged(rt, keyring, line)?;
+            return Ok(d);
         }
         Command::Aes => {
-            cipher_commands::aes(line);
-            return d;
+            cipher_commands::aes(rt, line)?;
+            return Ok(d);
         }
         Command::Cbc => {
-            cipher_commands::cbc(line);
-            return d;
+            cipher_commands::cbc(rt, line)?;
+            return Ok(d);
         }
         Command::Cmac => {
-            cipher_commands::cmac(line);
-            return d;
+            cipher_commands::cmac(rt, line)?;
+            return Ok(d);
         }
         Command::Explain => {
-            explained(line);
-            return d;
+            explained(rt, line)?;
+            return Ok(d);
         }
         Command::Help => {
-            helped(line);
-            return d;
+            helped(rt, line)?;
+            return Ok(d);
         }
         Command::Unknown => {
-            print::text(b"error: unknown command\n");
-            return d;
+            print::text(rt, b"error: unknown command\n")?;
+            return Ok(d);
         }
     }
 }
 
-fn explained(line: &[u8]) {
-    if fields::read(line, 1, b"n", 0) {
-        explain::number(fields::number(line, 1));
+fn explained(rt: &impl Print, line: &[u8]) -> io::Result<()> {
+    if fields::read(rt, line, 1, b"n", 0)? {
+        explain::number(rt, fields::number(line, 1))?;
     }
+    Ok(())
 }
 
-fn helped(line: &[u8]) {
-    if fields::read(line, 1, b"", 0) {
-        explain::commands();
+fn helped(rt: &impl Print, line: &[u8]) -> io::Result<()> {
+    if fields::read(rt, line, 1, b"", 0)? {
+        explain::commands(rt)?;
     }
+    Ok(())
 }
