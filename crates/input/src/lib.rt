@@ -4,11 +4,13 @@
 use commands::Desk;
 use console::answer;
 use console::words::{before_comment, count};
-use libc::STDIN_FILENO;
 use lines::print;
+use std::io;
+use std::io::Read;
+use std::random::RandomSource;
 
 // How much of a line there is, whether it has more than its room, and whether it is shown before its answer.
-#[derive(Drop)]
+#[derive(Clone, Copy)]
 struct Line {
     n: usize,
     cut: bool,
@@ -18,33 +20,58 @@ struct Line {
 // A proved loop has to end, and nothing says that the input does. No input has as many parts.
 const PARTS: u64 = 1000000000000000000;
 
-pub fn lines() {
-    let mut line = io::large_buffer();
+pub fn lines(rt: &(impl Input + Print + RandomSource)) -> io::Result<()> {
+    let mut input = rt.reader();
+    let mut line = [0u8; 65536];
     let mut keys = tag_commands::key_room();
-    let mut identity = io::buffer();
-    let mut user = io::buffer();
-    let h = whole(&mut line, &mut keys, &mut identity, &mut user);
+    let mut identity = [0u8; 4096];
+    let mut user = [0u8; 4096];
+    let h = whole(
+        rt,
+        &mut input,
+        &mut line,
+        &mut keys,
+        &mut identity,
+        &mut user,
+    )?;
     let d = h.desk;
     let l = h.line;
-    ended(d, l, &line, &mut keys, &mut identity, &mut user); // the last line may have no end
+    ended(rt, d, l, &line, &mut keys, &mut identity, &mut user)?; // the last line may have no end
+    Ok(())
 }
 
 // A script, each line of it shown before its answer.
-pub fn script(text: &[u8]) {
-    let mut line = io::large_buffer();
+pub fn script(rt: &(impl Print + RandomSource), text: &[u8]) -> io::Result<()> {
+    let mut line = [0u8; 65536];
     let mut keys = tag_commands::key_room();
-    let mut identity = io::buffer();
-    let mut user = io::buffer();
+    let mut identity = [0u8; 4096];
+    let mut user = [0u8; 4096];
     let begun = Heard {
         desk: commands::empty(),
         line: fresh(true),
         over: false,
     };
-    fed(begun, text, &mut line, &mut keys, &mut identity, &mut user);
+    fed(
+        rt,
+        begun,
+        text,
+        &mut line,
+        &mut keys,
+        &mut identity,
+        &mut user,
+    )?;
+    Ok(())
 }
 
 // The whole input, and each line of it that has an end.
-fn whole(line: &mut [u8], keys: &mut [u8], identity: &mut [u8], user: &mut [u8]) -> Heard {
+fn whole(
+    rt: &(impl Print + RandomSource),
+    input: &mut impl Read,
+    line: &mut [u8],
+    keys: &mut [u8],
+    identity: &mut [u8],
+    user: &mut [u8],
+) -> io::Result<Heard> {
     let mut h = Heard {
         desk: commands::empty(),
         line: fresh(false),
@@ -52,17 +79,17 @@ fn whole(line: &mut [u8], keys: &mut [u8], identity: &mut [u8], user: &mut [u8])
     };
     let mut left = PARTS;
     while 0 < left {
-        h = next(h, line, keys, identity, user);
+        h = next(rt, input, h, line, keys, identity, user)?;
         if h.over {
             break;
         }
         left -= 1;
     }
-    h
+    Ok(h)
 }
 
 // What was heard so far: the desk, the line that has begun, and whether the input is over.
-#[derive(Drop)]
+#[derive(Clone, Copy)]
 struct Heard {
     desk: Desk,
     line: Line,
@@ -70,19 +97,29 @@ struct Heard {
 }
 
 // The next part of the input.
-fn next(h: Heard, line: &mut [u8], keys: &mut [u8], identity: &mut [u8], user: &mut [u8]) -> Heard {
-    let mut part = io::buffer();
-    let got = libc::read(STDIN_FILENO, &mut part);
-    if got < 0 {
-        print::text(b"error: standard input can't be read\n");
-    }
-    let n = io::count(got, &part);
+fn next(
+    rt: &(impl Print + RandomSource),
+    input: &mut impl Read,
+    h: Heard,
+    line: &mut [u8],
+    keys: &mut [u8],
+    identity: &mut [u8],
+    user: &mut [u8],
+) -> io::Result<Heard> {
+    let mut part = [0u8; 4096];
+    let n = match input.read(&mut part) {
+        Ok(n) => n,
+        Err(_) => {
+            print::text(rt, b"error: standard input can't be read\n")?;
+            0
+        }
+    };
     if n == 0 {
         let mut end = h;
         end.over = true;
-        return end;
+        return Ok(end);
     }
-    fed(h, &part[..n], line, keys, identity, user)
+    fed(rt, h, &part[..n], line, keys, identity, user)
 }
 
 fn fresh(shown: bool) -> Line {
@@ -94,13 +131,14 @@ fn fresh(shown: bool) -> Line {
 }
 
 fn fed(
+    rt: &(impl Print + RandomSource),
     h: Heard,
     part: &[u8],
     line: &mut [u8],
     keys: &mut [u8],
     identity: &mut [u8],
     user: &mut [u8],
-) -> Heard {
+) -> io::Result<Heard> {
     let mut d = h.desk;
     let mut l = h.line;
     let mut i: usize = 0;
@@ -111,14 +149,14 @@ fn fed(
             l = longer(l, c, line);
             continue;
         }
-        d = ended(d, l, line, keys, identity, user);
+        d = ended(rt, d, l, line, keys, identity, user)?;
         l = fresh(l.shown);
     }
-    Heard {
+    Ok(Heard {
         desk: d,
         line: l,
         over: false,
-    }
+    })
 }
 
 fn longer(l: Line, c: u8, line: &mut [u8]) -> Line {
@@ -139,33 +177,34 @@ fn longer(l: Line, c: u8, line: &mut [u8]) -> Line {
 }
 
 fn ended(
+    rt: &(impl Print + RandomSource),
     d: Desk,
     l: Line,
     line: &[u8],
     keys: &mut [u8],
     identity: &mut [u8],
     user: &mut [u8],
-) -> Desk {
+) -> io::Result<Desk> {
     if l.cut {
-        print::text(b"error: line over 65536 bytes\n");
-        return d;
+        print::text(rt, b"error: line over 65536 bytes\n")?;
+        return Ok(d);
     }
     let n = answer::within(l.n, line);
     if l.shown {
-        show(&line[..n]);
+        show(rt, &line[..n])?;
     }
     let command = before_comment(&line[..n]);
     if count(command) == 0 {
-        return d;
+        return Ok(d);
     }
-    commands::answered(d, command, keys, identity, user)
+    commands::answered(rt, d, command, keys, identity, user)
 }
 
 // A line as one types it, behind a mark where it is a command.
-fn show(line: &[u8]) {
+fn show(rt: &impl Print, line: &[u8]) -> io::Result<()> {
     if count(before_comment(line)) != 0 {
-        print::text(b"> ");
+        print::text(rt, b"> ")?;
     }
-    print::text(line);
-    print::text(b"\n");
+    print::text(rt, line)?;
+    print::text(rt, b"\n")
 }
