@@ -2,8 +2,7 @@
 -- each byte by itself, and there they agree where they agree at the eight bits.
 use mathlib.Core.Path.{◌≡◌, refl, sym, ap, ap₂, ◌∙◌}
 use Prim.Native.Nat.{ℕ, ◌^◌, ◌<◌}
-use mathlib.Core.List.{List, ◌∷◌}
-use lib.Bits.{bit_xor, xor_zero_r, xor_comm}
+use lib.Bits.{bit_xor, xor_zero_r}
 use Rattle.field.specs.Field.{times, remainder, polynomial_product}
 use Rattle.field.specs.Block.{tabulated}
 use Rattle.aes.specs.Cipher.{mixed}
@@ -18,12 +17,12 @@ abbrev pub Additive : Column → Type 0
 Additive F = (a b c d a' b' c' d' : ℕ) → F (bit_xor a a') (bit_xor b b') (bit_xor c c') (bit_xor d d') ≡ bit_xor (F a b c d)
     (F a' b' c' d')
 
-sum_additive : (F G : Column) → Additive F → Additive G → Additive (λ a b c d. bit_xor (F a b c d) (G a b c d))
+pub sum_additive : (F G : Column) → Additive F → Additive G → Additive (λ a b c d. bit_xor (F a b c d) (G a b c d))
 sum_additive F G f g a b c d a' b' c' d' =
     ap₂ bit_xor (f a b c d a' b' c' d') (g a b c d a' b' c' d')
     ∙ xor_swap (F a b c d) (F a' b' c' d') (G a b c d) (G a' b' c' d')
 
-times_additive : (k : ℕ) (F : Column) → Additive F → Additive (λ a b c d. times k (F a b c d))
+pub times_additive : (k : ℕ) (F : Column) → Additive F → Additive (λ a b c d. times k (F a b c d))
 times_additive k F f a b c d a' b' c' d' = ap (times k) (f a b c d a' b' c' d')
     ∙ times_linear k (F a b c d) (F a' b' c' d')
 
@@ -59,7 +58,7 @@ module _ (F G : Column) (f : Additive F) (g : Additive G) where
       ∙ sym (on_axes G g a b c d)
 
 module _ (A B C D : Column) (ha : Additive A) (hb : Additive B) (hc : Additive C) (hd : Additive D) where
-  mixed_additive : Additive (λ a b c d. mixed (A a b c d) (B a b c d) (C a b c d) (D a b c d))
+  pub mixed_additive : Additive (λ a b c d. mixed (A a b c d) (B a b c d) (C a b c d) (D a b c d))
   mixed_additive = sum4_additive (λ a b c d. times 2 (A a b c d)) (λ a b c d. times 3 (B a b c d)) C D
       (times_additive 2 A ha) (times_additive 3 B hb) hc hd
 
@@ -70,28 +69,28 @@ module _ (A B C D : Column) (ha : Additive A) (hb : Additive B) (hc : Additive C
       (times_additive 0x0E A ha) (times_additive 0x0B B hb) (times_additive 0x0D C hc) (times_additive 0x09 D hd)
 
 -- the four bytes of a column, from row 0, 1, 2 and 3 downwards
-abbrev row0 : Column
+abbrev pub row0 : Column
 row0 a b c d = a
 
-abbrev row1 : Column
+abbrev pub row1 : Column
 row1 a b c d = b
 
-abbrev row2 : Column
+abbrev pub row2 : Column
 row2 a b c d = c
 
-abbrev row3 : Column
+abbrev pub row3 : Column
 row3 a b c d = d
 
-row0_additive : Additive row0
+pub row0_additive : Additive row0
 row0_additive a b c d a' b' c' d' = refl
 
-row1_additive : Additive row1
+pub row1_additive : Additive row1
 row1_additive a b c d a' b' c' d' = refl
 
-row2_additive : Additive row2
+pub row2_additive : Additive row2
 row2_additive a b c d a' b' c' d' = refl
 
-row3_additive : Additive row3
+pub row3_additive : Additive row3
 row3_additive a b c d a' b' c' d' = refl
 
 -- F of the four bytes that M makes of the column, row by row
@@ -101,7 +100,7 @@ after F M a b c d = F (M a b c d) (M b c d a) (M c d a b) (M d a b c)
 m_additive : Additive mixed
 m_additive = mixed_additive row0 row1 row2 row3 row0_additive row1_additive row2_additive row3_additive
 
-u_additive : Additive unmixed
+pub u_additive : Additive unmixed
 u_additive = unmixed_additive row0 row1 row2 row3 row0_additive row1_additive row2_additive row3_additive
 
 turn : (M : Column) → Additive M → Additive (λ a b c d. M b c d a)
@@ -129,50 +128,3 @@ mixed_unmixed =
     (λ a b c d. unmixed d a b c) u_additive (turn unmixed u_additive) (turn2 unmixed u_additive)
     (turn3 unmixed u_additive))
     row0_additive refl refl refl refl
-
--- four times the sum of two bytes
-times4_additive : (A B : Column) → Additive A → Additive B
-    → Additive (λ a b c d. times 2 (times 2 (bit_xor (A a b c d) (B a b c d))))
-times4_additive A B ha hb =
-    times_additive 2 (λ a b c d. times 2 (bit_xor (A a b c d) (B a b c d)))
-    (times_additive 2 (λ a b c d. bit_xor (A a b c d) (B a b c d)) (sum_additive A B ha hb))
-
--- InvMixColumns by way of MixColumns: 4(a + c) is added to a and c, and 4(b + d) to b and d
-abbrev even : Column
-even a b c d = times 2 (times 2 (bit_xor a c))
-
-abbrev odd : Column
-odd a b c d = times 2 (times 2 (bit_xor b d))
-
-even_additive : Additive even
-even_additive = times4_additive row0 row2 row0_additive row2_additive
-
-odd_additive : Additive odd
-odd_additive = times4_additive row1 row3 row1_additive row3_additive
-
-pub unmixed_by_mixed : (a b c d e o : ℕ) → a < 256 → b < 256 → c < 256 → d < 256 → e ≡ even a b c d → o ≡ odd a b c d
-    → mixed (bit_xor a e) (bit_xor b o) (bit_xor c e) (bit_xor d o) ≡ unmixed a b c d
-unfolding times remainder polynomial_product
-unmixed_by_mixed a b c d e o ha hb hc hd p q =
-    (λ i. mixed (bit_xor a (p i)) (bit_xor b (q i)) (bit_xor c (p i)) (bit_xor d (q i)))
-    ∙ column_same (λ a b c d. mixed (bit_xor a (even a b c d)) (bit_xor b (odd a b c d)) (bit_xor c (even a b c d))
-    (bit_xor d (odd a b c d))) unmixed
-    (mixed_additive (λ a b c d. bit_xor a (even a b c d)) (λ a b c d. bit_xor b (odd a b c d))
-    (λ a b c d. bit_xor c (even a b c d)) (λ a b c d. bit_xor d (odd a b c d))
-    (sum_additive row0 even row0_additive even_additive) (sum_additive row1 odd row1_additive odd_additive)
-    (sum_additive row2 even row2_additive even_additive) (sum_additive row3 odd row3_additive odd_additive))
-    u_additive refl refl refl refl a b c d ha hb hc hd
-
--- the four rows of a column, with the rest of the state below it
-pub unmixed_column : (a b c d e o : ℕ) (rest rest' : List ℕ) → a < 256 → b < 256 → c < 256 → d < 256 → e ≡ even a b c d
-    → o ≡ odd a b c d → rest ≡ rest'
-    → mixed (bit_xor a e) (bit_xor b o) (bit_xor c e) (bit_xor d o)
-    ∷ mixed (bit_xor b o) (bit_xor c e) (bit_xor d o) (bit_xor a e)
-    ∷ mixed (bit_xor c e) (bit_xor d o) (bit_xor a e) (bit_xor b o)
-    ∷ mixed (bit_xor d o) (bit_xor a e) (bit_xor b o) (bit_xor c e) ∷ rest
-    ≡ unmixed a b c d ∷ unmixed b c d a ∷ unmixed c d a b ∷ unmixed d a b c ∷ rest'
-unmixed_column a b c d e o rest rest' ha hb hc hd p q below =
-    let p' : e ≡ even c d a b = p ∙ ap (λ (x : ℕ). times 2 (times 2 x)) (xor_comm a c) in
-    let q' : o ≡ odd c d a b = q ∙ ap (λ (x : ℕ). times 2 (times 2 x)) (xor_comm b d) in
-    λ i. unmixed_by_mixed a b c d e o ha hb hc hd p q i ∷ unmixed_by_mixed b c d a o e hb hc hd ha q p' i
-    ∷ unmixed_by_mixed c d a b e o hc hd ha hb p' q' i ∷ unmixed_by_mixed d a b c o e hd ha hb hc q' p i ∷ below i

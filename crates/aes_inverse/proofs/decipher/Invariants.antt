@@ -1,5 +1,5 @@
 use mathlib.Core.Path.{◌≡◌}
-use Prim.Native.Nat.{◌≤◌, ◌-◌}
+use Prim.Native.Nat.{◌≤◌}
 use Rattle.aes_inverse.specs.InvCipher.{inv_rounds}
 use Rattle.aes_inverse.proofs.decipher.Given as goal
 

@@ -3,7 +3,7 @@ use lib.ListN.{get_or}
 use Rattle.field.proofs.Arrays.{array_bytes}
 use Rattle.aes.specs.Cipher.{mix_columns, mixed_byte}
 use Rattle.aes_inverse.specs.InvCipher.{inv_mix_columns, unmixed_byte}
-use Rattle.aes_inverse.proofs.Columns.{unmixed_column}
+use Rattle.aes_inverse.proofs.Unmixing.{unmixed_column}
 use Rattle.aes_inverse.proofs.inv_mix_columns.Goals as goal
 
 pub returns : goal.returns

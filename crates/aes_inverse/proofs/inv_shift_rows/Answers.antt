@@ -1,5 +1,4 @@
 use mathlib.Core.Path.{refl}
-use Prim.Native.Nat.{◌-◌}
 use lib.ListN.{replicate}
 use Rattle.aes_inverse.specs.InvCipher.{inv_shift_rows}
 use Rattle.field.proofs.Fill.{none_yet, one_more_lem, filled}
