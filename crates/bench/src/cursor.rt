@@ -7,7 +7,7 @@ ghost use Rattle.sheet.specs.Sheet.{read_from, read_of, ReadAs};
 use sheet::{Gathered, Reading, places};
 
 /// A lent sheet, and a place in it.
-#[derive(Drop)]
+#[derive(Clone, Copy)]
 pub struct Cursor<'a> {
     pub sheet: &'a [u8],
     pub at: usize,

@@ -39,7 +39,7 @@ pub struct Session {
 }
 
 /// The outcome, and what the tag holds afterwards.
-#[derive(Drop)]
+#[derive(Clone, Copy)]
 pub struct Reacted {
     pub outcome: Outcome,
     pub session: Session,
@@ -47,7 +47,7 @@ pub struct Reacted {
 
 /// The same of a message that asks for a challenge, with the reply: as many bytes as the outcome says, zeros behind
 /// them.
-#[derive(Drop)]
+#[derive(Clone, Copy)]
 pub struct Challenged {
     pub outcome: Outcome,
     pub session: Session,

@@ -13,7 +13,7 @@ ghost use Rattle.modes.specs.Room.{Into, chains, macs, over, number_of};
 pub const PART: usize = 256;
 
 // The answer of a call that writes into a lent room. Refused: nothing was written.
-#[derive(Drop)]
+#[derive(Clone, Copy)]
 pub enum Chaining {
     Done,
     Refused,

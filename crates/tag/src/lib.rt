@@ -23,7 +23,7 @@ pub struct Tag {
 }
 
 /// The outcome, and the tag afterwards.
-#[derive(Drop)]
+#[derive(Clone, Copy)]
 pub struct Stepped {
     pub outcome: Outcome,
     pub tag: Tag,

@@ -18,7 +18,7 @@ mod judged; // judged.rt: the checks of TAM2, in their order
 mod replies; // replies.rt: what the tag sends
 
 /// What a TAM message comes to: the outcome, and the reply, as many bytes as the outcome says with zeros behind them.
-#[derive(Drop)]
+#[derive(Clone, Copy)]
 pub struct Given {
     pub outcome: Outcome,
     pub reply: [u8; REPLY_ROOM],
