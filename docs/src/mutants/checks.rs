@@ -99,12 +99,17 @@ fn call(source: &Source, at: usize) -> Option<Replaced> {
     if at == 0 || !starts(source, at) || !source.is(at, Sort::Word) {
         return None;
     }
-    let mut place = at;
-    while source.is(place, Sort::Word) && source.word(place + 1) == "::" {
-        place += 2;
+    let mut place = at; // of a path or of a value and its parts, the word that was read last
+    loop {
+        let is_part = source.word(place + 1) == "[";
+        let next = if is_part { source.behind(place + 1) } else { place + 1 };
+        if !matches!(source.word(next), "::" | ".") || !source.is(next + 1, Sort::Word) {
+            break;
+        }
+        place = next + 1;
     }
     let end = source.behind(place + 1);
-    let is_call = source.is(place, Sort::Word) && source.word(place + 1) == "(" && source.word(end) == ";";
+    let is_call = source.word(place + 1) == "(" && source.word(end) == ";";
     is_call.then(|| (Slip::DroppedCall, at..end + 1, String::new()))
 }
 
