@@ -13,7 +13,7 @@ const REPLY_ROOM: usize = 172;
 
 /// A tag: what its sheet says, and its session. The bytes are those that include/roualint.h describes, so that a tag
 /// can be stored and read back. A value of this type always has one of the four states, and a key for a challenge that
-/// waits. One that [`Tag::new`] made is the standard's tag from then on (theorem sheet-run in
+/// waits. One that [`Tag::new`] made is the standard's tag from then on (theorem sheet_run in
 /// crates/capi/proofs/Runs.antt), also where it was stored in between; of bytes from elsewhere see [`Tag::from_bytes`].
 #[derive(Clone, PartialEq, Eq)]
 #[repr(transparent)]
