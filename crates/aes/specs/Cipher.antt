@@ -43,4 +43,5 @@ rounds keys s (suc n) = add_round_key (mix_columns (shift_rows (sub_bytes (round
 
 -- 5.1: a key is added, nine rounds, and a last one without MixColumns.
 unfoldable pub cipher : List (List ℕ) → List ℕ → List ℕ
-cipher keys s = add_round_key (shift_rows (sub_bytes (rounds keys (add_round_key s (get_or keys 0 [])) 9))) (get_or keys 10 [])
+cipher keys s =
+    add_round_key (shift_rows (sub_bytes (rounds keys (add_round_key s (get_or keys 0 [])) 9))) (get_or keys 10 [])

@@ -14,7 +14,8 @@ abbrev pub Column : Type 0
 Column = ℕ → ℕ → ℕ → ℕ → ℕ
 
 abbrev pub Additive : Column → Type 0
-Additive F = (a b c d a' b' c' d' : ℕ) → F (bit_xor a a') (bit_xor b b') (bit_xor c c') (bit_xor d d') ≡ bit_xor (F a b c d)
+Additive F =
+    (a b c d a' b' c' d' : ℕ) → F (bit_xor a a') (bit_xor b b') (bit_xor c c') (bit_xor d d') ≡ bit_xor (F a b c d)
     (F a' b' c' d')
 
 pub sum_additive : (F G : Column) → Additive F → Additive G → Additive (λ a b c d. bit_xor (F a b c d) (G a b c d))

@@ -54,5 +54,6 @@ tables_back b h = ap (λ (x : ℕ). get_or inv_sbox_table x 0) (sbox_entry b h) 
     ∙ inv_sbox_sbox b h
 
 pub tables_forth : (b : ℕ) → b < 256 → get_or sbox_table (get_or inv_sbox_table b 0) 0 ≡ b
-tables_forth b h = ap (λ (x : ℕ). get_or sbox_table x 0) (inverse_entry b h) ∙ sbox_entry (inv_sbox b) (inv_sbox_byte b h)
+tables_forth b h =
+    ap (λ (x : ℕ). get_or sbox_table x 0) (inverse_entry b h) ∙ sbox_entry (inv_sbox b) (inv_sbox_byte b h)
     ∙ sbox_inv_sbox b h

@@ -71,7 +71,8 @@ module _ (s : List ℕ) (b : Block s) where
   -- a law of one column, at the bytes of s from place i on: turned by none, one, two and three rows
   module _ (F : Column) (same : (a b c d : ℕ) → a < 256 → b < 256 → c < 256 → d < 256 → F a b c d ≡ a) where
     at_places : (i j k l : ℕ) → F (get_or s i 0) (get_or s j 0) (get_or s k 0) (get_or s l 0) ≡ get_or s i 0
-    at_places i j k l = same (get_or s i 0) (get_or s j 0) (get_or s k 0) (get_or s l 0) (b.bytes i) (b.bytes j) (b.bytes k)
+    at_places i j k l =
+        same (get_or s i 0) (get_or s j 0) (get_or s k 0) (get_or s l 0) (b.bytes i) (b.bytes j) (b.bytes k)
         (b.bytes l)
 
     all_columns : block (λ i. F (at s (i % 4) (i / 4)) (at s ((i % 4 + 1) % 4) (i / 4)) (at s ((i % 4 + 2) % 4) (i / 4))

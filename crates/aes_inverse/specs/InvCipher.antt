@@ -33,5 +33,6 @@ inv_rounds keys (suc n) s = inv_rounds keys n (inv_mix_columns
 
 -- 5.3: the last round key is added, nine rounds, and a last one without InvMixColumns.
 unfoldable pub inv_cipher : List (List ℕ) → List ℕ → List ℕ
-inv_cipher keys s = add_round_key (inv_sub_bytes (inv_shift_rows (inv_rounds keys 9 (add_round_key s (get_or keys 10 [])))))
+inv_cipher keys s =
+    add_round_key (inv_sub_bytes (inv_shift_rows (inv_rounds keys 9 (add_round_key s (get_or keys 10 [])))))
     (get_or keys 0 [])

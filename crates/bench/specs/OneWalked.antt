@@ -1,5 +1,5 @@
--- No second answer fits, said over a function's own clauses: what its contract says is written out, and is the clause by
--- computation. So it is said of the functions over `&mut` of a struct, and over a struct that holds a reference.
+-- No second answer fits, said over a function's own clauses: what its contract says is written out, and is the clause
+-- by computation. So it is said of the functions over `&mut` of a struct, and over a struct that holds a reference.
 use Rattle.std.specs.Prelude.{◌≡◌}
 use seplogic.Ra.Ura.{Ura}
 use base.Logic.{SProp}

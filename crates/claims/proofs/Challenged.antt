@@ -31,7 +31,7 @@ use Rattle.tag.specs.States.{keyed, at_rest, after_iam1, after_mam1, in_turn}
 use Rattle.tag.specs.Answers.{replied, let_in, answer_with}
 use Rattle.tag.specs.Plays.{Brought, Step}
 use Rattle.reader.specs.declared.Keys.{Keys}
-use Rattle.reader.specs.Own.{mode_fits, mode_served as readerServes}
+use Rattle.reader.specs.Own.{mode_fits, mode_served as reader_serves}
 use Rattle.reader_build.specs.Builds.{purpose_fits, data_fits, iam1_made, iam2_made, mam1_made, mam2_made}
 use Rattle.reader_build.specs.Builds.{iam3_whole, iam3_in_mode, iam3_made, iam3_fits}
 use Rattle.claims.specs.Entry.{Array, Knows}
@@ -142,10 +142,10 @@ module _ (s : Start) (w : HasWritable s) (words : List ℕ) where
 
   -- the ProtMode that it says
   mode_fits_lem : mode_fits (keys s held) w.protmode ≡ true
-  unfolding mode_fits mode_served readerServes
+  unfolding mode_fits mode_served reader_serves
   mode_fits_lem =
       let m = mode_named (setup_at s).features (record_at s held) w.protmode w.writable.mode in
-      ap (λ (x : ProtModeField). in_mode x (readerServes (keys s held)) false) m.named
+      ap (λ (x : ProtModeField). in_mode x (reader_serves (keys s held)) false) m.named
       ∙ both_second (mode_offered (setup_at s).features m.mode)
       (implies (has_mac m.mode) (record_at s held).mac) m.holds
 

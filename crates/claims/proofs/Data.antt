@@ -42,7 +42,7 @@ use Rattle.tam.proofs.ReplyBytes.{tam_block_block, carried_bytes}
 use Rattle.tam.proofs.ReplyLengths.{tam_block_long, body_long, tam2_long, tam2_named}
 use Rattle.reader.specs.declared.Keys.{Keys}
 use Rattle.reader_judge.specs.Findings.{carries, worth_of}
-use Rattle.reader_judge.specs.Judged.{data_finding, tam2_in_mode as judgedInMode, tam2_finding}
+use Rattle.reader_judge.specs.Judged.{data_finding, tam2_in_mode as judged_in_mode, tam2_finding}
 use Rattle.reader_judge.specs.declared.Worth.TheVariants.{NoData}
 use Rattle.reader_judge.proofs.Clear.{tam2_named as tam2-found-named}
 use Rattle.reader_judge.specs.Opened.{opened_block, block_fits, data_sent, opened_data}
@@ -165,10 +165,10 @@ module _ (keys : Keys) (key : Key) (e : Shares keys key) (b : Bytes keys.enc) (d
         sym (passes _ _ _ _ h (passes _ _ _ _ k (ends _ _)))
         ∙ ap (carries (worth_of mode)) (words_carried f.custom words f.rev all)
 
-    in_mode_lem : judgedInMode keys f (tam2_in_mode key f words draws mode) mode ≡ carries (worth_of mode) words
-    unfolding judgedInMode
+    in_mode_lem : judged_in_mode keys f (tam2_in_mode key f words draws mode) mode ≡ carries (worth_of mode) words
+    unfolding judged_in_mode
     in_mode_lem =
-        ap (λ (l : List ℕ). judgedInMode keys f l mode) reply_is
+        ap (λ (l : List ℕ). judged_in_mode keys f l mode) reply_is
         ∙ sym
         (passes _ _ _ _ (eq-eqb _ _ (sym (ap length reply_is) ∙ tam2_long key f words draws mode few))
         (passes _ _ _ _ block_fits_lem (passes _ _ _ _ mac_fits_lem (ends _ _))))
@@ -179,6 +179,6 @@ module _ (keys : Keys) (key : Key) (e : Shares keys key) (b : Bytes keys.enc) (d
         → tam2_finding keys f (tam2_reply key f words draws) ≡ carries (worth_asked f.protmode) words
     tam2_found named =
         tam2-found-named keys f (tam2_reply key f words draws) mode named
-        ∙ ap (λ (l : List ℕ). judgedInMode keys f l mode) (tam2_named key f words draws mode named)
+        ∙ ap (λ (l : List ℕ). judged_in_mode keys f l mode) (tam2_named key f words draws mode named)
         ∙ in_mode_lem
         ∙ ap (λ (x : ProtModeField). carries (in_mode x worth_of NoData) words) (sym named)

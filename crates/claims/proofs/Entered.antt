@@ -14,7 +14,7 @@ use Rattle.memory.specs.Rights.{permitted, meets_any, some_locked}
 use Rattle.sheet.specs.Limits.{key_limit, profile_limit, lock_limit}
 use Rattle.frames.specs.declared.Custom.{Custom}
 use Rattle.frames.specs.declared.Kind.TheVariants.{Iam2, Iam3, Mam2}
-use Rattle.frames.specs.Asked.{block_asked as wordsAsked}
+use Rattle.frames.specs.Asked.{block_asked as words_asked}
 use Rattle.frames.specs.Blocks.{data_length, block_bytes}
 use Rattle.frames.specs.Fields.{custom_fits}
 use Rattle.frames.specs.Kinds.{kind_of, iam_kind}
@@ -36,7 +36,7 @@ use Rattle.tag.specs.Answers.{Call, effect_of, answer_with, answer_of, of_messag
 use Rattle.tag.specs.Runs.{PowerUp, answer_to}
 use Rattle.tag.specs.Reactions.{lent}
 use Rattle.reader.specs.declared.Keys.{Keys}
-use Rattle.reader.specs.Own.{mode_fits, mode_served as readerServes}
+use Rattle.reader.specs.Own.{mode_fits, mode_served as reader_serves}
 use Rattle.reader_build.specs.Builds.{purpose_fits, data_fits, iam2_made, mam2_made, iam3_made, iam3_fits}
 use Rattle.claims.specs.Entry.{Knows, Waits, Writable}
 use Rattle.claims.proofs.Entry.{iam2_enters, mam2_enters}
@@ -115,13 +115,13 @@ unfolding judged_to lending_checks offered in_turn after_iam1 setup terms
 iam3_waits = record { bench = refl; there = refl; turn = refl }
 
 fits : iam3_fits keys custom 0 0 8 ≡ true
-unfolding iam3_fits mode_fits readerServes prot_mode_of has_mac purpose_fits data_fits data_length block_bytes
+unfolding iam3_fits mode_fits reader_serves prot_mode_of has_mac purpose_fits data_fits data_length block_bytes
     custom_fits
 fits = refl
 
 pub writable : Writable setup (key_with 0 setup.keys) custom 0
 unfolding setup terms mode_supported mode_served mode_offered prot_mode_of has_mac key_with slot_named permitted
-    size_offered overruns last_word profile_end block_asked wordsAsked address_of step_of some_locked meets_any
+    size_offered overruns last_word profile_end block_asked words_asked address_of step_of some_locked meets_any
     key_limit profile_limit lock_limit
 writable = record { mode = refl; present = refl; right = refl; size = refl; inside = refl; unlocked = refl }
 

@@ -50,7 +50,7 @@ use Rattle.reader.specs.declared.ReaderFault.TheVariants.{ReplyLength, OwnMessag
 use Rattle.reader.specs.declared.Keys.{Keys}
 use Rattle.reader_judge.specs.declared.Verdict.TheVariants.{Accepted}
 use Rattle.reader_judge.specs.Findings.{Finding, refused, issues}
-use Rattle.reader_judge.specs.Judged.{tam2_in_mode as judgedInMode}
+use Rattle.reader_judge.specs.Judged.{tam2_in_mode as judged_in_mode}
 use Rattle.reader_judge.specs.Judged.{
   data_finding,
   iam1_finding,
@@ -224,9 +224,9 @@ module _ (keys : Keys) (key : Key) (share : Shares keys key) (he : Bytes keys.en
         unfolding mac_length
         mac_long = omega (arith, length-drop (16 + count) reply)
 
-      in_mode_fixed : (judgedInMode keys f reply mode).verdict ≡ Accepted
-          → reply ≡ tam2_in_mode key f (judgedInMode keys f reply mode).bytes (trnd_in keys reply) mode
-      unfolding judgedInMode judged_to data_finding tam2_reply_length tam2_mac_at mac_fits tam2_in_mode tam2_body
+      in_mode_fixed : (judged_in_mode keys f reply mode).verdict ≡ Accepted
+          → reply ≡ tam2_in_mode key f (judged_in_mode keys f reply mode).bytes (trnd_in keys reply) mode
+      unfolding judged_in_mode judged_to data_finding tam2_reply_length tam2_mac_at mac_fits tam2_in_mode tam2_body
           with_mac tam_block
       in_mode_fixed e =
           let one = accepted_first _ _ _ e in
@@ -236,13 +236,13 @@ module _ (keys : Keys) (key : Key) (share : Shares keys key) (he : Bytes keys.en
           let five = accepted_first _ _ _ four.1 in
           let n : length reply ≡ 16 + count + mac_length mode = eqb-true _ _ one.0 in
           let long : 16 ≤ length reply = block_long reply count (mac_length mode) n in
-          let words : (judgedInMode keys f reply mode).bytes ≡ words_in f.rev f.custom opened =
+          let words : (judged_in_mode keys f reply mode).bytes ≡ words_in f.rev f.custom opened =
           ap (λ (x : Finding). x.bytes) (one.2 ∙ two.2 ∙ three.2 ∙ four.2 ∙ five.2) in
           let k = two_bytes (tam2_constant f.rev mode) in
           let a : take 16 reply ≡ aes_enc key.enc (k ++ (take 4 (trnd_in keys reply) ++ f.ichallenge)) =
           made_again k f.ichallenge (two_long (tam2_constant f.rev mode)) long two.0
           ∙ ap (λ (l : List ℕ). aes_enc key.enc (k ++ (l ++ f.ichallenge))) (sym (trnd_four long)) in
-          let p : opened ≡ carried_data f.rev f.custom (judgedInMode keys f reply mode).bytes =
+          let p : opened ≡ carried_data f.rev f.custom (judged_in_mode keys f reply mode).bytes =
           carried_only f.custom opened f.rev (data_long n) four.0 five.0
           ∙ ap (carried_data f.rev f.custom) (sym words) in
           let s : take 16 reply ++ data_sent f reply ≡ _ =
@@ -261,7 +261,7 @@ module _ (keys : Keys) (key : Key) (share : Shares keys key) (he : Bytes keys.en
     tam2_fixed e = by (prot_mode_of f.protmode) e
       where
         by : (x : ProtModeField)
-            → (let found = in_mode x (judgedInMode keys f reply) (refused OwnMessage) in found.verdict ≡ Accepted
+            → (let found = in_mode x (judged_in_mode keys f reply) (refused OwnMessage) in found.verdict ≡ Accepted
             → reply ≡ in_mode x (tam2_in_mode key f found.bytes (trnd_in keys reply)) [])
         by (Mode mode) h = in_mode_fixed mode h
         by NoMode h = let z : ◌≡◌ {A = ℕ} 0 1 = cc in absurd (omega arith)

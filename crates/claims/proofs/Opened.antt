@@ -31,7 +31,7 @@ use Rattle.octets.proofs.Alike.{same_self}
 use Rattle.payload.proofs.Lengths.{blocks_whole, mac_long}
 use Rattle.entry.specs.Opened.{sent_block, sent_data, sent_mac, opened_in, sent_mac_fits}
 use Rattle.reader.specs.declared.Keys.{Keys}
-use Rattle.reader_build.specs.Builds.{sent_data as readerData, iam3_response, iam3_whole}
+use Rattle.reader_build.specs.Builds.{sent_data as reader_data, iam3_response, iam3_whole}
 use Rattle.reader_build.proofs.Sending.{data_sent_long}
 use Rattle.claims.specs.Entry.{Knows}
 
@@ -42,7 +42,7 @@ module _ (keys : Keys) (custom : Custom) (protmode : ℕ) (mode : ProtMode) (a p
   head = record { rfu = 0; custom = custom; protmode = protmode; iresponse = a }
 
   abbrev pub body : List ℕ
-  body = readerData keys.enc mode a p
+  body = reader_data keys.enc mode a p
 
   abbrev pub mac : List ℕ
   mac = pick (has_mac mode) (cmac96 keys.mackey (a ++ body)) []
@@ -102,7 +102,7 @@ module _ (keys : Keys) (custom : Custom) (protmode : ℕ) (mode : ProtMode) (a p
       -- ---- the data in the clear
 
       pub data_opened : Bytes a → Bytes p → opened_in key mode head m ≡ p
-      unfolding opened_in readerData
+      unfolding opened_in reader_data
       data_opened ba bp =
           ap₂ {C = List ℕ} (λ x y. pick (encrypts mode) (cbc_dec_aes x key.enc y) y) block_sent data_sent_lem
           ∙ ap (λ (k : List ℕ). pick (encrypts mode) (cbc_dec_aes a k body) body) (sym knows.has.enc)

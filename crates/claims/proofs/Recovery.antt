@@ -64,7 +64,7 @@ use Rattle.entry.proofs.Mam1Reply.{mam1_challenge}
 use Rattle.reader.specs.declared.Keys.{Keys}
 use Rattle.reader_judge.specs.Findings.{Finding, nothing_more, issues}
 use Rattle.reader_judge.specs.Judged.{iam1_finding, empty_finding, judgement_of, by_kind as finding_of}
-use Rattle.reader.specs.Own.{data_room, mode_served as readerServes, mode_fits, fields_fit, own_fits}
+use Rattle.reader.specs.Own.{data_room, mode_served as reader_serves, mode_fits, fields_fit, own_fits}
 use Rattle.reader_judge.proofs.Judging.{own_told}
 use Rattle.claims.specs.Recovery.{Taken, keyid_used, Shares, Fit, due, Recovery}
 use Rattle.claims.proofs.Opens.{tam1_found, mam1_found}
@@ -74,10 +74,10 @@ use Rattle.claims.proofs.Windows.{words_all}
 -- a ProtMode that the tag supports with a record is one that the reader can judge with its keys
 mode_own : (setup : Setup) (keys : Keys) (key : Key) (p : ℕ) → Shares keys key
     → mode_supported setup.features key p ≡ true → mode_fits keys p ≡ true
-unfolding mode_fits readerServes mode_served
+unfolding mode_fits reader_serves mode_served
 mode_own setup keys key p s h =
     let m = mode_named setup.features key p h in
-    ap (λ (x : ProtModeField). in_mode x (readerServes keys) false) m.named
+    ap (λ (x : ProtModeField). in_mode x (reader_serves keys) false) m.named
     ∙ ap (implies (has_mac m.mode)) s.mac
     ∙ both_right (mode_offered setup.features m.mode) (implies (has_mac m.mode) key.mac) m.holds
 

@@ -14,7 +14,7 @@ use Rattle.memory.specs.Areas.{area_of, within}
 use Rattle.memory.specs.Rights.{permitted, meets_any, some_locked}
 use Rattle.frames.specs.declared.Kind.{Kind}
 use Rattle.frames.specs.declared.Kind.TheVariants.{Tam1, Tam2, Iam1, Iam2, Iam3, Mam1, Mam2, Unsupported}
-use Rattle.frames.specs.Asked.{block_asked as wordsAsked}
+use Rattle.frames.specs.Asked.{block_asked as words_asked}
 use Rattle.frames.specs.Fields.{custom_fits}
 use Rattle.frames.specs.Modes.{has_mac, prot_mode_of}
 use Rattle.keytable.specs.Named.{has_key, key_with}
@@ -44,7 +44,7 @@ has_record = record { keyid = 0; there = refl; bytes = are_bytes table refl; ide
 
 has_readable : HasReadable start
 unfolding bench terms keys_in records_in key_of custom_fits mode_supported mode_served mode_offered prot_mode_of has_mac
-    key_with slot_named permitted size_offered rev_offered overruns last_word profile_end block_asked wordsAsked
+    key_with slot_named permitted size_offered rev_offered overruns last_word profile_end block_asked words_asked
     address_of step_of profile_limit has_record
 has_readable = record {
   holder = has_record;
@@ -57,7 +57,7 @@ has_readable = record {
 
 has_writable : HasWritable start
 unfolding bench terms keys_in records_in key_of offered custom_fits mode_supported mode_served mode_offered prot_mode_of
-    has_mac key_with slot_named permitted size_offered overruns last_word profile_end block_asked wordsAsked address_of
+    has_mac key_with slot_named permitted size_offered overruns last_word profile_end block_asked words_asked address_of
     step_of some_locked meets_any area_of within profile_limit lock_limit has_record
 has_writable = record {
   holder = has_record;

@@ -24,7 +24,7 @@ use Rattle.sheet.specs.Limits.{key_limit}
 use Rattle.sheet.specs.Within.{SlotFine, SlotsFine, Within}
 use Rattle.sheet.specs.Writer.{area_byte}
 use Rattle.frames.specs.declared.Custom.{Custom}
-use Rattle.frames.specs.Asked.{block_asked as wordsAsked}
+use Rattle.frames.specs.Asked.{block_asked as words_asked}
 use Rattle.frames.specs.Blocks.{data_length}
 use Rattle.frames.proofs.Range.{both_right}
 use Rattle.offer.specs.declared.Checked.TheVariants.{Fine}
@@ -69,7 +69,7 @@ module _ (setup : Setup) (identity user : List ℕ) (draws room : ℕ)
   pub holds_profile : (c : Custom) → Within key_limit setup → (slot_named setup.profiles c.profile).present ≡ true
       → profile_end (slot_named setup.profiles c.profile).profile * 2 ≤ length
       (area_of (block_asked setup.profiles c).area identity user)
-  unfolding block_asked wordsAsked address_of slot_named
+  unfolding block_asked words_asked address_of slot_named
   holds_profile c g p =
       let s = get_or setup.profiles c.profile no_slot in
       omega (

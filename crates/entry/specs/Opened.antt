@@ -11,7 +11,7 @@ use Rattle.frames.specs.Blocks.{blocks_length}
 use Rattle.frames.specs.Constants.{c_mam2, iam3_constant}
 use Rattle.frames.specs.Lengths.{iam3_head_length}
 use Rattle.octets.specs.Alike.{same}
-use Rattle.payload.specs.Data.{header_fits, filler_fits, words_in as wordsBehind}
+use Rattle.payload.specs.Data.{header_fits, filler_fits, words_in as words_behind}
 use Rattle.frames.specs.declared.ProtMode.{ProtMode}
 use Rattle.frames.specs.Modes.{encrypts, in_mode, prot_mode_of}
 use Rattle.payload.specs.Protected.{mac_fits}
@@ -66,7 +66,7 @@ sent_mac_fits key mode f m =
 
 -- 9.5.8: an IAM3 always has a header; the data's words stand behind it.
 abbrev pub words_in : Custom → List ℕ → List ℕ
-words_in c p = wordsBehind true c p
+words_in c p = words_behind true c p
 
 -- Everything of an IAM3 that a key proves, after its fields were judged.
 unfoldable pub proved_in : Key → Session → ProtMode → Iam3 → List ℕ → Bool

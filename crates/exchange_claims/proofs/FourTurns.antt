@@ -12,7 +12,7 @@ use Rattle.modes.specs.Room.{over}
 use Rattle.reader.specs.declared.ReaderFault.TheVariants.{OwnMessage}
 use Rattle.entry.specs.declared.Session.{Session}
 use Rattle.tag.specs.declared.Tag.{Tag}
-use Rattle.tag.specs.Answers.{Answer, replied as answersWith, let_in, answer_with, answer_of}
+use Rattle.tag.specs.Answers.{Answer, replied as answers_with, let_in, answer_with, answer_of}
 use Rattle.tag.specs.Reactions.{lent}
 use Rattle.tag.specs.States.{keyed, keyless}
 use Rattle.reader_judge.specs.Findings.{Finding, issues}
@@ -73,9 +73,9 @@ module _ (x : Setting) (limit : ℕ) (tag : Tag) (identity user : List ℕ) (r c
 
   answers : 4 ≤ limit → has_two x.plan.method ≡ false
       → answer x limit tag identity user
-      ≡ answer_with (keyed tag x.keys).setup (answersWith (first_call x identity user) r held)
+      ≡ answer_with (keyed tag x.keys).setup (answers_with (first_call x identity user) r held)
       → one_turn x (table (sent x limit tag identity user) tag identity user) ≡ table waiting tag' identity user
-  unfolding answered tags draws_of replied received ends_with answersWith
+  unfolding answered tags draws_of replied received ends_with answers_with
   answers enough four e =
       let s = sent x limit tag identity user in
       tag_turn x (table s tag identity user) (whose_turn tags TagAnswers (limit - 1) (omega arith))
@@ -134,7 +134,7 @@ module _ (x : Setting) (limit : ℕ) (tag : Tag) (identity user : List ℕ) (r c
       module _ (enough : 4 ≤ limit) (four : has_two x.plan.method ≡ false)
           (fit : (opening x.plan x.plan.method).fit ≡ true)
           (e : answer x limit tag identity user
-          ≡ answer_with (keyed tag x.keys).setup (answersWith (first_call x identity user) r held))
+          ≡ answer_with (keyed tag x.keys).setup (answers_with (first_call x identity user) r held))
           (issued : judgement_of x.plan.keys (opening_of x) r (length data_zeros) ≡ issues challenge)
           (fit' : (closing x.plan x.words challenge x.plan.method).fit ≡ true) where
         by_three : by_turns x 3 (start x limit tag identity user) ≡ table closing_sent tag' identity user

@@ -10,11 +10,11 @@ use Rattle.ground.specs.Choice.{pick}
 use Rattle.offer.specs.declared.TagFault.{TagFault}
 use Rattle.offer.specs.declared.TagFault.TheVariants.{OtherError, NotSupported, MemoryOverrun, MemoryWriteError}
 use Rattle.offer.specs.declared.TagFault.TheVariants.{OutOfTurn, ProofWrong, BenchFault}
-use Rattle.offer.specs.Outcomes.{number_of as tagNumber}
+use Rattle.offer.specs.Outcomes.{number_of as tag_number}
 use Rattle.reader.specs.declared.ReaderFault.{ReaderFault}
 use Rattle.reader.specs.declared.ReaderFault.TheVariants.{ReplyLength, ChallengeWrong, MacWrong, HeaderWrong}
 use Rattle.reader.specs.declared.ReaderFault.TheVariants.{OwnMessage}
-use Rattle.reader.specs.Numbers.{number_of as readerNumber}
+use Rattle.reader.specs.Numbers.{number_of as reader_number}
 use Rattle.tag.specs.declared.Tag.{Tag}
 use Rattle.turns.specs.declared.Next.{Next}
 use Rattle.turns.specs.declared.Next.TheVariants.{ReaderOpens, TagAnswers, ReaderCloses, TagEnds, Done}
@@ -39,7 +39,7 @@ waits_none : (left : ℕ) → waiting left ≡ 41 → left ≡ 0
 unfolding waiting
 waits_none left e = eqb-true left 0 (used_up (eqb left 0) e)
 
-not_tags : (f : TagFault) → tagNumber f ≡ 41 → ⊥
+not_tags : (f : TagFault) → tag_number f ≡ 41 → ⊥
 not_tags OtherError e = omega (arith, e)
 not_tags NotSupported e = omega (arith, e)
 not_tags MemoryOverrun e = omega (arith, e)
@@ -48,7 +48,7 @@ not_tags OutOfTurn e = omega (arith, e)
 not_tags ProofWrong e = omega (arith, e)
 not_tags BenchFault e = omega (arith, e)
 
-not_readers : (f : ReaderFault) → readerNumber f ≡ 41 → ⊥
+not_readers : (f : ReaderFault) → reader_number f ≡ 41 → ⊥
 not_readers ReplyLength e = omega (arith, e)
 not_readers ChallengeWrong e = omega (arith, e)
 not_readers MacWrong e = omega (arith, e)

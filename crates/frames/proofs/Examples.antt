@@ -38,7 +38,8 @@ unfolding iam3_of select_custom size_of
 seventh_fields = (refl, refl, refl)
 
 pub seventh_sizes : (d_of Bits64 true 3 ≡ 3) × (iam3_length Bits64 3 Cbc ≡ 68)
-unfolding d_of carried header_part header_length data_length block_bytes blocks_length has_mac mac_length iam3_mac_at iam3_length
+unfolding d_of carried header_part header_length data_length block_bytes blocks_length has_mac mac_length iam3_mac_at
+    iam3_length
 seventh_sizes = (refl, refl)
 
 -- Annex F, Table F.29: the head 5C 10 02 13

@@ -90,15 +90,19 @@ module _ (m : List ℕ) (bytes : Bytes m) where
       let x : 0x20 + size_bit (size_of (h / 16 % 2)) * 16 + bit_of (flag (h / 8 % 2)) * 8 + h % 8 ≡ h =
       omega (arith, kind_range h Tam2 (bytes 0) k) in
       let s =
-      select_bytes_lem (size_of (h / 16 % 2)) (byte_at m 12) (byte_at m 13) (byte_at m 14) (bytes 12) (bytes 13) (bytes 14) in
+      select_bytes_lem (size_of (h / 16 % 2)) (byte_at m 12) (byte_at m 13) (byte_at m 14) (bytes 12) (bytes 13)
+      (bytes 14) in
       (λ i. x i ∷ byte_at m 1 ∷ (bytes_from m 2 10 ++ s i)) ∙ whole m 15 n
 
   -- of IAM3 the head: its first 20 bytes
-  pub iam3_built : iam3_head_length ≤ length m → kind_of (byte_at m 0) ≡ Iam3 → iam3_head (iam3_of m) ≡ take iam3_head_length m
+  pub iam3_built : iam3_head_length ≤ length m → kind_of (byte_at m 0) ≡ Iam3
+      → iam3_head (iam3_of m) ≡ take iam3_head_length m
   unfolding iam3_head iam3_of bytes_from select_custom
   iam3_built n k =
       let h = byte_at m 0 in
       let b : size_bit (size_of (h / 4 % 2)) ≡ h / 4 % 2 = bit_of_size (h / 4 % 2) (omega arith) in
       let x : 0x58 + size_bit (size_of (h / 4 % 2)) * 4 + h % 4 ≡ h = omega (arith, kind_range h Iam3 (bytes 0) k) in
-      let s = select_bytes_lem (size_of (h / 4 % 2)) (byte_at m 1) (byte_at m 2) (byte_at m 3) (bytes 1) (bytes 2) (bytes 3) in
+      let s =
+      select_bytes_lem (size_of (h / 4 % 2)) (byte_at m 1) (byte_at m 2) (byte_at m 3) (bytes 1) (bytes 2)
+      (bytes 3) in
       (λ i. x i ∷ (s i ++ bytes_from m 4 16)) ∙ bytes_taken m 20 n

@@ -85,7 +85,8 @@ doubled_inner l i h b =
     ∙ sym (xor_zero_r (get_or (shifted_left l) i 0))
     ∙ ap (bit_xor (get_or (shifted_left l) i 0)) (sym (last_byte_else (get_or l 0 0 / 128 * 0x87) i h))
 
-doubled_last : (l : List ℕ) → length l ≡ 16 → bit_xor (get_or l 15 0 * 2 % 256) (get_or l 0 0 / 128 * 0x87) ≡ doubled_byte l
+doubled_last : (l : List ℕ) → length l ≡ 16
+    → bit_xor (get_or l 15 0 * 2 % 256) (get_or l 0 0 / 128 * 0x87) ≡ doubled_byte l
     15
 unfolding shifted_left
 doubled_last l e =
@@ -98,6 +99,7 @@ pub doubled_whole : (l r : List ℕ) (i : ℕ) → length l ≡ 16 → i ≡ 15 
     → set r 15 (bit_xor (get_or l 15 0 * 2 % 256) (get_or l 0 0 / 128 * 0x87)) ≡ doubled l
 unfolding doubled xor
 doubled_whole l r i e f inv =
-    filled (doubled_byte l) 16 (set r 15 (bit_xor (get_or l 15 0 * 2 % 256) (get_or l 0 0 / 128 * 0x87))) 16 (omega arith)
+    filled (doubled_byte l) 16 (set r 15 (bit_xor (get_or l 15 0 * 2 % 256) (get_or l 0 0 / 128 * 0x87))) 16
+    (omega arith)
     (one_more_lem (doubled_byte l) 16 r 15 (bit_xor (get_or l 15 0 * 2 % 256) (get_or l 0 0 / 128 * 0x87)) (omega arith)
     (doubled_last l e) (subst (λ (j : ℕ). Filled (doubled_byte l) 16 r j) f inv))

@@ -1,26 +1,15 @@
 -- A line of checks, one after the other: one that holds is passed over, one that does not hold decides.
 use Prim.Native.Nat.{ℕ}
 use native.Mathlib.Omega.{arith}
-use mathlib.Core.Path.{◌≡◌, refl, sym, ◌∙◌}
-use mathlib.Core.Bool.{Bool, true, false, not}
+use mathlib.Core.Path.{◌≡◌, refl}
+use mathlib.Core.Bool.{Bool, true, false}
 use mathlib.Core.List.{List, [], ◌∷◌, ◌++◌}
 use Rattle.ground.specs.Choice.{pick, both}
-use borrow.Author.Tests.{not-true, not-false}
 use Rattle.offer.specs.declared.TagFault.{TagFault}
 use Rattle.offer.specs.declared.Checked.{Checked}
 use Rattle.offer.specs.declared.Checked.TheVariants.{Fine, Wrong}
 use Rattle.ground.specs.Checks.{Check, ◌else◌, judged_to}
 use Rattle.offer.specs.Checks.{judged}
-
--- What a call answered, and what a test found of the answer.
-pub said : {r b v : Bool} → r ≡ b → r ≡ v → b ≡ v
-said e t = sym e ∙ t
-
-pub yes : {r b : Bool} → r ≡ b → not r ≡ false → b ≡ true
-yes {r} e t = sym e ∙ not-false r t
-
-pub no : {r b : Bool} → r ≡ b → not r ≡ true → b ≡ false
-no {r} e t = sym e ∙ not-true r t
 
 -- Of two tests together, the first says no, or the second decides.
 pub neither : {b : Bool} (d : Bool) → b ≡ false → both b d ≡ false

@@ -11,7 +11,7 @@ use Rattle.sheet.specs.Setups.{no_slot}
 use Rattle.frames.specs.declared.Kind.{Kind}
 use Rattle.frames.specs.declared.Kind.TheVariants.{Tam1, Tam2, Iam1, Iam2, Iam3, Mam1, Mam2, Unsupported}
 use Rattle.frames.specs.declared.Custom.{Custom}
-use Rattle.frames.specs.Asked.{block_asked as wordsAsked}
+use Rattle.frames.specs.Asked.{block_asked as words_asked}
 use Rattle.frames.specs.declared.ProtMode.{ProtMode}
 use Rattle.frames.specs.declared.ProtMode.TheVariants.{Plaintext, Cbc, Cmac, CbcCmac}
 use Rattle.frames.specs.Modes.{has_mac, in_mode, prot_mode_of}
@@ -58,4 +58,4 @@ slot_named profiles profile = get_or profiles profile no_slot
 
 -- 9.2: the words that a message asks for, in the profile of its number.
 unfoldable pub block_asked : List Slot → Custom → Block
-block_asked profiles c = wordsAsked (slot_named profiles c.profile).profile c
+block_asked profiles c = words_asked (slot_named profiles c.profile).profile c

@@ -1,6 +1,6 @@
 // What a setup offers (9.2, 9.4.5, the house rules), and the slot and the words that a message names.
 ghost use Rattle.std.specs.Prelude.{◌≡◌, get_or};
-ghost use Rattle.frames.specs.Asked.{block_asked as blockIn};
+ghost use Rattle.frames.specs.Asked.{block_asked as block_in};
 ghost use Rattle.sheet.specs.Setups.{no_slot};
 ghost use Rattle.offer.specs.Records.{offered, size_offered, rev_offered, mode_offered, mode_served};
 ghost use Rattle.offer.specs.Records.{mode_supported, block_asked};
@@ -120,7 +120,7 @@ pub fn slot(profiles: [Slot; 16], profile: u8) -> Slot
 ///
 /// Ruled out: the words of another slot; BlockCount taken for the number of blocks.
 pub fn block_asked(slot: Slot, custom: Custom) -> Block
-    ensures { result ≡ blockIn slot.profile custom }
+    ensures { result ≡ block_in slot.profile custom }
 {
     let profile = slot.profile;
     frames::sizes::block_asked(profile, custom)

@@ -19,7 +19,8 @@ pub listed : (s : List ℕ) (n : ℕ) → length s ≡ n → tabulated (λ k. ge
 listed s n e = sym (filled (λ k. get_or s k 0) n s n (le_refl n) (le_refl n, e, λ k h. refl))
 
 -- the first four and the last four of ten
-pub first_four : (s : List ℕ) → length s ≡ 10 → get_or s 0 0 ∷ get_or s 1 0 ∷ get_or s 2 0 ∷ get_or s 3 0 ∷ [] ≡ take 4 s
+pub first_four : (s : List ℕ) → length s ≡ 10
+    → get_or s 0 0 ∷ get_or s 1 0 ∷ get_or s 2 0 ∷ get_or s 3 0 ∷ [] ≡ take 4 s
 first_four s e = λ i. take 4 (listed s 10 e i)
 
 pub last_four : (s : List ℕ) → length s ≡ 10 → get_or s 6 0 ∷ get_or s 7 0 ∷ get_or s 8 0 ∷ get_or s 9 0 ∷ [] ≡ drop 6 s

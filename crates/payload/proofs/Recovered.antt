@@ -86,7 +86,8 @@ module _ (c : Custom) (p : List ℕ) where
         ∙ ap zeros_of (length-drop k p ∙ ap₂ (λ (i j : ℕ). i - j) long
         (sym (length-append s (words_in rev c p) ∙ ap₂ (λ (i j : ℕ). i + j) (part_long rev c) words_long)))
 
-    pub carried_only : header_fits rev c p ≡ true → filler_fits rev c p ≡ true → p ≡ carried_data rev c (words_in rev c p)
+    pub carried_only : header_fits rev c p ≡ true → filler_fits rev c p ≡ true
+        → p ≡ carried_data rev c (words_in rev c p)
     unfolding words_in
     carried_only e f =
         let h = header_part c.blocksize rev in

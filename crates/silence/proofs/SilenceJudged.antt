@@ -19,7 +19,7 @@ use Rattle.keytable.specs.Named.{no_key}
 use Rattle.frames.specs.declared.Kind.{Kind}
 use Rattle.frames.specs.declared.Kind.TheVariants.{Tam2, Iam2, Iam3, Mam2}
 use Rattle.frames.specs.declared.Custom.{Custom}
-use Rattle.frames.specs.Asked.{block_asked as wordsAsked}
+use Rattle.frames.specs.Asked.{block_asked as words_asked}
 use Rattle.frames.specs.Constants.{c_iam2}
 use Rattle.frames.specs.Messages.{tam2_of, iam2_of, iam3_of, mam2_of}
 use Rattle.frames.specs.Lengths.{length_fits, reply_room}
@@ -59,7 +59,7 @@ module _ (named : ℕ → Bool) (s t : Setup) (alike : SetupsAlike named s t) wh
 
   pub block_alike : (c : Custom) → block_asked s.profiles c ≡ block_asked t.profiles c
   unfolding block_asked
-  block_alike c j = wordsAsked (slot_alike c.profile j).profile c
+  block_alike c j = words_asked (slot_alike c.profile j).profile c
 
   mode_alike : (keyid p : ℕ) → mode_supported s.features (key_with keyid s.keys) p ≡ mode_supported t.features
       (key_with keyid t.keys) p

@@ -18,7 +18,7 @@ use Rattle.memory.specs.Areas.{area_of, within, part_of, window_of}
 use Rattle.memory.specs.Rights.{permitted}
 use Rattle.sheet.specs.declared.Key.{Key}
 use Rattle.octets.specs.Parts.{bytes_from}
-use Rattle.frames.specs.Asked.{block_asked as wordsAsked}
+use Rattle.frames.specs.Asked.{block_asked as words_asked}
 use Rattle.frames.specs.Blocks.{block_bytes, data_length, header_length, header_part, carried, d_of, blocks_length}
 use Rattle.frames.specs.Constants.{by_mode, tam2_constant}
 use Rattle.frames.specs.Fields.{size_of, select_custom}
@@ -211,7 +211,7 @@ word_answered : (enc : List ℕ) (l : Key) (a b : ℕ) → answers (carrying (ou
 unfolding run answer_to powered_up effect_of lending_checks judged_to of_message in_order kind_of tam_kind offered
     in_turn by_kind tam2_answer tam2_of bytes_from size_of select_custom tam2_checks length_fits size_offered
     rev_offered mode_supported mode_served mode_offered prot_mode_of has_mac has_key key_with slot_named block_asked
-    wordsAsked address_of step_of overruns profile_end last_word permitted window_of area_of part_of within carrying
+    words_asked address_of step_of overruns profile_end last_word permitted window_of area_of part_of within carrying
     if_fine replied tam2_reply tam2_in_mode tam2_body tam_block by_mode tam2_constant encrypts with_mac carried_data
     filled header_of header_start header_length header_part data_length carried blocks_length d_of block_bytes
     block_size_bit

@@ -17,7 +17,7 @@ use Rattle.memory.specs.Rights.{permitted}
 use Rattle.memory.proofs.Windows.{word_inside, window_agree}
 use Rattle.sheet.specs.Setups.{Setup}
 use Rattle.frames.specs.declared.Custom.{Custom}
-use Rattle.frames.specs.Asked.{block_asked as wordsAsked}
+use Rattle.frames.specs.Asked.{block_asked as words_asked}
 use Rattle.keytable.specs.Named.{has_key, key_with}
 use Rattle.offer.specs.Records.{slot_named, block_asked}
 use Rattle.silence.specs.Names.{Open}
@@ -48,7 +48,7 @@ module _ (named : ℕ → Bool) (setup : Setup) where
       → (slot_named setup.profiles c.profile).present ≡ true
       → overruns (slot_named setup.profiles c.profile).profile (block_asked setup.profiles c) ≡ false
       → AllOpen (block_asked setup.profiles c)
-  unfolding block_asked wordsAsked address_of
+  unfolding block_asked words_asked address_of
   asked_open c keyid n k r p o w f l =
       let h = word_inside (slot_named setup.profiles c.profile).profile c.blocksize c.offset
       (c.blockcount + 1) w o f l in

@@ -34,7 +34,7 @@ module _ (c : Call) (P : Effect → Type 0) (initial : (f : TagFault) → P (ref
   picked true x y h k = h refl
   picked false x y h k = k
 
-  module _ (tag : KeyedTag) (asItWas : (f : TagFault) → P (refused c f tag.session))
+  module _ (tag : KeyedTag) (as_it_was : (f : TagFault) → P (refused c f tag.session))
       (kinds : (first : ℕ) (rest : List ℕ)
       → c.message ≡ first ∷ rest → offered tag.setup.features (kind_of first) ≡ true
       → in_turn tag.session.state (kind_of first) ≡ true → P (by_kind c tag.setup tag.session (kind_of first)))
@@ -51,7 +51,7 @@ module _ (c : Call) (P : Effect → Type 0) (initial : (f : TagFault) → P (ref
 
       of_bench : (v : Checked) → P (of_lending c tag.setup tag.session v)
       of_bench Fine = of_message_lem c.message refl
-      of_bench (Wrong f) = asItWas f
+      of_bench (Wrong f) = as_it_was f
 
       pub effect_case : P (effect_of c tag)
       unfolding effect_of

@@ -83,7 +83,8 @@ zero_word (c ∷ w) h = ap₂ both (le-leb 1 (length (c ∷ w)) (omega arith)) h
 
 read_written : (n : ℕ) → n ≤ largest → decimal_read (decimal_word n) ≡ Number n
 read_written n h =
-    sym (number (decimal_word n) (zero_word (stripped (five_digits n)) (stripped_digits (five_digits n) (five_digits_lem n))) n
+    sym (number (decimal_word n)
+    (zero_word (stripped (five_digits n)) (stripped_digits (five_digits n) (five_digits_lem n))) n
     h
     (zero_number (stripped (five_digits n)) ∙ stripped_number (five_digits n) ∙ five_number n h))
 
@@ -120,7 +121,8 @@ module _ (n d : ℕ) (h : d < 10) where
       let last : (n * 10 + d) % 10 ≡ d = omega arith in
       rw none (zero_first _ ∙ ap stripped (simp (further 1000, further 100, further 10, tenth, last)))
 
-number_again : (w p : List ℕ) (n : ℕ) → digits 10 w ≡ true → behind n w ≤ largest → stripped p ≡ stripped (five_digits n)
+number_again : (w p : List ℕ) (n : ℕ) → digits 10 w ≡ true → behind n w ≤ largest
+    → stripped p ≡ stripped (five_digits n)
     → stripped (p ++ w) ≡ stripped (five_digits (behind n w))
 unfolding behind digits
 number_again [] p n h l e = ap stripped (append-nil p) ∙ e

@@ -73,7 +73,8 @@ module _ (w : List ℕ) (i : ℕ) where
   unfolding stripped
   zero_on h e = rw (add-one, drop-cons w i 0 h) (simp (eq-eqb _ _ e))
 
-  pub zeros_end : i < length w → (get_or w i 0 ≡ zero_digit → ⊥) → stripped (drop i w) ≡ stripped w → drop i w ≡ trimmed w
+  pub zeros_end : i < length w → (get_or w i 0 ≡ zero_digit → ⊥) → stripped (drop i w) ≡ stripped w
+      → drop i w ≡ trimmed w
   unfolding stripped
   zeros_end h n e =
       let kept : or_zero (stripped (drop i w)) ≡ drop i w = rw (drop-cons w i 0 h) (simp (ne_eqb _ _ n)) in

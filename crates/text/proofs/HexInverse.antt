@@ -69,7 +69,8 @@ module _ (w : List ℕ) (size n : ℕ) (G : Type 0) where
   abbrev Read : HexRead → Type 0
   Read r = r ≡ Bytes n → G
 
-  accepted : (is_dash w ≡ true → n ≡ 0 → G) → (is_word 16 w ≡ true → (length w % 2 ≡ 1 → ⊥) → n ≡ length (bytes_of w) → G)
+  accepted : (is_dash w ≡ true → n ≡ 0 → G)
+      → (is_word 16 w ≡ true → (length w % 2 ≡ 1 → ⊥) → n ≡ length (bytes_of w) → G)
       → Read (hex_read w size)
   unfolding hex_read
   accepted none some =

@@ -68,7 +68,8 @@ pair_next bs room now i two b r e p =
     let high = next (pairs bs) room (i * 2) now (get_or two 0 0) (omega arith) (omega arith) e
     (rw p (sym (high_at bs i b))) in
     let on : i * 2 + 1 + 1 ≡ (i + 1) * 2 = omega arith in
-    next (pairs bs) room (i * 2 + 1) (set now (i * 2) (get_or two 0 0)) (get_or two 1 0) (omega arith) (omega arith) high
+    next (pairs bs) room (i * 2 + 1) (set now (i * 2) (get_or two 0 0)) (get_or two 1 0) (omega arith) (omega arith)
+    high
     (rw p (sym (low_at bs i b)))
     ∙ ap (begun (pairs bs) room) on
 

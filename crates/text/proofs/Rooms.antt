@@ -31,11 +31,6 @@ module _ (word room : List ℕ) where
         holds = f ∙ ap (λ (b : Bool). pick b (word ++ drop (length word) room) room) (sym t);
       }
 
-  -- what a copy of the word leaves
-  pub copied : (after : List ℕ) → after ≡ take (length word) word ++ drop (length word) room
-      → after ≡ word ++ drop (length word) room
-  copied after e = e ∙ simp take-length
-
   -- the first n characters of the word over the room, and the next
   abbrev pub begun : ℕ → List ℕ
   begun n = take n word ++ drop n room

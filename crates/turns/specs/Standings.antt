@@ -1,8 +1,8 @@
 -- What stands between two turns (M-100): whose turn is next, what it becomes in a turn, and its number.
 use Rattle.std.specs.Prelude.{ℕ, ◌-◌, Bool, true, false, List, eqb, leb, take, drop, replicate}
 use Rattle.ground.specs.Choice.{pick}
-use Rattle.offer.specs.Outcomes.{number_of as tagNumber}
-use Rattle.reader.specs.Numbers.{number_of as readerNumber}
+use Rattle.offer.specs.Outcomes.{number_of as tag_number}
+use Rattle.reader.specs.Numbers.{number_of as reader_number}
 use Rattle.reader_judge.specs.declared.Worth.TheVariants.{NoData}
 use Rattle.reader_judge.specs.declared.Verdict.{Verdict}
 use Rattle.reader_judge.specs.declared.Verdict.TheVariants.{Accepted, Refused}
@@ -145,8 +145,8 @@ number_of TagAnswers left = waiting left
 number_of ReaderCloses left = waiting left
 number_of TagEnds left = waiting left
 number_of Done left = 0
-number_of (RefusedByTag f) left = tagNumber f
-number_of (RefusedByReader f) left = readerNumber f
+number_of (RefusedByTag f) left = tag_number f
+number_of (RefusedByReader f) left = reader_number f
 
 -- ---- what a turn makes of what stands
 

@@ -22,7 +22,8 @@ loop-i-preserved c = let w = c.args.w in
     let i = c.loop-i.i in (
       search rules,
       c.round-t.ensures
-          ∙ ap (λ (s : List ℕ). add_round_key (mix_columns (shift_rows (sub_bytes s))) (get_or w (i + 1) [])) c.loop-i.invariant.1
+          ∙ ap (λ (s : List ℕ). add_round_key (mix_columns (shift_rows (sub_bytes s))) (get_or w (i + 1) []))
+          c.loop-i.invariant.1
           ∙ sym (one_round w c.xor-s.result i),
     )
 

@@ -11,7 +11,8 @@ use borrow.Author.Rules.{rules}
 use Rattle.aes_inverse.proofs.decipher.Goals as goal
 
 one_round : (w : List (List ℕ)) (s : List ℕ) (i : ℕ) → 0 < i
-    → inv_rounds w i s ≡ inv_rounds w (i - 1) (inv_mix_columns (add_round_key (inv_sub_bytes (inv_shift_rows s)) (get_or w i [])))
+    → inv_rounds w i s
+    ≡ inv_rounds w (i - 1) (inv_mix_columns (add_round_key (inv_sub_bytes (inv_shift_rows s)) (get_or w i [])))
 unfolding inv_rounds
 one_round w s zero h = absurd (not-suc-le-zero h)
 one_round w s (suc i) h = rw sub-one

@@ -7,7 +7,8 @@ use Rattle.modes.proofs.mac_parts.Given as goal
 
 abbrev pub invariant-loop-at : goal.invariant-loop-at
 invariant-loop-at l = (l.at ≤ length l.input)
-    × (mac_chain l.key l.chained (whole_blocks (drop l.at l.input)) ≡ mac_chain l.key l.initial.chained (whole_blocks l.input))
+    × (mac_chain l.key l.chained (whole_blocks (drop l.at l.input))
+    ≡ mac_chain l.key l.initial.chained (whole_blocks l.input))
 
 abbrev pub decreases-loop-at : goal.decreases-loop-at
 decreases-loop-at l = length l.input - l.at

@@ -5,7 +5,8 @@ use native.Mathlib.Omega.{arith}
 use lib.ListN.{length, take, replicate}
 use lib.Seq.{length-take-le}
 use Rattle.frames.proofs.Joins.{refused}
-use Rattle.payload.proofs.Data.{header_told, header_taken, part_bound, other_length, not_fit, blocks_hold, blocks_fit, carried_built}
+use Rattle.payload.proofs.Data.{header_told, header_taken, part_bound, other_length, not_fit, blocks_hold, blocks_fit}
+use Rattle.payload.proofs.Data.{carried_built}
 use Rattle.payload.proofs.Rooms.{too_short}
 use Rattle.payload.proofs.carried_into.Goals as goal
 
@@ -69,8 +70,7 @@ returns c =
     let i = c.header_into in
     let h = c.header_part-h in
     let n = c.blocks_length-n in
-    let yes = c.if-not-header_into.false
-    in
+    let yes = c.if-not-header_into.false in
     carried_built c.args.rev c.args.custom c.args.words.now
     (omega (
       arith,

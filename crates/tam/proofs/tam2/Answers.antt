@@ -20,7 +20,7 @@ returns-in-Wrong c =
 pub tam2_reply-n-requires : goal.tam2_reply-n-requires
 tam2_reply-n-requires c =
     let f = c.tam2_of-f.result in
-    let fit = tam2_custom_fits c.args.message.now (λ i. (c.shared_slice_known-2-1.given i).fits) in (
+    let fit = tam2_custom_fits c.args.message.now (λ i. (c.type_inv.message i).fits) in (
       ap (λ (g : Tam2). custom_fits g.custom) c.tam2_of-f.ensures ∙ fit,
       words_fit c.args.terms.profiles f.custom c.args.identity.now c.args.user.now c.words_asked.ensures
           c.window-words.ensures,

@@ -1,5 +1,5 @@
 -- `kept::roualint_areas` meets its contract.
-use Rattle.offer.proofs.Lines.{said}
+use Rattle.ground.proofs.Told.{said}
 use Rattle.capi.proofs.Keeps.{areas_none, areas_some}
 use Rattle.capi.proofs.kept.roualint_areas.Goals as goal
 

@@ -1,5 +1,5 @@
 -- `kept::roualint_message` meets its contract.
-use Rattle.offer.proofs.Lines.{said}
+use Rattle.ground.proofs.Told.{said}
 use Rattle.tag.specs.Reactions.{lent}
 use Rattle.capi.proofs.Keeps.{answer_none, answer_some}
 use Rattle.capi.proofs.kept.roualint_message.Goals as goal

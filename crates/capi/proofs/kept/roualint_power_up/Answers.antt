@@ -1,5 +1,5 @@
 -- `kept::roualint_power_up` meets its contract.
-use Rattle.offer.proofs.Lines.{said}
+use Rattle.ground.proofs.Told.{said}
 use Rattle.capi.proofs.Keeps.{power_none, power_some}
 use Rattle.capi.proofs.kept.roualint_power_up.Goals as goal
 

@@ -1,6 +1,7 @@
 -- `entry::judged::closing` meets its contract.
 use borrow.Author.Tests.{eq-eqb, ne_eqb}
-use Rattle.offer.proofs.Lines.{passes, fails, ends, said}
+use Rattle.ground.proofs.Told.{said}
+use Rattle.offer.proofs.Lines.{passes, fails, ends}
 use Rattle.entry.proofs.judged.closing.Goals as goal
 
 pub returns-then-not-length_fits : goal.returns-then-not-length_fits

@@ -2,7 +2,8 @@
 use mathlib.Core.Path.{ap}
 use mathlib.Core.Bool.{not}
 use borrow.Author.Tests.{not-true, not-false}
-use Rattle.offer.proofs.Lines.{said, neither, second, passes, fails, ends}
+use Rattle.ground.proofs.Told.{said}
+use Rattle.offer.proofs.Lines.{neither, second, passes, fails, ends}
 use Rattle.entry.proofs.judged.iam3_block.Goals as goal
 
 pub returns-then-not-slot : goal.returns-then-not-slot

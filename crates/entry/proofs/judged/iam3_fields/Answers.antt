@@ -1,5 +1,6 @@
 -- `entry::judged::iam3_fields` meets its contract.
-use Rattle.offer.proofs.Lines.{passes, fails, said}
+use Rattle.ground.proofs.Told.{said}
+use Rattle.offer.proofs.Lines.{passes, fails}
 use Rattle.entry.proofs.judged.iam3_fields.Goals as goal
 
 pub returns-then-not-length_fits : goal.returns-then-not-length_fits

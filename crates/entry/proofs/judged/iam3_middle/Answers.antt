@@ -1,6 +1,7 @@
 -- `entry::judged::iam3_middle` meets its contract.
 use borrow.Author.Tests.{eq-eqb, ne_eqb}
-use Rattle.offer.proofs.Lines.{passes, fails, said}
+use Rattle.ground.proofs.Told.{said}
+use Rattle.offer.proofs.Lines.{passes, fails}
 use Rattle.offer.specs.Records.{slot_named, block_asked}
 use Rattle.entry.proofs.judged.iam3_middle.Goals as goal
 

@@ -17,11 +17,9 @@ select-s-requires c = let f = c.args.f in
     ∙ c.if-not-select_fits.false)
 
 pub returns : goal.returns
-returns c = let f = c.args.f
-    in
-    let fit : select_fits f.rfu f.custom f.protmode ≡ true =
-    sym c.select_fits.ensures
-    ∙ c.if-not-select_fits.false in
+returns c =
+    let f = c.args.f in
+    let fit : select_fits f.rfu f.custom f.protmode ≡ true = sym c.select_fits.ensures ∙ c.if-not-select_fits.false in
     built _ _ _ _ _ _ _ _ fit (omega arith) (iam3_layout f _ _
     (select_range f.rfu f.custom f.protmode fit).rfu
     c.size_bit-b.ensures.0

@@ -10,7 +10,8 @@ returns-then-draws-ne-DRAWS c = fails _ _ (ne_eqb _ _ c.if-draws-ne-DRAWS.true)
 
 pub returns-then-room-lt-REPLY_ROOM : goal.returns-then-room-lt-REPLY_ROOM
 unfolding lending_checks
-returns-then-room-lt-REPLY_ROOM c = passes _ _ (eq-eqb _ _ c.if-draws-ne-DRAWS.false) (fails _ _ (lt-leb _ _ c.if-room-lt-REPLY_ROOM.true))
+returns-then-room-lt-REPLY_ROOM c =
+    passes _ _ (eq-eqb _ _ c.if-draws-ne-DRAWS.false) (fails _ _ (lt-leb _ _ c.if-room-lt-REPLY_ROOM.true))
 
 pub returns-then-identity-sizes : goal.returns-then-identity-sizes
 unfolding lending_checks

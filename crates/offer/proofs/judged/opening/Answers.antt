@@ -1,6 +1,7 @@
 -- `offer::judged::opening` meets its contract.
 use borrow.Author.Tests.{eq-eqb, ne_eqb}
-use Rattle.offer.proofs.Lines.{said, passes, fails, ends}
+use Rattle.ground.proofs.Told.{said}
+use Rattle.offer.proofs.Lines.{passes, fails, ends}
 use Rattle.offer.specs.Judged.{opening_checks}
 use Rattle.offer.proofs.judged.opening.Goals as goal
 

@@ -9,7 +9,8 @@ returns-then-not-mode_offered c = rw (sym c.mode_offered.ensures ∙ c.if-not-mo
 
 pub returns-then-has_mac : goal.returns-then-has_mac
 unfolding mode_served
-returns-then-has_mac c = rw (sym c.mode_offered.ensures ∙ c.if-not-mode_offered.false, sym c.has_mac.ensures ∙ c.if-has_mac.true)
+returns-then-has_mac c =
+    rw (sym c.mode_offered.ensures ∙ c.if-not-mode_offered.false, sym c.has_mac.ensures ∙ c.if-has_mac.true)
 
 pub returns : goal.returns
 unfolding mode_served

@@ -6,7 +6,8 @@ use Rattle.sheet.specs.Setups.{no_slot}
 use Rattle.offer.proofs.records.slot.Goals as goal
 
 pub returns-then-profile-ge16 : goal.returns-then-profile-ge16
-returns-then-profile-ge16 c = c.no_slot.ensures ∙ sym (get_or-eq_default c.args.profiles no_slot (omega (arith, c.well_formed.0.1.0)))
+returns-then-profile-ge16 c =
+    c.no_slot.ensures ∙ sym (get_or-eq_default c.args.profiles no_slot (omega (arith, c.well_formed.0.1.0)))
 
 pub returns : goal.returns
 unfolding no_slot

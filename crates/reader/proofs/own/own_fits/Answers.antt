@@ -10,7 +10,8 @@ returns-then-room-lt-DATA_ROOM c = rw (lt-leb _ _ c.if-room-lt-DATA_ROOM.true)
 
 pub returns-then-not-length_fits : goal.returns-then-not-length_fits
 unfolding own_fits
-returns-then-not-length_fits c = rw (le-leb _ _ c.if-room-lt-DATA_ROOM.false, said c.length_fits.ensures c.if-not-length_fits.true)
+returns-then-not-length_fits c =
+    rw (le-leb _ _ c.if-room-lt-DATA_ROOM.false, said c.length_fits.ensures c.if-not-length_fits.true)
 
 pub returns : goal.returns
 unfolding own_fits

@@ -1,5 +1,6 @@
 -- `tam::judged::tam2` meets its contract.
-use Rattle.offer.proofs.Lines.{passes, fails, said}
+use Rattle.ground.proofs.Told.{said}
+use Rattle.offer.proofs.Lines.{passes, fails}
 use Rattle.tam.specs.Judged.{tam2_checks}
 use Rattle.tam.proofs.judged.tam2.Goals as goal
 

@@ -1,6 +1,7 @@
 -- `tam::judged::tam2_block` meets its contract.
 use borrow.Author.Tests.{not-true, not-false}
-use Rattle.offer.proofs.Lines.{said, passes, fails, ends}
+use Rattle.ground.proofs.Told.{said}
+use Rattle.offer.proofs.Lines.{passes, fails, ends}
 use Rattle.tam.proofs.judged.tam2_block.Goals as goal
 
 pub returns-then-not-slot : goal.returns-then-not-slot

@@ -1,6 +1,7 @@
 -- `tam::judged::tam2_fields` meets its contract.
 use borrow.Author.Tests.{eq-eqb, ne_eqb}
-use Rattle.offer.proofs.Lines.{yes, no, passes, fails, said}
+use Rattle.ground.proofs.Told.{yes, no, said}
+use Rattle.offer.proofs.Lines.{passes, fails}
 use Rattle.offer.specs.Records.{slot_named, block_asked}
 use Rattle.tam.proofs.judged.tam2_fields.Goals as goal
 

@@ -29,24 +29,19 @@ authenticated-requires c = let n = c.blocks_length-n in
     (omega (arith, n.ensures, whole, l), omega (arith, n.ensures, most, l, c.requires.2))
 
 pub overflow_add-n : goal.overflow_add-n
-overflow_add-n c = let n = c.blocks_length-n in
-    let a =
-    c in
-    record { fits = omega (arith, blocks_fit a.args.m.rev a.args.m.custom a.requires.0, n.ensures) }
+overflow_add-n c =
+    record { fits = omega (arith, blocks_fit c.args.m.rev c.args.m.custom c.requires.0, c.blocks_length-n.ensures) }
 
 pub returns : goal.returns
-returns c = let a =
-    c in
-    let n =
-    c.blocks_length-n in
-    let p = c.carried-p
-    in
+returns c =
+    let a = c.args in
+    let n = c.blocks_length-n in
+    let p = c.carried-p in
     let k = c.tam2_constant-constant in
     let b = c.tam_block-a in
     let r = c.authenticated in
     let z = c.mac_behind in
-    tam2_made_lem a.args.key a.args.m a.args.words.now a.args.draws a.args.mode a.requires.0 a.requires.1
-    n.result c.tam2_reply_length.result z.result p.result k.result b.result
-    a.args.room.now r.new.room z.new.room
-    n.ensures p.ensures k.ensures b.ensures r.ensures (search rules) a.requires.2 z.ensures
+    tam2_made_lem a.key a.m a.words.now a.draws a.mode c.requires.0 c.requires.1
+    n.result c.tam2_reply_length.result z.result p.result k.result b.result a.room.now r.new.room z.new.room
+    n.ensures p.ensures k.ensures b.ensures r.ensures (search rules) c.requires.2 z.ensures
     c.tam2_reply_length.ensures
