@@ -1,5 +1,5 @@
--- No second answer fits the contract of an export, as the checker reads it from the source: it is that of capi's function
--- of its name (Same), and so is the theorem.
+-- No second answer fits the contract of an export, as the checker reads it from the source: the contract is that of
+-- capi's function of its name (Same), and so the theorem is that function's.
 use Rattle.ground.specs.OneAnswer.{OneAnswer}
 use Rattle.capi.proofs.Unique as capi
 use Rattle.capi.proofs.UniqueReader as capi-reader
