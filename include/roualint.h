@@ -1,10 +1,10 @@
 /* Roualint for C99 and C++: a soft tag, the reader's side, and the cipher with its chaining and its MAC, by
  * ISO/IEC 29167-10:2017. Link target/staticlib/libcapi.a, which bindings/library proves and writes.
  *
- * Every function takes any bytes and any numbers, and returns. No proof speaks of the stack: what was measured, with
- * the kit before rattle-kit-13f, uses up to 6 KB of it (docs/src/speed/stack), and nothing grows with an input's
- * length. What each leaves is proved, byte for byte; the contracts stand in crates/capi/src, what they mean in
- * crates/capi/specs. Numbers are those of docs/numbers.txt.
+ * Every function takes any bytes and any numbers, and returns. No proof speaks of the stack: what was measured uses up
+ * to 4 KB of it (docs/src/speed/stack), and nothing grows with an input's length. What each leaves is proved, byte for
+ * byte; the contracts stand in crates/capi/src, what they mean in crates/capi/specs. Numbers are those of
+ * docs/numbers.txt.
  *
  * Nothing checks the caller, who must pass what is said here: no null pointer, also where a length is 0; as many bytes
  * behind each pointer as its length says (a parameter `x[16]` has 16); and no byte that a call may write overlaps
