@@ -18,7 +18,8 @@ TOP = os.path.join(os.path.dirname(os.path.realpath(__file__)), "..", "crates")
 BEGIN, END = r"(?<![\w'◌-])", r"(?![\w'◌-])"
 WORDS = ("let", "in", "elim", "use", "as", "open", "rw", "record", "then", "module", "_")
 SIGNED = re.compile(
-    r"^(\s*)((?:abbrev |unfoldable |pub |data |record )*)([^\s:(){}\[\]λ.,;=↦|]+)\s*(?:\([^:]*:[^)]*\)|\{[^:]*:[^}]*\}|\s)*:\s(.*)$"
+    r"^(\s*)((?:abbrev |unfoldable |pub |data |record )*)([^\s:(){}\[\]λ.,;=↦|]+)"
+    r"\s*(?:\([^:]*:[^)]*\)|\{[^:]*:[^}]*\}|\s)*:\s(.*)$"
 )
 # A file of this name is refused now: Rattle makes a module specs.contracts.
 MOVED = {"ground/specs/Contracts.antt": "ground/specs/Clauses.antt"}
@@ -79,7 +80,8 @@ def main():
     together = collections.defaultdict(set)
     for n in defined:
         together[new[n]].add(n)
-    local = collections.defaultdict(dict)  # file: names that only this file, and those that import it from there, respell
+    # file: names that only this file, and those that import it from there, respell
+    local = collections.defaultdict(dict)
     for name, olds in together.items():
         if len(olds) < 2:
             continue
