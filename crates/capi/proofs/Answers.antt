@@ -1,4 +1,6 @@
 -- What the reader's side leaves, as numbers.
+use Rattle.std.specs.Prelude.{Result, Ok, Err, ℕ}
+use Rattle.reader.specs.declared.ReaderFault.{ReaderFault}
 use mathlib.Core.Path.{◌≡◌, refl, sym, ap, ◌∙◌}
 use mathlib.Core.Bool.{Bool, true, false}
 use mathlib.Core.List.{List}
@@ -15,8 +17,6 @@ use Rattle.field.proofs.Block.{first_block_is}
 use Rattle.reader.specs.declared.ReaderFault.TheVariants.{OwnMessage}
 use Rattle.reader_judge.specs.declared.Judgement.{Judgement}
 use Rattle.reader.specs.declared.Keys.{Keys}
-use Rattle.reader_build.specs.declared.Made.{Made}
-use Rattle.reader_build.specs.declared.Made.TheVariants.{Message, Refused}
 use Rattle.reader_judge.specs.Findings.{verdict_number, Judges}
 use Rattle.reader_judge.specs.Judged.{judgement_of}
 use Rattle.reader_build.specs.Makes.{made_number, taken, Makes}
@@ -32,12 +32,12 @@ keys_with enc mac m e f =
 
 -- ---- builders
 
-told : (t : Bool) (n : ℕ) → made_length (pick t (Message n) (Refused OwnMessage)) ≡ pick t n 0
+told : (t : Bool) (n : ℕ) → made_length (pick t (Ok n) (Err OwnMessage)) ≡ pick t n 0
 told true n = refl
 told false n = refl
 
 module _ (fit : Bool) (message room : List ℕ) where
-  pub built : (a : Made) (r long : ℕ) (after : List ℕ) → Makes fit message room a after → long ≡ made_length a
+  pub built : (a : Result ℕ ReaderFault) (r long : ℕ) (after : List ℕ) → Makes fit message room a after → long ≡ made_length a
       → r ≡ made_number a → Builds fit message room r long after
   built a r long after h e n = record {
     number = n ∙ h.number;
@@ -47,7 +47,7 @@ module _ (fit : Bool) (message room : List ℕ) where
 
   -- where what is given is no key or no bit, nothing is built
   module _ (given : Bool) where
-    pub built_given : (a : Made) (r long : ℕ) (after : List ℕ) → given ≡ true → Makes fit message room a after
+    pub built_given : (a : Result ℕ ReaderFault) (r long : ℕ) (after : List ℕ) → given ≡ true → Makes fit message room a after
         → long ≡ made_length a → r ≡ made_number a → Builds (both given fit) message room r long after
     built_given a r long after g h e n = rw g (built a r long after h e n)
 

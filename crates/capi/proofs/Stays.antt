@@ -1,4 +1,5 @@
 -- Number 7 leaves the image as it was.
+use Rattle.std.specs.Prelude.{Err}
 use mathlib.Core.Path.{◌≡◌, refl, sym, ap, ◌∙◌}
 use mathlib.Core.Bool.{Bool, true, false}
 use mathlib.Core.List.{List}
@@ -6,7 +7,6 @@ use Prim.Native.Nat.{ℕ, ◌≤◌}
 use lib.ListN.{length}
 use Rattle.ground.specs.Choice.{pick}
 use Rattle.offer.specs.declared.TagFault.TheVariants.{BenchFault}
-use Rattle.offer.specs.declared.Outcome.TheVariants.{Refused}
 use Rattle.tag.specs.States.{KeyedTag}
 use Rattle.tag.specs.Answers.{Answer, Call}
 use Rattle.tag.proofs.Unchanged.{refusal_unchanged}
@@ -17,7 +17,7 @@ use Rattle.capi.proofs.Keeps.{answer_of_lem}
 
 module _ (image : List ℕ) (long : 16 ≤ length image) where
   -- what `roualint_message` leaves in the image
-  pub stays : (c : Call) → (answer_in image c).outcome ≡ Refused BenchFault
+  pub stays : (c : Call) → (answer_in image c).outcome ≡ Err BenchFault
       → pick (is_tag image) (kept (answer_in image c).tag.session image) image ≡ image
   stays c h = by_tag_lem (is_tag image) refl
     where

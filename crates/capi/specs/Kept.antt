@@ -1,12 +1,12 @@
 -- What the functions over a kept tag leave: an image that is no tag's has number 7, and nothing is written.
-use Rattle.std.specs.Prelude.{◌≡◌, List, ℕ, ◌*◌, ltb}
+use Rattle.std.specs.Prelude.{◌≡◌, List, ℕ, ◌*◌, ltb, Ok, Err}
+use Rattle.offer.specs.Outcomes.{Outcome}
+use Rattle.offer.specs.declared.Answer.TheVariants.{Replied, Entered}
 use Rattle.ground.specs.Choice.{pick}
 use Rattle.memory.specs.Areas.{word_bytes}
 use Rattle.modes.specs.Room.{over}
 use Rattle.sheet.specs.Limits.{key_limit}
 use Rattle.sheet.specs.Sheet.{read_of, read_number, read_place}
-use Rattle.offer.specs.declared.Outcome.{Outcome}
-use Rattle.offer.specs.declared.Outcome.TheVariants.{Replied, Entered, Refused}
 use Rattle.offer.specs.declared.TagFault.TheVariants.{BenchFault}
 use Rattle.offer.specs.Outcomes.{number_given, reply_length}
 use Rattle.entry.specs.Sessions.{cleared}
@@ -40,9 +40,9 @@ pub record AreasOf (image : List ℕ) (r identity user : ℕ) : Type 0 where
 
 -- The Purpose of a reader that is let in; 255 where none is.
 abbrev pub purpose_given : Outcome → ℕ
-purpose_given (Replied n) = 255
-purpose_given (Entered purpose) = purpose
-purpose_given (Refused f) = 255
+purpose_given (Ok (Replied n)) = 255
+purpose_given (Ok (Entered purpose)) = purpose
+purpose_given (Err f) = 255
 
 -- The tag's answer to a message.
 abbrev pub answer_in : List ℕ → Call → Answer

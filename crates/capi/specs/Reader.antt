@@ -1,5 +1,6 @@
 -- The reader's side by plain numbers: keys and fields as a caller gives them, and what a builder and the judge leave.
-use Rattle.std.specs.Prelude.{◌≡◌, Bool, List, ℕ, eqb, ltb, length, replicate}
+use Rattle.std.specs.Prelude.{◌≡◌, Bool, List, ℕ, eqb, ltb, length, replicate, Result, Ok, Err}
+use Rattle.reader.specs.declared.ReaderFault.{ReaderFault}
 use Rattle.ground.specs.Bytes.{bit_of}
 use Rattle.ground.specs.Choice.{pick, both, either}
 use Rattle.modes.specs.Room.{over}
@@ -7,8 +8,6 @@ use Rattle.frames.specs.declared.Custom.{Custom}
 use Rattle.frames.specs.Fields.{size_of}
 use Rattle.reader.specs.declared.ReaderFault.TheVariants.{OwnMessage}
 use Rattle.reader.specs.declared.Keys.{Keys}
-use Rattle.reader_build.specs.declared.Made.{Made}
-use Rattle.reader_build.specs.declared.Made.TheVariants.{Message, Refused}
 use Rattle.reader_judge.specs.declared.Worth.{Worth}
 use Rattle.reader_judge.specs.declared.Worth.TheVariants.{NoData, Unproved, Proved}
 use Rattle.reader_judge.specs.Findings.{Finding, refused, verdict_number}
@@ -42,9 +41,9 @@ custom_of blocksize profile offset blockcount =
 
 -- ---- what a builder leaves
 
-abbrev pub made_length : Made → ℕ
-made_length (Message n) = n
-made_length (Refused f) = 0
+abbrev pub made_length : Result ℕ ReaderFault → ℕ
+made_length (Ok n) = n
+made_length (Err f) = 0
 
 -- Taken: 0, the message over the room's first bytes, and its length. Else 24 and length 0, and no byte of the room
 -- changes.

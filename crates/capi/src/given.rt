@@ -8,9 +8,8 @@ ghost use Rattle.capi.specs.Reader.{mac_given, keys_of, size_given, bits_given, 
 
 use frames::Custom;
 use memory::{BlockSize, Offset};
-use reader::Keys;
-use reader_build::Made;
-use reader_judge::{Verdict, Worth};
+use reader::{Keys, ReaderFault};
+use reader_judge::{Worth};
 
 /// Is it a MAC key, or none? Ruled out: fifteen bytes taken; none refused.
 pub fn mac_given(mac: &[u8]) -> bool
@@ -85,32 +84,32 @@ pub fn bits_given(mac: &[u8], blocksize: u8, rev: u8) -> bool
 }
 
 /// The length of the message that was built; 0 for none. Ruled out: the room's length; a length told with a refusal.
-pub fn length_of(made: Made) -> usize
+pub fn length_of(made: Result<usize, ReaderFault>) -> usize
     ensures { result ≡ made_length made }
 {
     match made {
-        Made::Message(n) => n,
-        Made::Refused(_) => 0,
+        Ok(n) => n,
+        Err(_) => 0,
     }
 }
 
 /// The number of a builder's answer. Ruled out: 0 for every answer; a message's length.
-pub fn made_number(made: Made) -> u8
+pub fn made_number(made: Result<usize, ReaderFault>) -> u8
     ensures { result ≡ made_number made }
 {
     match made {
-        Made::Message(_) => 0,
-        Made::Refused(fault) => reader::number(fault),
+        Ok(_) => 0,
+        Err(fault) => reader::number(fault),
     }
 }
 
 /// The number of a verdict. Ruled out: the tag's numbers; 24 for every refusal.
-pub fn number_of(verdict: Verdict) -> u8
+pub fn number_of(verdict: Result<(), ReaderFault>) -> u8
     ensures { result ≡ verdict_number verdict }
 {
     match verdict {
-        Verdict::Accepted => 0,
-        Verdict::Refused(fault) => reader::number(fault),
+        Ok(()) => 0,
+        Err(fault) => reader::number(fault),
     }
 }
 

@@ -7,7 +7,7 @@ ghost use Rattle.capi.specs.Kept.{SetUp, PoweredUp, state_said, AreasOf, purpose
 
 use entry::cleared;
 use image::IMAGE;
-use offer::Outcome;
+use offer::{Answer, Outcome};
 use sheet::SheetVerdict;
 use tag::Tag;
 
@@ -80,9 +80,9 @@ fn purpose_of(outcome: Outcome) -> u8
     ensures { result ≡ purpose_given outcome }
 {
     match outcome {
-        Outcome::Replied(_) => 255,
-        Outcome::Entered(purpose) => purpose,
-        Outcome::Refused(_) => 255,
+        Ok(Answer::Replied(_)) => 255,
+        Ok(Answer::Entered(purpose)) => purpose,
+        Err(_) => 255,
     }
 }
 

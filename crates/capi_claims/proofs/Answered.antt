@@ -1,4 +1,8 @@
 -- Demand 1 of the functions for programs in C, proved: by the cases of each answer.
+use Rattle.std.specs.Prelude.{Result, Ok, Err}
+use Rattle.offer.specs.Outcomes.{Outcome}
+use Rattle.offer.specs.declared.Answer.TheVariants.{Replied, Entered}
+use Rattle.reader.specs.declared.ReaderFault.{ReaderFault}
 use mathlib.Core.Path.{◌≡◌, refl, ap, ◌∙◌, subst}
 use mathlib.Core.Logic.{◌⊎◌, inl, inr}
 use mathlib.Core.Bool.{Bool, true, false}
@@ -14,8 +18,6 @@ use Rattle.sheet.specs.declared.SheetVerdict.{SheetVerdict}
 use Rattle.sheet.specs.declared.SheetVerdict.TheVariants.{Whole, Refused as NoSheet}
 use Rattle.sheet.specs.Limits.{key_limit}
 use Rattle.sheet.specs.Sheet.{read_of, read_number, verdict_number}
-use Rattle.offer.specs.declared.Outcome.{Outcome}
-use Rattle.offer.specs.declared.Outcome.TheVariants.{Replied, Entered, Refused}
 use Rattle.offer.specs.declared.TagFault.{TagFault}
 use Rattle.offer.specs.declared.TagFault.TheVariants.{
   OtherError,
@@ -33,8 +35,6 @@ use Rattle.tag.specs.Reactions.{lent}
 use Rattle.tag.specs.States.{KeyedTag, session_after}
 use Rattle.tag.proofs.Unchanged.{refusal_unchanged}
 use Rattle.reader.specs.declared.ReaderFault.TheVariants.{OwnMessage}
-use Rattle.reader_judge.specs.declared.Verdict.{Verdict}
-use Rattle.reader_judge.specs.declared.Verdict.TheVariants.{Accepted, Refused as NotBelieved}
 use Rattle.reader_judge.specs.Findings.{Finding, verdict_number as judged_number}
 use Rattle.reader_build.specs.Makes.{taken}
 use Rattle.image.specs.Image.{kept, session_in, keyed_in, is_tag}
@@ -137,9 +137,9 @@ module _ (image message draws room identity user : List ℕ) (r told purpose : �
   by_outcome : (t : is_tag image ≡ true) (o : Outcome) → (answer_of call (keyed_in image)).outcome ≡ o
       → Answered image (answer_of call (keyed_in image)) room r told purpose after reply i u
       → Answers tag_numbers r Then
-  by_outcome t (Replied n) e h = inl (h.number ∙ ap number_given e)
-  by_outcome t (Entered p) e h = inl (h.number ∙ ap number_given e)
-  by_outcome t (Refused f) e h =
+  by_outcome t (Ok (Replied n)) e h = inl (h.number ∙ ap number_given e)
+  by_outcome t (Ok (Entered p)) e h = inl (h.number ∙ ap number_given e)
+  by_outcome t (Err f) e h =
       let k = refusal_unchanged call (keyed_in image) f e in
       let n = h.number ∙ ap number_given e in
       inr (
@@ -191,10 +191,10 @@ module _ (enc mac message reply room : List ℕ) (r told worth issued : ℕ) (ch
   quiet = picked_quiet (mac_given mac) _ _ (judgement_quiet (keys_of enc mac) message reply (length room))
       (refused_quiet OwnMessage)
 
-  by_verdict : (v : Verdict) → found.verdict ≡ v → Finds found room r told worth issued challenge after
+  by_verdict : (v : Result Unit ReaderFault) → found.verdict ≡ v → Finds found room r told worth issued challenge after
       → Answers reader_numbers r (Rejects room told worth issued challenge after)
-  by_verdict Accepted e h = inl (h.number ∙ ap judged_number e)
-  by_verdict (NotBelieved f) e h =
+  by_verdict (Ok tt) e h = inl (h.number ∙ ap judged_number e)
+  by_verdict (Err f) e h =
       let q = quiet f e in
       inr (
         is_among reader_numbers r _ (h.number ∙ ap judged_number e) (reader_number f),

@@ -1,4 +1,7 @@
 -- Recovery of the functions for programs in C: what the judge finds in the reply that a message left is what is due.
+use Rattle.std.specs.Prelude.{Ok, Err}
+use Rattle.offer.specs.Outcomes.{Outcome}
+use Rattle.offer.specs.declared.Answer.TheVariants.{Replied, Entered}
 use mathlib.Core.Path.{◌≡◌, refl, sym, ap, ◌∙◌, subst}
 use mathlib.Core.Bool.{Bool}
 use mathlib.Core.List.{List}
@@ -10,8 +13,6 @@ use Rattle.ground.specs.Choice.{pick}
 use Rattle.modes.specs.Room.{over}
 use Rattle.sheet.specs.Limits.{key_limit}
 use Rattle.sheet.specs.Sheet.{said_of, Accepted}
-use Rattle.offer.specs.declared.Outcome.{Outcome}
-use Rattle.offer.specs.declared.Outcome.TheVariants.{Replied, Entered, Refused}
 use Rattle.offer.specs.Outcomes.{number_given, reply_length}
 use Rattle.entry.specs.declared.Session.{Session}
 use Rattle.tag.specs.Answers.{Answer, answer_of}
@@ -35,9 +36,9 @@ use Rattle.capi_claims.specs.Recovery.{Recovers, RecoveryCalls}
 
 -- number 0 is that of a message that is taken
 taken_by : (o : Outcome) → number_given o ≡ 0 → Taken o
-taken_by (Replied n) e = tt
-taken_by (Entered purpose) e = tt
-taken_by (Refused f) e =
+taken_by (Ok (Replied n)) e = tt
+taken_by (Ok (Entered purpose)) e = tt
+taken_by (Err f) e =
     let h = sym (ap (among tag_numbers) e) ∙ tag_number f in
     let z : ◌≡◌ {A = ℕ} 0 1 = cc in
     absurd (omega arith)

@@ -1,12 +1,12 @@
 // The cipher's commands: aes, cbc, cmac.
 #![tactic(auto)]
 
+use modes::ChainingFault;
 use console::answer::within;
 use console::fields::sixteen;
 use console::words::word;
 use console::{answer, fields};
 use lines::print;
-use modes::Chaining;
 use std::io;
 
 pub fn aes(rt: &impl Print, line: &[u8]) -> io::Result<()> {
@@ -139,12 +139,12 @@ fn authenticated(rt: &impl Print, key: [u8; 16], input: &[u8], room: &mut [u8]) 
 }
 
 // The room's first n bytes where the call is done.
-fn told(rt: &impl Print, c: Chaining, room: &[u8], n: usize) -> io::Result<()> {
+fn told(rt: &impl Print, c: Result<(), ChainingFault>, room: &[u8], n: usize) -> io::Result<()> {
     match c {
-        Chaining::Done => {
+        Ok(()) => {
             let e = within(n, room);
             answer::out(rt, &room[..e])
         }
-        Chaining::Refused => answer::refused(rt, modes::number(c)),
+        Err(ChainingFault::BlocksOrRoom) => answer::refused(rt, modes::number(c)),
     }
 }

@@ -1,4 +1,7 @@
 -- Demand 1, proved: by the cases of each list.
+use Rattle.std.specs.Prelude.{Result, Ok, Err}
+use Rattle.sheet.specs.declared.Finding.TheVariants.{Taken, Ended}
+use Rattle.sheet.specs.declared.Finding.{Finding}
 use mathlib.Core.Path.{◌≡◌, refl, sym, ap, ◌∙◌}
 use mathlib.Core.Logic.{inl, inr}
 use mathlib.Core.Bool.{Bool, true, false}
@@ -10,8 +13,6 @@ use Rattle.ground.specs.Choice.{pick}
 use Rattle.modes.specs.Room.{over}
 use Rattle.sheet.specs.declared.SheetFault.{SheetFault}
 use Rattle.sheet.specs.declared.SheetFault.TheVariants.{Cut, Unknown, Order, Value, Many, Tail}
-use Rattle.sheet.specs.declared.Finding.{Finding}
-use Rattle.sheet.specs.declared.Finding.TheVariants.{Taken, Ended, Faulty}
 use Rattle.sheet.specs.declared.Gathered.{Gathered}
 use Rattle.sheet.specs.declared.Kind.{Kind}
 use Rattle.sheet.specs.declared.Kind.TheVariants.{
@@ -24,8 +25,6 @@ use Rattle.sheet.specs.declared.Kind.TheVariants.{
   NoRecord,
 }
 use Rattle.sheet.specs.declared.Judged.{Judged}
-use Rattle.sheet.specs.declared.Head.{Head}
-use Rattle.sheet.specs.declared.Head.TheVariants.{Open, Shut}
 use Rattle.sheet.specs.declared.Reading.{Reading}
 use Rattle.sheet.specs.declared.SheetVerdict.TheVariants.{Refused as NoSheet}
 use Rattle.sheet.specs.Kinds as sheet
@@ -102,7 +101,7 @@ sheet_number Tail = refl
 
 -- a record that is refused leaves what was gathered
 abbrev Leaves : Gathered → Judged → Type 0
-Leaves k j = (f : SheetFault) → j.finding ≡ Faulty f → j.gathered ≡ k
+Leaves k j = (f : SheetFault) → j.finding ≡ Err f → j.gathered ≡ k
 
 record_leaves : (t : Bool) (q : Kind) (k next : Gathered) → Leaves k (pick t (taken q next) (refused Value k))
 record_leaves true q k next f e = let z : ◌≡◌ {A = ℕ} 0 1 = cc in absurd (omega arith)
@@ -120,9 +119,9 @@ kind_leaves LockRecord b k = record_leaves (lock_rule k.marks.area k.marks.word 
 kind_leaves EndRecord b k = λ f e. refl
 kind_leaves NoRecord b k = λ f e. refl
 
-opened_leaves : (o : Head) (k : Gathered) (j : Judged) → Leaves k j → Leaves k (only_if o k j)
-opened_leaves Open k j h = h
-opened_leaves (Shut g) k j h = λ f e. refl
+opened_leaves : (o : Result Unit SheetFault) (k : Gathered) (j : Judged) → Leaves k j → Leaves k (only_if o k j)
+opened_leaves (Ok tt) k j h = h
+opened_leaves (Err g) k j h = λ f e. refl
 
 judged_leaves : (s : List ℕ) (k : Gathered) → Leaves k (judged_of key_limit s k)
 unfolding judged_of
@@ -136,12 +135,12 @@ record_answers s k f e = (sheet_number f, judged_leaves s k f e)
 abbrev Empty : Reading → Type 0
 Empty r = (f : SheetFault) (at : ℕ) → r.verdict ≡ NoSheet f at → (r.terms ≡ empty_terms) × (r.keys ≡ 0)
 
-after_empty : (g : Finding) (s : Gathered) (at : ℕ) (t : List ℕ) (r : Reading) → Empty r → Empty (after g s at t r)
+after_empty : (g : Result Finding SheetFault) (s : Gathered) (at : ℕ) (t : List ℕ) (r : Reading) → Empty r → Empty (after g s at t r)
 unfolding after
-after_empty (Taken n) s at t r h = h
-after_empty Ended s at [] r h = λ f i e. let z : ◌≡◌ {A = ℕ} 0 1 = cc in absurd (omega arith)
-after_empty Ended s at (x ∷ t) r h = λ f i e. (refl, refl)
-after_empty (Faulty g) s at t r h = λ f i e. (refl, refl)
+after_empty (Ok (Taken n)) s at t r h = h
+after_empty (Ok Ended) s at [] r h = λ f i e. let z : ◌≡◌ {A = ℕ} 0 1 = cc in absurd (omega arith)
+after_empty (Ok Ended) s at (x ∷ t) r h = λ f i e. (refl, refl)
+after_empty (Err g) s at t r h = λ f i e. (refl, refl)
 
 pub walk_empty : (s : List ℕ) (body at : ℕ) (k : Gathered) → Empty (walk key_limit s body at k)
 unfolding walk

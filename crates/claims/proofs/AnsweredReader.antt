@@ -1,4 +1,5 @@
 -- Demand 1 of the reader's side, proved: by the cases of its list.
+use Rattle.std.specs.Prelude.{Ok, Err, Option, Some, None}
 use mathlib.Core.Path.{◌≡◌, refl, sym, ap, ◌∙◌}
 use mathlib.Core.Bool.{Bool, true, false}
 use mathlib.Core.List.{List, [], ◌∷◌}
@@ -13,8 +14,6 @@ use Rattle.frames.specs.declared.Kind.{Kind}
 use Rattle.frames.specs.declared.Kind.TheVariants.{Tam1, Tam2, Iam1, Iam2, Iam3, Mam1, Mam2, Unsupported}
 use Rattle.frames.specs.declared.Tam2.{Tam2 as Tam2Fields}
 use Rattle.frames.specs.declared.ProtMode.{ProtMode}
-use Rattle.frames.specs.declared.ProtModeField.{ProtModeField}
-use Rattle.frames.specs.declared.ProtModeField.TheVariants.{Mode, NoMode}
 use Rattle.frames.specs.Kinds.{kind_of}
 use Rattle.frames.specs.Messages.{tam2_of}
 use Rattle.frames.specs.Modes.{in_mode, prot_mode_of}
@@ -23,8 +22,6 @@ use Rattle.reader.specs.declared.ReaderFault.TheVariants.{ReplyLength, Challenge
 use Rattle.reader.specs.declared.ReaderFault.TheVariants.{OwnMessage}
 use Rattle.reader_judge.specs.declared.Judgement.{Judgement}
 use Rattle.reader.specs.declared.Keys.{Keys}
-use Rattle.reader_build.specs.declared.Made.TheVariants.{Message, Refused as NotMade}
-use Rattle.reader_judge.specs.declared.Verdict.TheVariants.{Refused}
 use Rattle.reader_judge.specs.declared.Worth.{Worth}
 use Rattle.reader.specs.Numbers.{number_of}
 use Rattle.reader_judge.specs.Findings.{Finding, silent, refused, nothing_more, carries, issues, said_of}
@@ -55,7 +52,7 @@ reader_number OwnMessage = refl
 
 -- a refused finding carries nothing
 abbrev pub Quiet : Finding → Type 0
-Quiet x = (f : ReaderFault) → x.verdict ≡ Refused f → x ≡ refused f
+Quiet x = (f : ReaderFault) → x.verdict ≡ Err f → x ≡ refused f
 
 pub refused_quiet : (g : ReaderFault) → Quiet (refused g)
 refused_quiet g f e = ap silent e
@@ -76,10 +73,10 @@ picked_quiet false x y hx hy = hy
 judged_quiet : (cs : List (Check ReaderFault)) (x : Finding) → Quiet x → Quiet (judged_to refused cs x)
 judged_quiet cs x h = keeps refused x Quiet refused_quiet h cs
 
-moded_quiet : (x : ProtModeField) (of : ProtMode → Finding) (none : Finding) → ((mode : ProtMode) → Quiet (of mode))
+moded_quiet : (x : Option ProtMode) (of : ProtMode → Finding) (none : Finding) → ((mode : ProtMode) → Quiet (of mode))
     → Quiet none → Quiet (in_mode x of none)
-moded_quiet (Mode mode) of none h k = h mode
-moded_quiet NoMode of none h k = k
+moded_quiet (Some mode) of none h k = h mode
+moded_quiet None of none h k = k
 
 in_mode_quiet : (keys : Keys) (f : Tam2Fields) (reply : List ℕ) (mode : ProtMode)
     → Quiet (tam2_in_mode keys f reply mode)
@@ -123,7 +120,7 @@ judge_answers keys m reply room r after f h e =
 -- ---- the builders
 
 builder_refused : (t : Bool) (n : ℕ) (message room after : List ℕ) (f : ReaderFault)
-    → NotMade f ≡ pick t (Message n) (NotMade OwnMessage) → after ≡ pick t (over message room) room → (number_of f ≡ 24)
+    → Err f ≡ pick t (Ok n) (Err OwnMessage) → after ≡ pick t (over message room) room → (number_of f ≡ 24)
     × (after ≡ room)
 builder_refused true n message room after f e h = let z : ◌≡◌ {A = ℕ} 0 1 = cc in absurd (omega arith)
 builder_refused false n message room after f e h = (ap made_number e, h)

@@ -1,5 +1,7 @@
 -- One tag for examples: the tag of a sheet with Rev 1, IAM1, IAM2, IAM3 and MAM, ProtMode 0, a user area of four words,
 -- a key record of KeyID 00 and one profile, which it may use.
+use Rattle.std.specs.Prelude.{Ok, Err}
+use Rattle.offer.specs.declared.Answer.TheVariants.{Replied}
 use mathlib.Core.Path.{◌≡◌, refl, ap, ◌∙◌}
 use mathlib.Core.Bool.{Bool, true, false}
 use mathlib.Core.List.{List, [], ◌∷◌, ◌++◌}
@@ -28,7 +30,6 @@ use Rattle.sheet.specs.Judgement.{judged_of}
 use Rattle.sheet.specs.Sheet.{after, walk, read_of, whole, said_of}
 use Rattle.frames.proofs.Range.{both_left, both_right}
 use Rattle.offer.specs.declared.TagFault.TheVariants.{OtherError}
-use Rattle.offer.specs.declared.Outcome.TheVariants.{Replied, Refused}
 use Rattle.entry.specs.declared.State.TheVariants.{IamInit}
 use Rattle.tag.specs.declared.Tag.{Tag}
 use Rattle.tag.specs.States.{awake}
@@ -115,7 +116,7 @@ iam1 = 0x40 ∷ 0x00 ∷ []
 abbrev pub answered : ℕ → Left
 answered n = record {
   stepped = record {
-    outcome = Replied 10;
+    outcome = Ok (Replied 10);
     tag = record {
       terms = terms;
       session = record { state = IamInit; keyid = 0; tchallenge = drawn n; ichallenge = replicate 4 0 };
@@ -129,7 +130,7 @@ answered n = record {
 -- what an empty message leaves: number 1
 abbrev pub unanswered : Left
 unanswered = record {
-  stepped = record { outcome = Refused OtherError; tag = bench };
+  stepped = record { outcome = Err OtherError; tag = bench };
   room = replicate 172 0;
   identity =
       [];

@@ -1,5 +1,7 @@
 -- A tag with a key record that has issued a challenge, and what it then takes: IAM2, MAM2, and an IAM3 whose words are
 -- stored. The reader's side built each of them with the keys of the record.
+use Rattle.std.specs.Prelude.{Option}
+use Rattle.frames.specs.declared.ProtMode.{ProtMode}
 use mathlib.Core.Path.{◌≡◌, refl, ap, ap₂, ◌∙◌}
 use mathlib.Core.Bool.{true, false}
 use mathlib.Core.List.{List, [], ◌∷◌}
@@ -12,7 +14,6 @@ use Rattle.ground.specs.Choice.{both, implies}
 use Rattle.memory.specs.declared.Area.TheVariants.{Identity, User}
 use Rattle.memory.specs.Areas.{stored_in}
 use Rattle.frames.specs.declared.Kind.TheVariants.{Iam1, Iam3, Mam1}
-use Rattle.frames.specs.declared.ProtModeField.{ProtModeField}
 use Rattle.frames.specs.Blocks.{data_length}
 use Rattle.frames.specs.Kinds.{kind_of}
 use Rattle.frames.specs.Messages.{iam3_head}
@@ -145,7 +146,7 @@ module _ (s : Start) (w : HasWritable s) (words : List ℕ) where
   unfolding mode_fits mode_served reader_serves
   mode_fits_lem =
       let m = mode_named (setup_at s).features (record_at s held) w.protmode w.writable.mode in
-      ap (λ (x : ProtModeField). in_mode x (reader_serves (keys s held)) false) m.named
+      ap (λ (x : Option ProtMode). in_mode x (reader_serves (keys s held)) false) m.named
       ∙ both_second (mode_offered (setup_at s).features m.mode)
       (implies (has_mac m.mode) (record_at s held).mac) m.holds
 

@@ -2,6 +2,7 @@
 -- claims say of it; and demand 1 over these contracts. If a contract cited another definition, this file would not
 -- check. (Of `tag::step` it is `call_is_step`, in `tag/proofs/Played.antt`. The functions for programs in C:
 -- `capi_claims`.)
+use Rattle.std.specs.Prelude.{Err}
 use mathlib.Core.Path.{◌≡◌, refl, subst}
 use mathlib.Core.Logic.{◌⊎◌}
 use mathlib.Core.Bool.{true}
@@ -27,7 +28,6 @@ use Rattle.sheet.specs.Setups.{empty_terms}
 use Rattle.sheet.specs.Sheet.{read_of, read_number, read_place, verdict_number, verdict_place}
 use Rattle.frames.specs.Fields.{custom_fits}
 use Rattle.frames.specs.Kinds.{kind_of}
-use Rattle.offer.specs.declared.Outcome.TheVariants.{Refused as NoReply}
 use Rattle.offer.specs.declared.TagFault.{TagFault}
 use Rattle.offer.specs.Outcomes.{reply_length}
 use Rattle.tag.specs.declared.Stepped.{Stepped}
@@ -39,12 +39,10 @@ use Rattle.bench.specs.Kept.{left}
 use Rattle.reader.specs.declared.ReaderFault.{ReaderFault}
 use Rattle.reader.specs.Numbers as reader
 use Rattle.reader.specs.Own.{mode_fits, data_room}
-use Rattle.reader_build.specs.declared.Made.TheVariants.{Refused as NotMade}
 use Rattle.reader_build.specs.Builds.{purpose_fits, iam3_fits, tam1_made, tam2_made, iam1_made, mam1_made, iam2_made}
 use Rattle.reader_build.specs.Builds.{mam2_made}
 use Rattle.reader_build.specs.Builds.{iam3_made}
 use Rattle.reader_build.specs.Makes.{Makes}
-use Rattle.reader_judge.specs.declared.Verdict.TheVariants.{Refused as NotBelieved}
 use Rattle.reader_judge.specs.Findings.{Judges}
 use Rattle.reader_judge.specs.Judged.{judgement_of}
 use Rattle.tag.proofs.step.Reads as step
@@ -98,7 +96,7 @@ abbrev leaves : Stepped → List ℕ → List ℕ → List ℕ → Left
 leaves s room i u = record { stepped = s; room = room; identity = i; user = u }
 
 pub step_refuses : Gives 6 step-kinds.ps step-kinds.r step.Post
-    (λ κs a r e. (f : TagFault) → r.outcome ≡ NoReply f
+    (λ κs a r e. (f : TagFault) → r.outcome ≡ Err f
     → TagRefused a.0 a.1.1.1.1.1.0.now a.1.1.1.1.1.1.0.now
     (brought a.1.1.0.now a.1.1.1.0.now a.1.1.1.1.0.now)
     (leaves r e.1.1.1.1.0.now e.1.1.1.1.1.0.now e.1.1.1.1.1.1.0.now) f)
@@ -111,7 +109,7 @@ pub kept_said : Says 6 kept-kinds.ps kept-kinds.r kept.Post
 kept_said κs a r e = refl
 
 pub kept_refuses : Gives 6 kept-kinds.ps kept-kinds.r kept.Post
-    (λ κs a r e. (f : TagFault) → r.outcome ≡ NoReply f
+    (λ κs a r e. (f : TagFault) → r.outcome ≡ Err f
     → TagRefused a.0 a.1.1.1.1.1.0.now a.1.1.1.1.1.1.0.now
     (brought a.1.1.0.now a.1.1.1.0.now a.1.1.1.1.0.now)
     (leaves r e.1.1.1.1.0.now e.1.1.1.1.1.0.now e.1.1.1.1.1.1.0.now) f)
@@ -123,7 +121,7 @@ step_in_place_said = step_one.0
 
 pub step_in_place_refuses : (κs : Lfts 7) (a : Args (step-in-place.ended).signature κs)
     (r : Res (step-in-place.ended).signature κs) (e : AtExit step-in-place.ended κs) → Stepping κs a r e
-    → (f : TagFault) → r ≡ NoReply f
+    → (f : TagFault) → r ≡ Err f
     → TagRefused a.0.now a.1.1.1.1.1.0.now a.1.1.1.1.1.1.0.now
     (brought a.1.1.0.now a.1.1.1.0.now a.1.1.1.1.0.now)
     (leaves (left r e.0.now) e.1.1.1.1.0.now e.1.1.1.1.1.0.now
@@ -197,7 +195,7 @@ pub judge_said : Says 3 judge-kinds.ps judge-kinds.r judge.Post
 judge_said κs a r e = refl
 
 pub judge_refuses : Gives 3 judge-kinds.ps judge-kinds.r judge.Post
-    (λ κs a r e. (f : ReaderFault) → r.verdict ≡ NotBelieved f → JudgeRefused a.1.1.1.0.now r
+    (λ κs a r e. (f : ReaderFault) → r.verdict ≡ Err f → JudgeRefused a.1.1.1.0.now r
     e.1.1.1.0.now f)
 judge_refuses κs a r e h f v = judge_answers a.0 a.1.0.now a.1.1.0.now a.1.1.1.0.now r
     e.1.1.1.0.now f h v
@@ -209,7 +207,7 @@ pub tam1_said : Says 1 tam1-kinds.ps tam1-kinds.r tam1.Post
 tam1_said κs a r e = refl
 
 pub tam1_refuses : Gives 1 tam1-kinds.ps tam1-kinds.r tam1.Post
-    (λ κs a r e. (f : ReaderFault) → r ≡ NotMade f → (reader.number_of f ≡ 24) × (e.1.1.0.now ≡ a.1.1.0.now))
+    (λ κs a r e. (f : ReaderFault) → r ≡ Err f → (reader.number_of f ≡ 24) × (e.1.1.0.now ≡ a.1.1.0.now))
 tam1_refuses κs a r e h f v = builder_answers _ _ _ r _ f h v
 
 pub tam2_said : Says 1 tam2-kinds.ps tam2-kinds.r tam2.Post
@@ -219,7 +217,7 @@ pub tam2_said : Says 1 tam2-kinds.ps tam2-kinds.r tam2.Post
 tam2_said κs a r e = refl
 
 pub tam2_refuses : Gives 1 tam2-kinds.ps tam2-kinds.r tam2.Post
-    (λ κs a r e. (f : ReaderFault) → r ≡ NotMade f → (reader.number_of f ≡ 24) ×
+    (λ κs a r e. (f : ReaderFault) → r ≡ Err f → (reader.number_of f ≡ 24) ×
     (e.1.1.1.1.1.1.0.now ≡ a.1.1.1.1.1.1.0.now))
 tam2_refuses κs a r e h f v = builder_answers _ _ _ r _ f h v
 
@@ -228,7 +226,7 @@ pub iam1_said : Says 1 iam1-kinds.ps iam1-kinds.r iam1.Post
 iam1_said κs a r e = refl
 
 pub iam1_refuses : Gives 1 iam1-kinds.ps iam1-kinds.r iam1.Post
-    (λ κs a r e. (f : ReaderFault) → r ≡ NotMade f → (reader.number_of f ≡ 24) × (e.1.0.now ≡ a.1.0.now))
+    (λ κs a r e. (f : ReaderFault) → r ≡ Err f → (reader.number_of f ≡ 24) × (e.1.0.now ≡ a.1.0.now))
 iam1_refuses κs a r e h f v = builder_answers _ _ _ r _ f h v
 
 pub mam1_said : Says 1 mam1-kinds.ps mam1-kinds.r mam1.Post
@@ -236,7 +234,7 @@ pub mam1_said : Says 1 mam1-kinds.ps mam1-kinds.r mam1.Post
 mam1_said κs a r e = refl
 
 pub mam1_refuses : Gives 1 mam1-kinds.ps mam1-kinds.r mam1.Post
-    (λ κs a r e. (f : ReaderFault) → r ≡ NotMade f → (reader.number_of f ≡ 24) × (e.1.1.0.now ≡ a.1.1.0.now))
+    (λ κs a r e. (f : ReaderFault) → r ≡ Err f → (reader.number_of f ≡ 24) × (e.1.1.0.now ≡ a.1.1.0.now))
 mam1_refuses κs a r e h f v = builder_answers _ _ _ r _ f h v
 
 pub iam2_said : Says 1 iam2-kinds.ps iam2-kinds.r iam2.Post
@@ -245,7 +243,7 @@ pub iam2_said : Says 1 iam2-kinds.ps iam2-kinds.r iam2.Post
 iam2_said κs a r e = refl
 
 pub iam2_refuses : Gives 1 iam2-kinds.ps iam2-kinds.r iam2.Post
-    (λ κs a r e. (f : ReaderFault) → r ≡ NotMade f → (reader.number_of f ≡ 24) ×
+    (λ κs a r e. (f : ReaderFault) → r ≡ Err f → (reader.number_of f ≡ 24) ×
     (e.1.1.1.1.0.now ≡ a.1.1.1.1.0.now))
 iam2_refuses κs a r e h f v = builder_answers _ _ _ r _ f h v
 
@@ -255,7 +253,7 @@ pub mam2_said : Says 1 mam2-kinds.ps mam2-kinds.r mam2.Post
 mam2_said κs a r e = refl
 
 pub mam2_refuses : Gives 1 mam2-kinds.ps mam2-kinds.r mam2.Post
-    (λ κs a r e. (f : ReaderFault) → r ≡ NotMade f → (reader.number_of f ≡ 24) ×
+    (λ κs a r e. (f : ReaderFault) → r ≡ Err f → (reader.number_of f ≡ 24) ×
     (e.1.1.1.1.0.now ≡ a.1.1.1.1.0.now))
 mam2_refuses κs a r e h f v = builder_answers _ _ _ r _ f h v
 
@@ -267,7 +265,7 @@ pub iam3_said : Says 2 iam3-kinds.ps iam3-kinds.r iam3.Post
 iam3_said κs a r e = refl
 
 pub iam3_refuses : Gives 2 iam3-kinds.ps iam3-kinds.r iam3.Post
-    (λ κs a r e. (f : ReaderFault) → r ≡ NotMade f → (reader.number_of f ≡ 24) ×
+    (λ κs a r e. (f : ReaderFault) → r ≡ Err f → (reader.number_of f ≡ 24) ×
     (e.1.1.1.1.1.1.1.0.now ≡ a.1.1.1.1.1.1.1.0.now))
 iam3_refuses κs a r e h f v = builder_answers _ _ _ r _ f h v
 

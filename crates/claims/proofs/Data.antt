@@ -1,4 +1,5 @@
 -- TAM2: the reader opens the data that the tag carried, and finds the words that went in.
+use Rattle.std.specs.Prelude.{Option, Some}
 use mathlib.Core.Path.{◌≡◌, refl, sym, ap, ap₂, ◌∙◌, subst}
 use mathlib.Core.Bool.{Bool, true, false}
 use mathlib.Core.List.{List, [], ◌++◌, append_assoc}
@@ -24,8 +25,6 @@ use Rattle.frames.specs.Blocks.{data_length, blocks_length}
 use Rattle.frames.specs.Constants.{c_tam2_0, c_tam2_1, c_tam2_2, c_tam2_3, tam2_constant}
 use Rattle.frames.specs.Fields.{custom_fits}
 use Rattle.frames.specs.declared.ProtMode.{ProtMode}
-use Rattle.frames.specs.declared.ProtModeField.{ProtModeField}
-use Rattle.frames.specs.declared.ProtModeField.TheVariants.{Mode}
 use Rattle.frames.specs.Modes.{encrypts, has_mac, in_mode, prot_mode_of}
 use Rattle.frames.specs.Lengths.{tam2_mac_at}
 use Rattle.frames.proofs.Bounds.{by_mode_le}
@@ -175,10 +174,10 @@ module _ (keys : Keys) (key : Key) (e : Shares keys key) (b : Bytes keys.enc) (d
         ∙ ap (data_finding mode f) opened
         ∙ clear_found
 
-    pub tam2_found : prot_mode_of f.protmode ≡ Mode mode
+    pub tam2_found : prot_mode_of f.protmode ≡ Some mode
         → tam2_finding keys f (tam2_reply key f words draws) ≡ carries (worth_asked f.protmode) words
     tam2_found named =
         tam2-found-named keys f (tam2_reply key f words draws) mode named
         ∙ ap (λ (l : List ℕ). judged_in_mode keys f l mode) (tam2_named key f words draws mode named)
         ∙ in_mode_lem
-        ∙ ap (λ (x : ProtModeField). carries (in_mode x worth_of NoData) words) (sym named)
+        ∙ ap (λ (x : Option ProtMode). carries (in_mode x worth_of NoData) words) (sym named)

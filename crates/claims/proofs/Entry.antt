@@ -1,4 +1,6 @@
 -- Entry, proved: the reader decrypts to send, the tag encrypts to read, and AES-ENC undoes AES-DEC.
+use Rattle.std.specs.Prelude.{Result, Ok}
+use Rattle.offer.specs.declared.TagFault.{TagFault}
 use mathlib.Core.Path.{◌≡◌, refl, sym, ap, ap₂, ◌∙◌}
 use mathlib.Core.Bool.{true}
 use mathlib.Core.List.{List}
@@ -19,8 +21,6 @@ use Rattle.frames.specs.Lengths.{length_fits}
 use Rattle.frames.specs.Messages.{iam2_of, mam2_of}
 use Rattle.frames.proofs.Shape.{iam2_shape, mam2_shape}
 use Rattle.frames.proofs.Taken.{iam2_taken, mam2_taken}
-use Rattle.offer.specs.declared.Checked.{Checked}
-use Rattle.offer.specs.declared.Checked.TheVariants.{Fine}
 use Rattle.entry.specs.Judged.{iam2_checks, mam2_checks}
 use Rattle.entry.specs.Opened.{purpose_in, iam_proof, mam_proof}
 use Rattle.keytable.specs.Named.{key_with}
@@ -35,7 +35,7 @@ use Rattle.claims.specs.Entry.{Knows, Array, Iam2Enters, Mam2Enters}
 use Rattle.claims.proofs.Proofs.{sent, sixteen, opened, clear, purpose_in_lem, iam_holds, middle_holds}
 
 -- checks that are fine, and the Purpose that was opened
-entered : (c : Call) (v : Checked) (p purpose : ℕ) → v ≡ Fine → p ≡ purpose
+entered : (c : Call) (v : Result Unit TagFault) (p purpose : ℕ) → v ≡ Ok tt → p ≡ purpose
     → if_fine c v (let_in c p c.identity c.user) ≡ let_in c purpose c.identity c.user
 unfolding if_fine
 entered c v p purpose e q = ap₂ {C = Effect} (λ x y. if_fine c x (let_in c y c.identity c.user)) e q

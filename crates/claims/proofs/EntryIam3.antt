@@ -1,5 +1,6 @@
 -- Entry by IAM3, proved: CBC_DEC_AES undoes CBC_ENC_AES_INV, the MAC is over what is sent, and header, data and filler
 -- come out as they went in.
+use Rattle.std.specs.Prelude.{Some}
 use mathlib.Core.Path.{◌≡◌, refl, sym, ap, ap₂, ◌∙◌}
 use mathlib.Core.Bool.{Bool, true, not}
 use mathlib.Core.List.{List, ◌++◌}
@@ -21,7 +22,6 @@ use Rattle.frames.specs.Kinds.{kind_of}
 use Rattle.frames.specs.Lengths.{length_fits}
 use Rattle.frames.specs.Messages.{iam3_of, iam3_head}
 use Rattle.frames.specs.declared.ProtMode.{ProtMode}
-use Rattle.frames.specs.declared.ProtModeField.TheVariants.{Mode}
 use Rattle.frames.specs.Modes.{prot_mode_of}
 use Rattle.frames.proofs.ProtModes.{Says, says}
 use Rattle.frames.proofs.Bounds.{by_mode_le}
@@ -87,7 +87,7 @@ module _ (keys : Keys) (custom : Custom) (protmode purpose n : ℕ)
     purposed = part_purposed keys custom protmode purpose n part
 
 made_named : (keys : Keys) (custom : Custom) (protmode purpose : ℕ) (irnd tchallenge words : List ℕ) (mode : ProtMode)
-    → prot_mode_of protmode ≡ Mode mode
+    → prot_mode_of protmode ≡ Some mode
     → iam3_made keys custom protmode purpose irnd tchallenge words
     ≡ iam3_in_mode keys custom protmode purpose irnd tchallenge words mode
 unfolding iam3_made

@@ -1,5 +1,8 @@
 -- The five false tags are there: five programs, and each is what its name says, on every tag. Three of them are in all
 -- else the standard's tag, or begin as it does; at power-up each does as it should.
+use Rattle.std.specs.Prelude.{Ok, Err}
+use Rattle.offer.specs.Outcomes.{Outcome}
+use Rattle.offer.specs.declared.Answer.TheVariants.{Replied, Entered}
 use mathlib.Core.Path.{◌≡◌, refl, sym, ap, ◌∙◌, subst}
 use mathlib.Core.List.{List, [], ◌∷◌, map}
 use Prim.Native.Nat.{ℕ, suc}
@@ -11,8 +14,6 @@ use Rattle.modes.specs.Room.{over}
 use Rattle.frames.specs.declared.Kind.{Kind}
 use Rattle.frames.specs.Blocks.{data_length}
 use Rattle.offer.specs.declared.TagFault.TheVariants.{OtherError}
-use Rattle.offer.specs.declared.Outcome.{Outcome}
-use Rattle.offer.specs.declared.Outcome.TheVariants.{Replied, Entered, Refused}
 use Rattle.offer.specs.Outcomes.{number_given, reply_length}
 use Rattle.entry.specs.declared.State.TheVariants.{IamInit}
 use Rattle.tag.specs.States.{keyed, powered_up}
@@ -72,7 +73,7 @@ stands s b = s
 -- ---- the tag that refuses everything
 
 pub refuser : Program
-refuser = call_by_call (λ s b. says s (Refused OtherError) b.room) stands
+refuser = call_by_call (λ s b. says s (Err OtherError) b.room) stands
 
 pub refuser_is : (s : Start) → RefusesEverything s refuser
 unfolding refuser
@@ -82,7 +83,7 @@ refuser_is s bs b = each_done _ _ _ (steps bs) s b (λ n e. (let z : ◌≡◌ {
 
 module _ (reply : List ℕ) where
   pub repeater : Program
-  repeater = call_by_call (λ s b. says s (Replied (length reply)) (over reply b.room)) stands
+  repeater = call_by_call (λ s b. says s (Ok (Replied (length reply))) (over reply b.room)) stands
 
   pub repeater_is : (s : Start) → OneFixedReply reply s repeater
   unfolding repeater
@@ -139,7 +140,7 @@ module _ (s : Start) (w : HasWritable s) (words : List ℕ) (bytes : Bytes words
       ap (λ (t : Start). unstoring (tag_only t) (iam1 s w.holder)) (rests s w.holder)
       ∙ ap (λ (a : Answer). tag_only (onward (woke s) a)) (iam1_taken s w.holder w.iam1)
 
-  pub non_storer_lets_in : map seen (last_of non_storer s (steps before) (iam3 s w words)) ≡ (Entered 0, []) ∷ []
+  pub non_storer_lets_in : map seen (last_of non_storer s (steps before) (iam3 s w words)) ≡ (Ok (Entered 0), []) ∷ []
   unfolding non_storer let_in
   non_storer_lets_in =
       ap (map seen) (last_done unstored unstoring (steps before) s (iam3 s w words))
@@ -149,7 +150,7 @@ module _ (s : Start) (w : HasWritable s) (words : List ℕ) (bytes : Bytes words
 -- ---- the tag that answers its first call truly and later ones for show: with its draws, whatever is asked
 
 abbrev draws_back : Start → Brought → Left
-draws_back s b = says s (Replied (length b.draws)) (over b.draws b.room)
+draws_back s b = says s (Ok (Replied (length b.draws))) (over b.draws b.room)
 
 pub pretender : Program
 pretender s [] = []
@@ -179,9 +180,9 @@ pretender_is s Wake ds = goes_on (woke s) ds
 -- ---- the tag with a made-up length: it tells one byte more than it sends, and is in all else the standard's
 
 abbrev one_more : Outcome → Outcome
-one_more (Replied n) = Replied (suc n)
-one_more (Entered purpose) = Replied 1
-one_more (Refused f) = Refused f
+one_more (Ok (Replied n)) = Ok (Replied (suc n))
+one_more (Ok (Entered purpose)) = Ok (Replied 1)
+one_more (Err f) = Err f
 
 abbrev pub lengthened : Left → Left
 lengthened x = record {
@@ -196,9 +197,9 @@ lengthener = call_by_call (λ s b. lengthened (left_at s b)) truly
 
 too_long : (o : Outcome) (k : ℕ) → (number_given o ≡ 0 → reply_length o ≡ k) → number_given (one_more o) ≡ 0
     → reply_length (one_more o) ≡ k → ⊥
-too_long (Replied n) k h z e = let q = h refl in omega arith
-too_long (Entered purpose) k h z e = let q = h refl in omega arith
-too_long (Refused f) k h z e = some_number f z
+too_long (Ok (Replied n)) k h z e = let q = h refl in omega arith
+too_long (Ok (Entered purpose)) k h z e = let q = h refl in omega arith
+too_long (Err f) k h z e = some_number f z
 
 pub lengthener_is : (kind : Kind) (s : Start) → MadeUpLength kind s lengthener
 unfolding lengthener

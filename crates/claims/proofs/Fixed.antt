@@ -1,4 +1,5 @@
 -- An accepted reply is made again from what was found in it.
+use Rattle.std.specs.Prelude.{Ok, Option, Some, None}
 use mathlib.Core.Path.{◌≡◌, refl, sym, ap, ap₂, ◌∙◌}
 use mathlib.Core.Bool.{Bool, true, false}
 use mathlib.Core.List.{List, [], ◌∷◌, ◌++◌}
@@ -30,8 +31,6 @@ use Rattle.frames.specs.Blocks.{blocks_length}
 use Rattle.frames.specs.Constants.{c_tam1, c_mam1, tam2_constant}
 use Rattle.frames.specs.Kinds.{kind_of}
 use Rattle.frames.specs.declared.ProtMode.{ProtMode}
-use Rattle.frames.specs.declared.ProtModeField.{ProtModeField}
-use Rattle.frames.specs.declared.ProtModeField.TheVariants.{Mode, NoMode}
 use Rattle.frames.specs.Modes.{encrypts, has_mac, in_mode, prot_mode_of}
 use Rattle.frames.specs.Lengths.{mac_length, iam1_reply_length, tam2_mac_at, tam2_reply_length}
 use Rattle.frames.specs.Messages.{tam1_of, tam2_of, mam1_of}
@@ -48,7 +47,6 @@ use Rattle.offer.proofs.Bytes.{drop_bytes}
 use Rattle.reader.specs.declared.ReaderFault.{ReaderFault}
 use Rattle.reader.specs.declared.ReaderFault.TheVariants.{ReplyLength, OwnMessage}
 use Rattle.reader.specs.declared.Keys.{Keys}
-use Rattle.reader_judge.specs.declared.Verdict.TheVariants.{Accepted}
 use Rattle.reader_judge.specs.Findings.{Finding, refused, issues}
 use Rattle.reader_judge.specs.Judged.{tam2_in_mode as judged_in_mode}
 use Rattle.reader_judge.specs.Judged.{
@@ -70,8 +68,8 @@ use Rattle.claims.proofs.Rechained.{enc_undoes_dec_inv}
 
 -- ---- a line of checks that ends well
 
-accepted_first : (b : Bool) (x : Finding) (f : ReaderFault) → (pick b x (refused f)).verdict ≡ Accepted → (b ≡ true)
-    × (x.verdict ≡ Accepted) × (pick b x (refused f) ≡ x)
+accepted_first : (b : Bool) (x : Finding) (f : ReaderFault) → (pick b x (refused f)).verdict ≡ Ok tt → (b ≡ true)
+    × (x.verdict ≡ Ok tt) × (pick b x (refused f) ≡ x)
 accepted_first true x f e = (refl, e, refl)
 accepted_first false x f e = let z : ◌≡◌ {A = ℕ} 0 1 = cc in absurd (omega arith)
 
@@ -131,7 +129,7 @@ module _ (keys : Keys) (key : Key) (share : Shares keys key) (he : Bytes keys.en
   two_long k = refl
 
   -- TAM1
-  tam1_fixed : (f : Tam1Fields) → (tam1_finding keys f reply).verdict ≡ Accepted
+  tam1_fixed : (f : Tam1Fields) → (tam1_finding keys f reply).verdict ≡ Ok tt
       → reply ≡ tam1_reply key f (trnd_in keys reply)
   unfolding tam1_finding judged_to tam1_reply tam_block
   tam1_fixed f e =
@@ -143,7 +141,7 @@ module _ (keys : Keys) (key : Key) (share : Shares keys key) (he : Bytes keys.en
       ∙ ap (λ (l : List ℕ). aes_enc key.enc (two_bytes c_tam1 ++ (l ++ f.ichallenge))) (sym (trnd_four (omega arith)))
 
   -- MAM1
-  mam1_fixed : (f : Mam1Fields) → (mam1_finding keys f reply).verdict ≡ Accepted
+  mam1_fixed : (f : Mam1Fields) → (mam1_finding keys f reply).verdict ≡ Ok tt
       → reply ≡ mam1_reply key f (mam1_finding keys f reply).challenge
   unfolding mam1_finding judged_to mam1_reply challenge_in
   mam1_fixed f e =
@@ -224,7 +222,7 @@ module _ (keys : Keys) (key : Key) (share : Shares keys key) (he : Bytes keys.en
         unfolding mac_length
         mac_long = omega (arith, length-drop (16 + count) reply)
 
-      in_mode_fixed : (judged_in_mode keys f reply mode).verdict ≡ Accepted
+      in_mode_fixed : (judged_in_mode keys f reply mode).verdict ≡ Ok tt
           → reply ≡ tam2_in_mode key f (judged_in_mode keys f reply mode).bytes (trnd_in keys reply) mode
       unfolding judged_in_mode judged_to data_finding tam2_reply_length tam2_mac_at mac_fits tam2_in_mode tam2_body
           with_mac tam_block
@@ -255,28 +253,28 @@ module _ (keys : Keys) (key : Key) (share : Shares keys key) (he : Bytes keys.en
           ∙ ap (λ (l : List ℕ). take (16 + count) reply ++ l) m
           ∙ ap (λ (l : List ℕ). l ++ pick (has_mac mode) (cmac96 key.mackey l) []) (covered n ∙ s)
 
-    pub tam2_fixed : (tam2_finding keys f reply).verdict ≡ Accepted
+    pub tam2_fixed : (tam2_finding keys f reply).verdict ≡ Ok tt
         → reply ≡ tam2_reply key f (tam2_finding keys f reply).bytes (trnd_in keys reply)
     unfolding tam2_finding tam2_reply
     tam2_fixed e = by (prot_mode_of f.protmode) e
       where
-        by : (x : ProtModeField)
-            → (let found = in_mode x (judged_in_mode keys f reply) (refused OwnMessage) in found.verdict ≡ Accepted
+        by : (x : Option ProtMode)
+            → (let found = in_mode x (judged_in_mode keys f reply) (refused OwnMessage) in found.verdict ≡ Ok tt
             → reply ≡ in_mode x (tam2_in_mode key f found.bytes (trnd_in keys reply)) [])
-        by (Mode mode) h = in_mode_fixed mode h
-        by NoMode h = let z : ◌≡◌ {A = ℕ} 0 1 = cc in absurd (omega arith)
+        by (Some mode) h = in_mode_fixed mode h
+        by None h = let z : ◌≡◌ {A = ℕ} 0 1 = cc in absurd (omega arith)
 
   -- by kind
-  iam1_fixed : (iam1_finding reply).verdict ≡ Accepted → reply ≡ (iam1_finding reply).challenge
+  iam1_fixed : (iam1_finding reply).verdict ≡ Ok tt → reply ≡ (iam1_finding reply).challenge
   unfolding iam1_finding judged_to
   iam1_fixed e = sym (ap (λ (x : Finding). x.challenge)
       (accepted_first (eqb (length reply) iam1_reply_length) (issues reply) ReplyLength e).2)
 
-  empty_fixed : (empty_finding reply).verdict ≡ Accepted → reply ≡ []
+  empty_fixed : (empty_finding reply).verdict ≡ Ok tt → reply ≡ []
   unfolding empty_finding judged_to
   empty_fixed e = none reply (eqb-true _ _ (accepted_first _ _ _ e).0)
 
-  kind_fixed : (m : List ℕ) (k : Kind) → (by_kind keys m reply k).verdict ≡ Accepted
+  kind_fixed : (m : List ℕ) (k : Kind) → (by_kind keys m reply k).verdict ≡ Ok tt
       → reply ≡ remade key m (trnd_in keys reply) (by_kind keys m reply k) k
   unfolding by_kind remade
   kind_fixed m Tam1 e = tam1_fixed (tam1_of m) e
@@ -312,7 +310,7 @@ remade_same key m trnd trnd' found Unsupported h = refl
 
 pub fixed_twice : FixedTwice
 fixed_twice keys key m reply other room share he hr ho e same-found same-trnd =
-    let e' : (judgement_of keys m other room).verdict ≡ Accepted = sym (ap (λ (x : Finding). x.verdict) same-found)
+    let e' : (judgement_of keys m other room).verdict ≡ Ok tt = sym (ap (λ (x : Finding). x.verdict) same-found)
     ∙ e in
     fixed keys key m reply room share he hr e
     ∙ ap (λ (x : Finding). remade key m (trnd_in keys reply) x (kind_of (byte_at m 0))) same-found

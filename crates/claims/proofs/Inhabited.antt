@@ -1,11 +1,12 @@
 -- No premise is hollow: the theorems of demand 1, applied to something of which they hold. (Demand 2's examples are in
 -- ShutOutExamples and Entered, demand 3's in the crate `silence`.)
+use Rattle.std.specs.Prelude.{Err}
+use Rattle.modes.specs.declared.ChainingFault.TheVariants.{BlocksOrRoom}
 use mathlib.Core.Path.{◌≡◌, refl, ap}
 use mathlib.Core.Logic.{◌⊎◌}
 use mathlib.Core.Bool.{true, false}
 use mathlib.Core.List.{List, []}
 use Prim.Native.Nat.{ℕ}
-use Rattle.modes.specs.declared.Chaining.TheVariants.{Refused as NotChained}
 use Rattle.modes.specs.Room as room
 use Rattle.sheet.specs.declared.SheetFault.TheVariants.{Cut}
 use Rattle.sheet.specs.declared.Reading.{Reading}
@@ -23,7 +24,6 @@ use Rattle.tag.specs.Answers.{effect_of, of_message, refused}
 use Rattle.tag.specs.Plays.{Called}
 use Rattle.reader.specs.declared.ReaderFault.TheVariants.{OwnMessage}
 use Rattle.reader.specs.declared.Keys.{Keys}
-use Rattle.reader_build.specs.declared.Made.TheVariants.{Refused as NotMade}
 use Rattle.reader.specs.Numbers as reader
 use Rattle.reader_judge.specs.Findings as findings
 use Rattle.reader_judge.specs.Judged.{judgement_of}
@@ -45,7 +45,7 @@ judge_refused keys = judge_answers keys [] [] [] _ [] OwnMessage (record { says 
     refl
 
 pub builder_refused : (reader.number_of OwnMessage ≡ 24) × (◌≡◌ {A = List ℕ} [] [])
-builder_refused = builder_answers true [] [] (NotMade OwnMessage) [] OwnMessage
+builder_refused = builder_answers true [] [] (Err OwnMessage) [] OwnMessage
     (record { says = refl; number = refl; holds = refl }) refl
 
 pub sheet_refused : Among sheet_numbers (sheet.number_of Cut) × ((read_of key_limit []).terms ≡ empty_terms)
@@ -57,8 +57,8 @@ pub record_refused : Among sheet_numbers (sheet.number_of Cut) × ((judged_of ke
 unfolding judged_of
 record_refused = record_answers [] nothing_gathered Cut refl
 
-pub chain_refused : (room.number_of NotChained ≡ 0) ⊎ ((room.number_of NotChained ≡ 8) × (◌≡◌ {A = List ℕ} [] []))
-chain_refused = chain_answers false [] [] NotChained [] (record { says = refl; number = refl; leaves = refl })
+pub chain_refused : (room.number_of (Err BlocksOrRoom) ≡ 0) ⊎ ((room.number_of (Err BlocksOrRoom) ≡ 8) × (◌≡◌ {A = List ℕ} [] []))
+chain_refused = chain_answers false [] [] (Err BlocksOrRoom) [] (record { says = refl; number = refl; leaves = refl })
 
 pub layer_refused : ◌≡◌ {A = List ℕ} [] []
 layer_refused = layer_answers false 0 [] [] false [] (record { says = refl; holds = refl }) refl

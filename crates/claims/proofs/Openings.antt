@@ -1,4 +1,5 @@
 -- Openings are answered: what the reader's side builds is taken apart again, and each check holds.
+use Rattle.std.specs.Prelude.{Ok}
 use mathlib.Core.Path.{◌≡◌, refl, ap, sym, ◌∙◌}
 use mathlib.Core.Bool.{true, not}
 use mathlib.Core.List.{List}
@@ -22,7 +23,6 @@ use Rattle.frames.specs.Messages.{tam1_of, tam2_of, iam1_of, mam1_of}
 use Rattle.frames.proofs.ProtModes.{mode_below}
 use Rattle.frames.proofs.Shape.{tam1_shape, tam2_shape, iam1_shape, mam1_shape}
 use Rattle.frames.proofs.Taken.{tam1_taken, tam2_taken, iam1_taken, mam1_taken}
-use Rattle.offer.specs.declared.Checked.TheVariants.{Fine}
 use Rattle.offer.specs.Checks.{judged}
 use Rattle.offer.specs.Judged.{opening_checks}
 use Rattle.offer.specs.Records.{block_asked}
@@ -41,7 +41,7 @@ use Rattle.claims.proofs.InTurn.{in_turn_lem}
 
 -- the line that TAM1, IAM1 and MAM1 share
 opening_fine : (kind : Kind) (rfu keyid : ℕ) (keys : List Key) (m : List ℕ) → length_fits kind m ≡ true → rfu ≡ 0
-    → has_key keyid keys ≡ true → judged (opening_checks kind rfu keyid keys m) ≡ Fine
+    → has_key keyid keys ≡ true → judged (opening_checks kind rfu keyid keys m) ≡ Ok tt
 unfolding opening_checks
 opening_fine kind rfu keyid keys m long none there =
     sym (passes _ _ long (passes _ _ (eq-eqb _ _ none) (passes _ _ there ends)))

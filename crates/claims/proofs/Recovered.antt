@@ -1,5 +1,6 @@
 -- The premises of recovery and of Fixed hold: on the bench of examples an IAM1 is taken, and the reader recovers the
 -- challenge. No cipher is computed.
+use Rattle.std.specs.Prelude.{Ok}
 use mathlib.Core.Path.{◌≡◌, sym, ap, refl, subst}
 use mathlib.Core.Bool.{false}
 use mathlib.Core.List.{List, []}
@@ -30,7 +31,6 @@ use Rattle.tag.specs.Answers.{answer_of}
 use Rattle.tag.specs.Reactions.{lent}
 use Rattle.tag.specs.Plays.{Called}
 use Rattle.reader.specs.declared.Keys.{Keys}
-use Rattle.reader_judge.specs.declared.Verdict.TheVariants.{Accepted}
 use Rattle.reader_judge.specs.Findings.{said_of, Judges}
 use Rattle.reader_judge.specs.Judged.{iam1_finding, of_kind, judgement_of}
 use Rattle.reader_judge.specs.Judged as judge
@@ -96,7 +96,7 @@ challenge_recovered room e =
     (record { says = refl; number = refl; holds = refl })
 
 -- an accepted reply is made again
-taken : (judgement_of keys iam1 (drawn 0) 144).verdict ≡ Accepted
+taken : (judgement_of keys iam1 (drawn 0) 144).verdict ≡ Ok tt
 unfolding judgement_of of_kind judge.by_kind iam1_finding judged_to own_fits fields_fit length_fits kind_of iam_kind
     iam1_of
 taken = refl

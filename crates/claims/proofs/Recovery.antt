@@ -1,5 +1,8 @@
 -- Recovery is proved: kind by kind, the checks that the tag made pass the reader's own, and what the tag closed the
 -- reader opens.
+use Rattle.std.specs.Prelude.{Result, Ok, Err, Option}
+use Rattle.frames.specs.declared.ProtMode.{ProtMode}
+use Rattle.offer.specs.declared.TagFault.{TagFault}
 use mathlib.Core.Path.{◌≡◌, refl, sym, ap, ap₂, ◌∙◌, subst}
 use mathlib.Core.Bool.{Bool, true, false}
 use mathlib.Core.List.{List, [], ◌∷◌}
@@ -18,14 +21,11 @@ use Rattle.frames.specs.declared.Kind.{Kind}
 use Rattle.frames.specs.declared.Kind.TheVariants.{Tam1, Tam2, Iam1, Iam2, Iam3, Mam1, Mam2, Unsupported}
 use Rattle.frames.specs.Kinds.{kind_of}
 use Rattle.frames.specs.Lengths.{length_fits}
-use Rattle.frames.specs.declared.ProtModeField.{ProtModeField}
 use Rattle.frames.specs.Modes.{has_mac, in_mode}
 use Rattle.frames.specs.Messages.{tam1_of, tam2_of, iam1_of, iam3_of, mam1_of}
 use Rattle.frames.proofs.Range.{both_right}
 use Rattle.tag.specs.States.{KeyedTag}
 use Rattle.offer.specs.declared.TagFault.TheVariants.{NotSupported, OutOfTurn}
-use Rattle.offer.specs.declared.Checked.{Checked}
-use Rattle.offer.specs.declared.Checked.TheVariants.{Fine, Wrong}
 use Rattle.entry.specs.Sessions.{cleared}
 use Rattle.tag.specs.States.{in_turn}
 use Rattle.offer.specs.Checks.{judged}
@@ -77,7 +77,7 @@ mode_own : (setup : Setup) (keys : Keys) (key : Key) (p : ℕ) → Shares keys k
 unfolding mode_fits reader_serves mode_served
 mode_own setup keys key p s h =
     let m = mode_named setup.features key p h in
-    ap (λ (x : ProtModeField). in_mode x (reader_serves keys) false) m.named
+    ap (λ (x : Option ProtMode). in_mode x (reader_serves keys) false) m.named
     ∙ ap (implies (has_mac m.mode)) s.mac
     ∙ both_right (mode_offered setup.features m.mode) (implies (has_mac m.mode) key.mac) m.holds
 
@@ -98,17 +98,17 @@ module _ (c : Call) (tag : KeyedTag) (keys : Keys) (room : ℕ) (fit : Fit c tag
   refusal : (k : Kind) (a : Effect) → (Taken a.outcome → ⊥) → Claim k a
   refusal k a h t = absurd (h t)
 
-  fine : (k : Kind) (v : Checked) (a : Effect) → (v ≡ Fine → Claim k a) → Claim k (if_fine c v a)
+  fine : (k : Kind) (v : Result Unit TagFault) (a : Effect) → (v ≡ Ok tt → Claim k a) → Claim k (if_fine c v a)
   unfolding if_fine refused
-  fine k Fine a h = h refl
-  fine k (Wrong f) a h = refusal k (refused c f cleared) (λ t. t)
+  fine k (Ok tt) a h = h refl
+  fine k (Err f) a h = refusal k (refused c f cleared) (λ t. t)
 
   picked : (k : Kind) (b : Bool) (x y : Effect) → Claim k x → Claim k y → Claim k (pick b x y)
   picked k true x y h g = h
   picked k false x y h g = g
 
   module _ (bench : judged (lending_checks tag.setup.sizes (length c.draws) c.room (length c.identity)
-      (length c.user)) ≡ Fine) (some : length c.message ≡ 0 → ⊥) where
+      (length c.user)) ≡ Ok tt) (some : length c.message ≡ 0 → ⊥) where
     ten : Ten c.draws
     ten = record {
       ten = lending_draws tag.setup.sizes (length c.draws) c.room (length c.identity)
@@ -127,7 +127,7 @@ module _ (c : Call) (tag : KeyedTag) (keys : Keys) (room : ℕ) (fit : Fit c tag
 
       opens_with : (rfu keyid : ℕ) (reply : List ℕ) (found : Finding) → fields_fit keys k c.message ≡ eqb rfu 0
           → finding_of keys c.message reply k ≡ found
-          → judged (opening_checks k rfu keyid tag.setup.keys c.message) ≡ Fine
+          → judged (opening_checks k rfu keyid tag.setup.keys c.message) ≡ Ok tt
           → judgement_of keys c.message reply room ≡ found
       unfolding opening_checks
       opens_with rfu keyid reply found r q h = judges reply found (first_holds _ _ h)
@@ -185,7 +185,7 @@ module _ (c : Call) (tag : KeyedTag) (keys : Keys) (room : ℕ) (fit : Fit c tag
         (mode_own tag.setup keys (key_with tag.session.keyid tag.setup.keys) (iam3_of c.message).protmode s
         (first_holds _ _ (others_hold _ _ h)))) empty_found)
 
-    module _ (h : judged (tam2_checks tag.setup c.message) ≡ Fine) (s : Keyed Tam2) where
+    module _ (h : judged (tam2_checks tag.setup c.message) ≡ Ok tt) (s : Keyed Tam2) where
       tam2_lengths : length_fits Tam2 c.message ≡ true
       unfolding tam2_checks
       tam2_lengths = first_holds _ _ h
@@ -245,7 +245,7 @@ module _ (c : Call) (tag : KeyedTag) (keys : Keys) (room : ℕ) (fit : Fit c tag
 
   module _ (s : Shares keys (key_with (keyid_used tag c.message kind) tag.setup.keys)) where
     of_message_lem : judged (lending_checks tag.setup.sizes (length c.draws) c.room (length c.identity)
-        (length c.user)) ≡ Fine → (m : List ℕ) → c.message ≡ m
+        (length c.user)) ≡ Ok tt → (m : List ℕ) → c.message ≡ m
         → Claim kind (of_message c tag.setup tag.session m)
     unfolding of_message refused
     of_message_lem bench [] e = λ t. absurd t
@@ -255,12 +255,12 @@ module _ (c : Call) (tag : KeyedTag) (keys : Keys) (room : ℕ) (fit : Fit c tag
         subst (λ (k : Kind). Claim kind (in_order c tag.setup tag.session k)) first
         (in_order_lem bench some kind refl s)
 
-    of_bench : (v : Checked) → judged (lending_checks tag.setup.sizes (length c.draws) c.room
+    of_bench : (v : Result Unit TagFault) → judged (lending_checks tag.setup.sizes (length c.draws) c.room
         (length c.identity) (length c.user)) ≡ v
         → Claim kind (of_lending c tag.setup tag.session v)
     unfolding refused
-    of_bench Fine e = of_message_lem e c.message refl
-    of_bench (Wrong f) e = λ t. absurd t
+    of_bench (Ok tt) e = of_message_lem e c.message refl
+    of_bench (Err f) e = λ t. absurd t
 
 pub recovery : Recovery
 unfolding effect_of

@@ -1,4 +1,5 @@
 -- The layout fixes the length of every reply.
+use Rattle.std.specs.Prelude.{Result, Ok, Err}
 use mathlib.Core.Path.{◌≡◌, refl, sym, ap, ◌∙◌, subst}
 use mathlib.Core.Bool.{Bool, true, false}
 use mathlib.Core.List.{List, [], ◌∷◌}
@@ -21,8 +22,6 @@ use Rattle.offer.specs.declared.TagFault.TheVariants.{OutOfTurn, ProofWrong, Ben
 use Rattle.offer.specs.Outcomes.{number_of, number_given, reply_length}
 use Rattle.entry.specs.declared.Session.{Session}
 use Rattle.tag.specs.States.{KeyedTag, keyed}
-use Rattle.offer.specs.declared.Checked.{Checked}
-use Rattle.offer.specs.declared.Checked.TheVariants.{Fine, Wrong}
 use Rattle.entry.specs.Sessions.{cleared}
 use Rattle.tag.specs.States.{in_turn}
 use Rattle.offer.specs.Checks.{judged}
@@ -85,7 +84,7 @@ module _ (c : Call) where
   unfolding let_in
   entry_long purpose identity user e = refl
 
-  fine_long : (k : ℕ) (v : Checked) (e : Effect) → Long k e → Long k (if_fine c v e)
+  fine_long : (k : ℕ) (v : Result Unit TagFault) (e : Effect) → Long k e → Long k (if_fine c v e)
   fine_long k = fine_case c (Long k) (refusal_long k cleared)
 
   picked_long : (k : ℕ) (t : Bool) (x y : Effect) → Long k x → Long k y → Long k (pick t x y)
@@ -122,16 +121,16 @@ module _ (c : Call) where
         (refusal_long k cleared NotSupported)
 
   module _ (tag : KeyedTag) where
-    abbrev verdict : Checked
+    abbrev verdict : Result Unit TagFault
     verdict = judged (lending_checks tag.setup.sizes (length c.draws) c.room (length c.identity)
         (length c.user))
 
-    bench_long : (v : Checked) → verdict ≡ v → Long (layout_length (kind_of (byte_at c.message 0)) c.message)
+    bench_long : (v : Result Unit TagFault) → verdict ≡ v → Long (layout_length (kind_of (byte_at c.message 0)) c.message)
         (of_lending c tag.setup tag.session v)
     unfolding lending_checks
-    bench_long Fine e = message_long tag.setup tag.session (eqb-true (length c.draws) 10 (first_holds _ _ e))
+    bench_long (Ok tt) e = message_long tag.setup tag.session (eqb-true (length c.draws) 10 (first_holds _ _ e))
         c.message refl
-    bench_long (Wrong f) e = refusal_long _ tag.session f
+    bench_long (Err f) e = refusal_long _ tag.session f
 
     pub answer_long : Long (layout_length (kind_of (byte_at c.message 0)) c.message) (effect_of c tag)
     unfolding effect_of

@@ -1,5 +1,6 @@
 -- A tag that has what a kind of message takes does take one, after an empty message and a challenge where it asks for
 -- one.
+use Rattle.offer.specs.Outcomes.{Outcome}
 use mathlib.Core.Path.{◌≡◌, refl, ap, ◌∙◌}
 use mathlib.Core.List.{List, [], ◌∷◌}
 use Prim.Native.Nat.{ℕ}
@@ -13,7 +14,6 @@ use Rattle.frames.specs.Blocks.{data_length}
 use Rattle.frames.specs.Kinds.{kind_of, tam_kind, iam_kind, mam_kind}
 use Rattle.frames.specs.Messages.{tam1_message, iam1_message, iam2_message, mam1_message, mam2_message}
 use Rattle.frames.proofs.Shape.{tam2_shape}
-use Rattle.offer.specs.declared.Outcome.{Outcome}
 use Rattle.offer.specs.Outcomes.{number_given}
 use Rattle.offer.specs.Records.{offered}
 use Rattle.offer.proofs.Bytes.{zeros_bytes}

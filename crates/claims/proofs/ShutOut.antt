@@ -1,5 +1,8 @@
 -- False tags, shut out on every tag that has what a message takes: by a TAM1, which every tag with a key record takes
 -- in every state, and of a made-up length by a message of its kind.
+use Rattle.std.specs.Prelude.{Ok}
+use Rattle.offer.specs.Outcomes.{Outcome}
+use Rattle.offer.specs.declared.Answer.TheVariants.{Replied}
 use mathlib.Core.Path.{◌≡◌, refl, sym, ap, ◌∙◌}
 use mathlib.Core.List.{List, [], ◌∷◌, map}
 use Prim.Native.Nat.{ℕ}
@@ -7,8 +10,6 @@ use native.Mathlib.Omega.{arith}
 use lib.ListN.{length, take}
 use Rattle.frames.specs.declared.Kind.{Kind}
 use Rattle.frames.specs.Messages.{tam1_message}
-use Rattle.offer.specs.declared.Outcome.{Outcome}
-use Rattle.offer.specs.declared.Outcome.TheVariants.{Replied}
 use Rattle.offer.specs.Outcomes.{reply_length}
 use Rattle.tag.specs.States.{keyed}
 use Rattle.tag.specs.Plays.{Doing, Left}
@@ -24,7 +25,7 @@ use Rattle.claims.proofs.Served.{serves}
 pub refuses_everything : ShutOut HasRecord RefusesEverything
 unfolding steps
 refuses_everything s h p says standard =
-    of_last s p standard [] (tam1 s h 0 0) (λ x. (n : ℕ) → x.stepped.outcome ≡ Replied n → ⊥)
+    of_last s p standard [] (tam1 s h 0 0) (λ x. (n : ℕ) → x.stepped.outcome ≡ Ok (Replied n) → ⊥)
     (says [] (tam1 s h 0 0)) (length (tam1_answered s h 0 0))
     (ap (λ (x : Outcome × List ℕ). x.0) (tam1_seen s h 0 0))
 
@@ -43,7 +44,7 @@ one_fixed_reply reply s h p says standard =
         sym (ap (λ (y : Outcome × List ℕ). y.1) (tam1_seen s h n 0))
         ∙ ap (λ (o : Outcome). take (reply_length o) x.room) told
         ∙ of_last s p standard [] (tam1 s h n 0)
-        (λ (x : Left). (k : ℕ) → x.stepped.outcome ≡ Replied k → take k x.room ≡ reply)
+        (λ (x : Left). (k : ℕ) → x.stepped.outcome ≡ Ok (Replied k) → take k x.room ≡ reply)
         (says [] (tam1 s h n 0)) (length (tam1_answered s h n 0)) told
 
 -- the first reply that is seen

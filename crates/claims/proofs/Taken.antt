@@ -1,5 +1,9 @@
 -- What a tag takes: a TAM1 in any state, with a reply that tells the draws and the challenge; and an empty message ends
 -- in Initial, as a power-up does, so that what follows it is taken as from the start.
+use Rattle.std.specs.Prelude.{Result, Ok}
+use Rattle.offer.specs.Outcomes.{Outcome}
+use Rattle.offer.specs.declared.Answer.TheVariants.{Replied}
+use Rattle.offer.specs.declared.TagFault.{TagFault}
 use mathlib.Core.Path.{◌≡◌, refl, sym, ap, ◌∙◌}
 use mathlib.Core.List.{List, [], ◌++◌}
 use Prim.Native.Nat.{ℕ, zero, suc, ◌<◌}
@@ -12,10 +16,6 @@ use Rattle.aes_inverse.specs.AesDec.{aes_dec}
 use Rattle.aes_inverse.proofs.Inverse.{dec_enc}
 use Rattle.modes.proofs.Whole.{bytes_take}
 use Rattle.frames.specs.Constants.{c_tam1}
-use Rattle.offer.specs.declared.Outcome.{Outcome}
-use Rattle.offer.specs.declared.Outcome.TheVariants.{Replied}
-use Rattle.offer.specs.declared.Checked.{Checked}
-use Rattle.offer.specs.declared.Checked.TheVariants.{Fine}
 use Rattle.offer.specs.Checks.{judged}
 use Rattle.offer.specs.Judged.{lending_checks}
 use Rattle.offer.specs.Records.{offered}
@@ -48,7 +48,7 @@ nothing = brings [] 0
 module _ (s : Start) (h : HasRecord s) where
   -- the bench lends what it must
   pub lends : (n : ℕ) → judged (lending_checks (setup_at s).sizes (length (drawn n)) (length (replicate {A = ℕ} 172 0))
-      (length s.identity) (length s.user)) ≡ Fine
+      (length s.identity) (length s.user)) ≡ Ok tt
   unfolding lending_checks
   lends n = sym (passes _ _ refl (passes _ _ refl (passes _ _ (eq-eqb _ _ h.identity)
       (passes _ _ (eq-eqb _ _ h.user) ends))))
@@ -57,7 +57,7 @@ module _ (s : Start) (h : HasRecord s) where
 
   pub rests : onward s (answer_at s nothing) ≡ woke s
   unfolding effect_of of_message refused
-  rests = ap (λ (v : Checked). onward s (answer_with (setup_at s)
+  rests = ap (λ (v : Result Unit TagFault). onward s (answer_with (setup_at s)
       (of_lending (call_at s nothing) (setup_at s) s.tag.session v))) (lends 0)
 
   -- ---- TAM1, with n first of the draws and i first of the challenge
@@ -75,10 +75,10 @@ module _ (s : Start) (h : HasRecord s) where
     tam1_taken = tam1_answered_lem (call_at s tam1) (keyed s.tag s.table) h.keyid (drawn i)
         (record { bench = lends n; there = refl; turn = refl }) h.there refl refl
 
-    pub tam1_seen : seen (left_at s tam1) ≡ (Replied (length tam1_answered), tam1_answered)
+    pub tam1_seen : seen (left_at s tam1) ≡ (Ok (Replied (length tam1_answered)), tam1_answered)
     unfolding replied
     tam1_seen = ap (λ (a : Answer). seen (left_of stepped_of (Step tam1) a)) tam1_taken
-        ∙ ap {B = Outcome × List ℕ} (λ l. (Replied (length tam1_answered), l)) (take-append_seam tam1_answered _)
+        ∙ ap {B = Outcome × List ℕ} (λ l. (Ok (Replied (length tam1_answered)), l)) (take-append_seam tam1_answered _)
 
     tam1_opened : n < 256 → i < 256
         → aes_dec (record_at s h).enc tam1_answered ≡ two_bytes c_tam1 ++ (take 4 (drawn n) ++ drawn i)

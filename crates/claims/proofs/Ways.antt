@@ -1,4 +1,7 @@
 -- The tag opens by AES-ENC: whoever is let in came through the checks of an IAM2, an IAM3 or a MAM2.
+use Rattle.std.specs.Prelude.{Result, Ok, Err, Option, Some, None}
+use Rattle.offer.specs.Outcomes.{Outcome}
+use Rattle.offer.specs.declared.Answer.TheVariants.{Replied, Entered}
 use Prim.Native.Nat.{ℕ}
 use native.Mathlib.Omega.{arith}
 use mathlib.Core.Path.{◌≡◌, refl, ap}
@@ -13,17 +16,11 @@ use Rattle.frames.specs.declared.Iam3.{Iam3 as Iam3Fields}
 use Rattle.frames.specs.declared.Kind.{Kind}
 use Rattle.frames.specs.declared.Kind.TheVariants.{Tam1, Tam2, Iam1, Iam2, Iam3, Mam1, Mam2, Unsupported}
 use Rattle.frames.specs.declared.ProtMode.{ProtMode}
-use Rattle.frames.specs.declared.ProtModeField.{ProtModeField}
-use Rattle.frames.specs.declared.ProtModeField.TheVariants.{Mode, NoMode}
 use Rattle.frames.specs.Constants.{iam3_constant}
 use Rattle.frames.specs.Kinds.{kind_of}
 use Rattle.frames.specs.Messages.{iam3_of}
 use Rattle.frames.specs.Modes.{in_mode, prot_mode_of}
 use Rattle.frames.proofs.Range.{both_left}
-use Rattle.offer.specs.declared.Checked.{Checked}
-use Rattle.offer.specs.declared.Checked.TheVariants.{Fine, Wrong}
-use Rattle.offer.specs.declared.Outcome.{Outcome}
-use Rattle.offer.specs.declared.Outcome.TheVariants.{Replied, Entered, Refused}
 use Rattle.offer.specs.declared.TagFault.{TagFault}
 use Rattle.offer.specs.declared.TagFault.TheVariants.{NotSupported, OutOfTurn}
 use Rattle.offer.specs.Checks.{judged}
@@ -64,24 +61,24 @@ first_proved : (key : Key) (held : Session) (f : Iam3Fields) (m : List ℕ) → 
 unfolding iam3_proof proved_in
 first_proved key held f m h = by (prot_mode_of f.protmode) h
   where
-    by : (x : ProtModeField) → in_mode x (λ (mode : ProtMode). proved_in key held mode f m) false ≡ true
+    by : (x : Option ProtMode) → in_mode x (λ (mode : ProtMode). proved_in key held mode f m) false ≡ true
         → in_mode x (λ (mode : ProtMode). iam_proof (iam3_constant mode) held (aes_enc key.enc (sent_block m))) false
         ≡ true
-    by (Mode mode) e = both_left _ _ e
-    by NoMode e = e
+    by (Some mode) e = both_left _ _ e
+    by None e = e
 
 -- an outcome that lets in is neither a reply nor a refusal
-not_replied : {A : Type 0} (n purpose : ℕ) → Replied n ≡ Entered purpose → A
+not_replied : {A : Type 0} (n purpose : ℕ) → Ok (Replied n) ≡ Ok (Entered purpose) → A
 not_replied n purpose e = let z : ◌≡◌ {A = ℕ} 0 1 = cc in absurd (omega arith)
 
 purpose_of : Outcome → ℕ
-purpose_of (Replied n) = 0
-purpose_of (Entered purpose) = purpose
-purpose_of (Refused f) = 0
+purpose_of (Ok (Replied n)) = 0
+purpose_of (Ok (Entered purpose)) = purpose
+purpose_of (Err f) = 0
 
 module _ (c : Call) (tag : KeyedTag) (purpose : ℕ) where
   abbrev LetsIn : Effect → Type 0
-  LetsIn e = e.outcome ≡ Entered purpose
+  LetsIn e = e.outcome ≡ Ok (Entered purpose)
 
   not_refused : {A : Type 0} (e : Effect) → LetsIn e → (f : TagFault) (s : Session) → e ≡ refused c f s → A
   unfolding refused
@@ -91,10 +88,10 @@ module _ (c : Call) (tag : KeyedTag) (purpose : ℕ) where
       absurd (omega arith)
 
   -- past its checks
-  through : (v : Checked) (e : Effect) → LetsIn (if_fine c v e) → (v ≡ Fine) × LetsIn e
+  through : (v : Result Unit TagFault) (e : Effect) → LetsIn (if_fine c v e) → (v ≡ Ok tt) × LetsIn e
   unfolding if_fine
-  through Fine e h = (refl, h)
-  through (Wrong f) e h = not_refused _ h f _ refl
+  through (Ok tt) e h = (refl, h)
+  through (Err f) e h = not_refused _ h f _ refl
 
   by_kind_lem : (kind : Kind) → LetsIn (by_kind c tag.setup tag.session kind)
       → LetInBy kind c.message tag purpose
@@ -148,10 +145,10 @@ module _ (c : Call) (tag : KeyedTag) (purpose : ℕ) where
   of_message_lem [] h = not_refused _ h _ _ refl
   of_message_lem (first ∷ rest) h = in_order_lem (kind_of first) h
 
-  of_lending_lem : (v : Checked) → LetsIn (of_lending c tag.setup tag.session v)
+  of_lending_lem : (v : Result Unit TagFault) → LetsIn (of_lending c tag.setup tag.session v)
       → LetInBy (kind_of (byte_at c.message 0)) c.message tag purpose
-  of_lending_lem Fine h = of_message_lem c.message h
-  of_lending_lem (Wrong f) h = not_refused _ h f _ refl
+  of_lending_lem (Ok tt) h = of_message_lem c.message h
+  of_lending_lem (Err f) h = not_refused _ h f _ refl
 
 pub tag_encrypts : TagEncrypts
 unfolding effect_of

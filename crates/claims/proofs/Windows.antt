@@ -1,5 +1,6 @@
 -- The words that an accepted TAM2 asks for are all there, where the setup is one that a sheet says and the areas have
 -- its sizes.
+use Rattle.std.specs.Prelude.{Ok}
 use mathlib.Core.Path.{◌≡◌, refl, sym, ap, ◌∙◌}
 use mathlib.Core.Bool.{true, false, false≢true}
 use mathlib.Core.List.{List, [], ◌∷◌}
@@ -27,7 +28,6 @@ use Rattle.frames.specs.declared.Custom.{Custom}
 use Rattle.frames.specs.Asked.{block_asked as words_asked}
 use Rattle.frames.specs.Blocks.{data_length}
 use Rattle.frames.proofs.Range.{both_right}
-use Rattle.offer.specs.declared.Checked.TheVariants.{Fine}
 use Rattle.offer.specs.Checks.{judged}
 use Rattle.offer.specs.Judged.{lending_checks}
 use Rattle.offer.specs.Records.{slot_named, block_asked}
@@ -52,7 +52,7 @@ ends_in z s (inr h) p =
     (both_right (leb (area_byte s.profile.area) 1) (both (leb 1 s.profile.words) (leb n w)) h.1))
 
 module _ (setup : Setup) (identity user : List ℕ) (draws room : ℕ)
-    (h : judged (lending_checks setup.sizes draws room (length identity) (length user)) ≡ Fine) where
+    (h : judged (lending_checks setup.sizes draws room (length identity) (length user)) ≡ Ok tt) where
   bench_identity : length identity ≡ setup.sizes.identity * 2
   unfolding lending_checks
   bench_identity = eqb-true _ _ (first_holds _ _ (others_hold _ _ (others_hold _ _ h)))

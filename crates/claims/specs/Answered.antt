@@ -1,12 +1,11 @@
 -- Demand 1: every call is answered. That each function takes any input and ends is its own proof, since no contract has
 -- a `requires`. Here: each number given is one of the list for that function, and a refusal sends nothing, writes no
 -- memory word, and leaves the tag in the state that the list names.
-use Rattle.std.specs.Prelude.{◌≡◌, ◌⊎◌, Bool, true, false, List, [], ◌∷◌, ℕ, eqb, length, replicate}
+use Rattle.std.specs.Prelude.{◌≡◌, ◌⊎◌, Bool, true, false, List, [], ◌∷◌, ℕ, eqb, length, replicate, Result, Err}
+use Rattle.modes.specs.declared.ChainingFault.{ChainingFault}
 use Rattle.ground.specs.Choice.{either}
-use Rattle.modes.specs.declared.Chaining.{Chaining}
 use Rattle.modes.specs.Room as room
 use Rattle.sheet.specs.declared.SheetFault.{SheetFault}
-use Rattle.sheet.specs.declared.Finding.TheVariants.{Faulty}
 use Rattle.sheet.specs.declared.Gathered.{Gathered}
 use Rattle.sheet.specs.declared.SheetVerdict.TheVariants.{Refused as NoSheet}
 use Rattle.sheet.specs.Kinds as sheet
@@ -16,7 +15,6 @@ use Rattle.sheet.specs.Limits.{key_limit}
 use Rattle.sheet.specs.Sheet.{read_of}
 use Rattle.frames.specs.Built.{Built}
 use Rattle.offer.specs.declared.TagFault.{TagFault}
-use Rattle.offer.specs.declared.Outcome.TheVariants.{Refused as NoReply}
 use Rattle.tag.specs.declared.Tag.{Tag}
 use Rattle.offer.specs.Outcomes as outcomes
 use Rattle.tag.specs.States.{session_after}
@@ -24,9 +22,6 @@ use Rattle.tag.specs.Plays.{Brought, Left, Called}
 use Rattle.reader.specs.declared.ReaderFault.{ReaderFault}
 use Rattle.reader_judge.specs.declared.Judgement.{Judgement}
 use Rattle.reader.specs.declared.Keys.{Keys}
-use Rattle.reader_build.specs.declared.Made.{Made}
-use Rattle.reader_build.specs.declared.Made.TheVariants.{Refused as NotMade}
-use Rattle.reader_judge.specs.declared.Verdict.TheVariants.{Refused as NotBelieved}
 use Rattle.reader_judge.specs.declared.Worth.TheVariants.{NoData}
 use Rattle.reader.specs.Numbers as reader
 use Rattle.reader_judge.specs.Findings.{Judges}
@@ -68,7 +63,7 @@ abbrev pub TagAnswers : Type 0
 TagAnswers =
     (table : List ℕ) (tag : Tag) (identity user : List ℕ) (b : Brought) (x : Left) (f : TagFault)
     → Called table tag identity user b x
-    → x.stepped.outcome ≡ NoReply f
+    → x.stepped.outcome ≡ Err f
     → TagRefused tag identity user b x f
 
 -- ---- the reader's side
@@ -86,15 +81,15 @@ abbrev pub JudgeAnswers : Type 0
 JudgeAnswers =
     (keys : Keys) (message reply room : List ℕ) (r : Judgement) (after : List ℕ) (f : ReaderFault)
     → Judges (judgement_of keys message reply (length room)) room r after
-    → r.verdict ≡ NotBelieved f
+    → r.verdict ≡ Err f
     → JudgeRefused room r after f
 
 -- The seven builders: 24, and the room as it was.
 abbrev pub BuilderAnswers : Type 0
 BuilderAnswers =
-    (fit : Bool) (message room : List ℕ) (r : Made) (after : List ℕ) (f : ReaderFault)
+    (fit : Bool) (message room : List ℕ) (r : Result ℕ ReaderFault) (after : List ℕ) (f : ReaderFault)
     → Makes fit message room r after
-    → r ≡ NotMade f
+    → r ≡ Err f
     → (reader.number_of f ≡ 24) × (after ≡ room)
 
 -- ---- the sheet
@@ -111,7 +106,7 @@ SheetAnswers =
 abbrev pub RecordAnswers : Type 0
 RecordAnswers =
     (s : List ℕ) (k : Gathered) (f : SheetFault)
-    → (judged_of key_limit s k).finding ≡ Faulty f
+    → (judged_of key_limit s k).finding ≡ Err f
     → Among sheet_numbers (sheet.number_of f) × ((judged_of key_limit s k).gathered ≡ k)
 
 -- ---- chaining and MAC, and the parts of messages
@@ -119,7 +114,7 @@ RecordAnswers =
 -- The four chainings and the MAC: 0 or 8, and with 8 the room as it was.
 abbrev pub ChainAnswers : Type 0
 ChainAnswers =
-    (taken : Bool) (out before : List ℕ) (r : Chaining) (after : List ℕ)
+    (taken : Bool) (out before : List ℕ) (r : Result Unit ChainingFault) (after : List ℕ)
     → room.Into taken out before r after
     → (room.number_of r ≡ 0) ⊎ ((room.number_of r ≡ 8) × (after ≡ before))
 

@@ -1,6 +1,6 @@
 -- Entry: a reader that has the keys of the record that the tag holds, and sends back the tag's challenge, is let in,
 -- with the Purpose that it sent.
-use Rattle.std.specs.Prelude.{◌≡◌, true, false, List, ℕ, length, drop}
+use Rattle.std.specs.Prelude.{◌≡◌, true, false, List, ℕ, length, drop, Ok}
 use Rattle.ground.specs.Bytes.{Bytes}
 use Rattle.memory.specs.declared.Area.TheVariants.{Identity, User}
 use Rattle.memory.specs.Address.{overruns}
@@ -12,7 +12,6 @@ use Rattle.frames.specs.declared.Kind.TheVariants.{Iam2, Mam2, Iam3}
 use Rattle.sheet.specs.declared.Key.{Key}
 use Rattle.sheet.specs.Setups.{Setup}
 use Rattle.tag.specs.States.{KeyedTag}
-use Rattle.offer.specs.declared.Checked.TheVariants.{Fine}
 use Rattle.offer.specs.Checks.{judged}
 use Rattle.offer.specs.Judged.{lending_checks}
 use Rattle.tag.specs.States.{in_turn}
@@ -36,7 +35,7 @@ pub record Knows (keys : Keys) (key : Key) : Type 0 where
 -- The bench lends what it must, the tag offers the message, and waits for it (Annex A).
 pub record Waits (c : Call) (tag : KeyedTag) (kind : Kind) : Type 0 where
   pub bench : judged (lending_checks tag.setup.sizes (length c.draws) c.room (length c.identity)
-      (length c.user)) ≡ Fine
+      (length c.user)) ≡ Ok tt
   pub there : offered tag.setup.features kind ≡ true
   pub turn : in_turn tag.session.state kind ≡ true
 

@@ -1,6 +1,6 @@
 -- A reply that is accepted fixes its content: the own message, the keys, what the judge handed over and the tag's
 -- random bytes make every byte of it.
-use Rattle.std.specs.Prelude.{◌≡◌, Bool, true, false, List, [], ℕ, take, drop}
+use Rattle.std.specs.Prelude.{◌≡◌, Bool, true, false, List, [], ℕ, take, drop, Ok}
 use Rattle.ground.specs.Bytes.{Bytes, byte_at}
 use Rattle.sheet.specs.declared.Key.{Key}
 use Rattle.frames.specs.declared.Kind.{Kind}
@@ -10,7 +10,6 @@ use Rattle.frames.specs.Messages.{tam1_of, tam2_of, mam1_of}
 use Rattle.tam.specs.Replies.{tam1_reply, tam2_reply}
 use Rattle.entry.specs.Replies.{mam1_reply}
 use Rattle.reader.specs.declared.Keys.{Keys}
-use Rattle.reader_judge.specs.declared.Verdict.TheVariants.{Accepted}
 use Rattle.reader_judge.specs.Findings.{Finding}
 use Rattle.reader_judge.specs.Judged.{judgement_of}
 use Rattle.reader_judge.specs.Opened.{opened_block}
@@ -39,7 +38,7 @@ Fixed =
     → Shares keys key
     → Bytes keys.enc
     → Bytes reply
-    → (judgement_of keys m reply room).verdict ≡ Accepted
+    → (judgement_of keys m reply room).verdict ≡ Ok tt
     → reply ≡ remade key m (trnd_in keys reply) (judgement_of keys m reply room) (kind_of (byte_at m 0))
 
 -- The kinds whose replies carry random bytes that the judge does not hand out.
@@ -62,7 +61,7 @@ FixedTwice =
     → Bytes keys.enc
     → Bytes reply
     → Bytes other
-    → (judgement_of keys m reply room).verdict ≡ Accepted
+    → (judgement_of keys m reply room).verdict ≡ Ok tt
     → judgement_of keys m reply room ≡ judgement_of keys m other room
     → (has_trnd (kind_of (byte_at m 0)) ≡ true → trnd_in keys reply ≡ trnd_in keys other)
     → reply ≡ other

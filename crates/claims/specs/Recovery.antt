@@ -2,7 +2,9 @@
 -- areas, where the tag takes the message and the reader has the keys of the record that the tag uses, the judge accepts
 -- the reply, hands over exactly the words of the block that the message asks for, and holds the challenge that the tag
 -- holds.
-use Rattle.std.specs.Prelude.{ℕ, ◌≤◌, ◌≡◌, List, length, take}
+use Rattle.std.specs.Prelude.{ℕ, ◌≤◌, ◌≡◌, List, length, take, Ok, Err}
+use Rattle.offer.specs.Outcomes.{Outcome}
+use Rattle.offer.specs.declared.Answer.TheVariants.{Replied, Entered}
 use Rattle.ground.specs.Bytes.{Bytes, byte_at}
 use Rattle.memory.specs.Areas.{window_of}
 use Rattle.sheet.specs.declared.Key.{Key}
@@ -15,8 +17,6 @@ use Rattle.frames.specs.Modes.{in_mode, prot_mode_of}
 use Rattle.frames.specs.Messages.{tam1_of, tam2_of, iam1_of, mam1_of}
 use Rattle.tag.specs.declared.Tag.{Tag}
 use Rattle.tag.specs.States.{KeyedTag, keyed}
-use Rattle.offer.specs.declared.Outcome.{Outcome}
-use Rattle.offer.specs.declared.Outcome.TheVariants.{Replied, Entered, Refused}
 use Rattle.tag.specs.Answers.{Answer, Call, answer_of}
 use Rattle.offer.specs.Outcomes.{reply_length}
 use Rattle.keytable.specs.Named.{key_with}
@@ -34,9 +34,9 @@ use Rattle.reader.specs.Own.{data_room}
 
 -- The tag took the message.
 abbrev pub Taken : Outcome → Type 0
-Taken (Replied n) = Unit {0}
-Taken (Entered purpose) = Unit {0}
-Taken (Refused f) = ⊥
+Taken (Ok (Replied n)) = Unit {0}
+Taken (Ok (Entered purpose)) = Unit {0}
+Taken (Err f) = ⊥
 
 -- The KeyID of the record that the tag uses: the message's, or the one that is held since the message before.
 unfoldable pub keyid_used : KeyedTag → List ℕ → Kind → ℕ

@@ -2,7 +2,9 @@
 -- of calls; it is the standard's tag where each run is one of the calls that the contracts of `tag::step` and
 -- `tag::power_up` allow (`Plays`). There is one such program, and none of the five below is it. What a program does on
 -- one tag shuts it out, whichever tag that is, if only it has what the message takes by which the program shows.
-use Rattle.std.specs.Prelude.{◌≡◌, List, [], ◌∷◌, ◌++◌, map, ℕ, length, take, drop}
+use Rattle.std.specs.Prelude.{◌≡◌, List, [], ◌∷◌, ◌++◌, map, ℕ, length, take, drop, Ok}
+use Rattle.offer.specs.Outcomes.{Outcome}
+use Rattle.offer.specs.declared.Answer.TheVariants.{Replied}
 use Rattle.ground.specs.Bytes.{byte_at}
 use Rattle.frames.specs.declared.Kind.{Kind}
 use Rattle.frames.specs.declared.Kind.TheVariants.{Tam1, Tam2, Iam1, Iam2, Iam3, Mam1, Mam2, Unsupported}
@@ -11,8 +13,6 @@ use Rattle.frames.specs.Lengths.{tam1_reply_length, tam2_reply_length, iam1_repl
 use Rattle.frames.specs.Lengths.{empty_reply_length}
 use Rattle.frames.specs.Modes.{in_mode, prot_mode_of}
 use Rattle.frames.specs.Messages.{tam2_of}
-use Rattle.offer.specs.declared.Outcome.{Outcome}
-use Rattle.offer.specs.declared.Outcome.TheVariants.{Replied}
 use Rattle.offer.specs.Outcomes.{number_given, reply_length}
 use Rattle.tag.specs.Plays.{Brought, Doing, Step, Left, Called, Plays}
 use Rattle.claims.specs.Starts.{Start}
@@ -58,11 +58,11 @@ Always s p P = (bs : List Brought) (b : Brought) → Each (P b) (last_of p s (st
 
 -- The tag that refuses everything: no message ends in a reply.
 abbrev pub RefusesEverything : Start → Program → Type 0
-RefusesEverything s p = Always s p (λ b x. (n : ℕ) → x.stepped.outcome ≡ Replied n → ⊥)
+RefusesEverything s p = Always s p (λ b x. (n : ℕ) → x.stepped.outcome ≡ Ok (Replied n) → ⊥)
 
 -- The tag with a single fixed reply: wherever it replies, the room starts with these bytes.
 abbrev pub OneFixedReply : List ℕ → Start → Program → Type 0
-OneFixedReply reply s p = Always s p (λ b x. (n : ℕ) → x.stepped.outcome ≡ Replied n → take n x.room ≡ reply)
+OneFixedReply reply s p = Always s p (λ b x. (n : ℕ) → x.stepped.outcome ≡ Ok (Replied n) → take n x.room ≡ reply)
 
 -- The tag that never stores: after every message both areas are as they were at the start.
 abbrev pub NeverStores : Start → Program → Type 0

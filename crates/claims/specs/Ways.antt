@@ -1,6 +1,7 @@
 -- Clause 5: a tag has encryption alone. It lets a reader in only where the block that AES-ENC makes of what the reader
 -- sent proves it, and reads the Purpose from that block.
-use Rattle.std.specs.Prelude.{ℕ, ◌≡◌, Bool, true, false, List, []}
+use Rattle.std.specs.Prelude.{ℕ, ◌≡◌, Bool, true, false, List, [], Ok}
+use Rattle.offer.specs.declared.Answer.TheVariants.{Entered}
 use Rattle.ground.specs.Bytes.{byte_at}
 use Rattle.aes.specs.AesEnc.{aes_enc}
 use Rattle.frames.specs.declared.Kind.{Kind}
@@ -11,7 +12,6 @@ use Rattle.frames.specs.Kinds.{kind_of}
 use Rattle.frames.specs.Messages.{iam2_of, iam3_of, mam2_of}
 use Rattle.frames.specs.Modes.{in_mode, prot_mode_of}
 use Rattle.keytable.specs.Named.{key_with}
-use Rattle.offer.specs.declared.Outcome.TheVariants.{Entered}
 use Rattle.entry.specs.declared.Session.{Session}
 use Rattle.entry.specs.Opened.{purpose_in, iam_proof, mam_proof, sent_block}
 use Rattle.tag.specs.Answers.{Call, answer_of}
@@ -49,5 +49,5 @@ pub record LetInBy (kind : Kind) (m : List ℕ) (tag : KeyedTag) (purpose : ℕ)
 abbrev pub TagEncrypts : Type 0
 TagEncrypts =
     (c : Call) (tag : KeyedTag) (purpose : ℕ)
-    → (answer_of c tag).outcome ≡ Entered purpose
+    → (answer_of c tag).outcome ≡ Ok (Entered purpose)
     → LetInBy (kind_of (byte_at c.message 0)) c.message tag purpose

@@ -1,10 +1,11 @@
 // The fields of a line. First they are all looked at, from left to right, and the first that can't be read is answered
 // with its reason; then a command takes those it needs.
+use text::{DecimalFault, HexFault};
 use crate::words::{count, word};
 use lines::numbers::sum;
 use lines::print;
 use std::io;
-use text::{DecimalRead, HexRead};
+
 
 // Are there words for all fields but the last `optional` ones, no word too many, and can each be read? Fields begin at
 // word `from`, and `kinds` has a letter for each: n a number, h bytes, k sixteen bytes, m sixteen bytes or none, a an
@@ -55,19 +56,19 @@ fn one(rt: &impl Print, field: &[u8], kind: u8) -> io::Result<bool> {
 
 fn number_read(rt: &impl Print, field: &[u8]) -> io::Result<bool> {
     match text::read_decimal(field) {
-        DecimalRead::Number(_) => Ok(true),
-        DecimalRead::NotNumber => wrong(rt, b"error: not a number\n"),
-        DecimalRead::Over => wrong(rt, b"error: number over 65535\n"),
+        Ok(_) => Ok(true),
+        Err(DecimalFault::NotNumber) => wrong(rt, b"error: not a number\n"),
+        Err(DecimalFault::Over) => wrong(rt, b"error: number over 65535\n"),
     }
 }
 
 fn bytes_read(rt: &impl Print, field: &[u8]) -> io::Result<bool> {
     let mut room = [0u8; 4096];
     match text::read_hex(field, &mut room) {
-        HexRead::Bytes(_) => Ok(true),
-        HexRead::NotHex => wrong(rt, b"error: not hex\n"),
-        HexRead::Odd => wrong(rt, b"error: odd number of hex digits\n"),
-        HexRead::Over => wrong(rt, b"error: over 4096 bytes\n"),
+        Ok(_) => Ok(true),
+        Err(HexFault::NotHex) => wrong(rt, b"error: not hex\n"),
+        Err(HexFault::Odd) => wrong(rt, b"error: odd number of hex digits\n"),
+        Err(HexFault::Over) => wrong(rt, b"error: over 4096 bytes\n"),
     }
 }
 
@@ -123,9 +124,9 @@ fn wrong(rt: &impl Print, reason: &[u8]) -> io::Result<bool> {
 // The number of a field, 0 where it is none.
 fn value(field: &[u8]) -> u16 {
     match text::read_decimal(field) {
-        DecimalRead::Number(n) => n,
-        DecimalRead::NotNumber => 0,
-        DecimalRead::Over => 0,
+        Ok(n) => n,
+        Err(DecimalFault::NotNumber) => 0,
+        Err(DecimalFault::Over) => 0,
     }
 }
 
@@ -138,10 +139,10 @@ fn length(field: &[u8]) -> usize {
 // The bytes of a field over the first bytes of a room; 0 where the field has none, or the room too few.
 pub fn read_into(field: &[u8], room: &mut [u8]) -> usize {
     match text::read_hex(field, room) {
-        HexRead::Bytes(n) => n,
-        HexRead::NotHex => 0,
-        HexRead::Odd => 0,
-        HexRead::Over => 0,
+        Ok(n) => n,
+        Err(HexFault::NotHex) => 0,
+        Err(HexFault::Odd) => 0,
+        Err(HexFault::Over) => 0,
     }
 }
 
@@ -168,10 +169,10 @@ pub fn bytes(line: &[u8], k: usize, room: &mut [u8]) -> usize {
 // The bytes into a room that they must fill. Do they?
 pub fn fill(line: &[u8], k: usize, room: &mut [u8]) -> bool {
     match text::read_hex(word(line, k), room) {
-        HexRead::Bytes(n) => n == room.len(),
-        HexRead::NotHex => false,
-        HexRead::Odd => false,
-        HexRead::Over => false,
+        Ok(n) => n == room.len(),
+        Err(HexFault::NotHex) => false,
+        Err(HexFault::Odd) => false,
+        Err(HexFault::Over) => false,
     }
 }
 

@@ -1,4 +1,6 @@
 -- What the code of IAM2, MAM2 and IAM3 gives, from its parts.
+use Rattle.std.specs.Prelude.{Result, Ok, Err}
+use Rattle.offer.specs.declared.Answer.TheVariants.{Entered}
 use mathlib.Core.Path.{◌≡◌, sym, ap, ◌∙◌, subst}
 use mathlib.Core.Bool.{Bool, true, false}
 use mathlib.Core.List.{List, [], ◌∷◌}
@@ -25,9 +27,6 @@ use Rattle.frames.specs.Lengths.{iam3_head_length, iam3_mac_at, iam3_length}
 use Rattle.frames.specs.Messages.{iam2_of, iam3_of, mam2_of}
 use Rattle.offer.specs.declared.TagFault.{TagFault}
 use Rattle.offer.specs.declared.TagFault.TheVariants.{ProofWrong}
-use Rattle.offer.specs.declared.Outcome.TheVariants.{Entered, Refused}
-use Rattle.offer.specs.declared.Checked.{Checked}
-use Rattle.offer.specs.declared.Checked.TheVariants.{Fine, Wrong}
 use Rattle.offer.specs.Outcomes.{settled}
 use Rattle.offer.specs.Checks.{judged}
 use Rattle.keytable.specs.Named.{key_with}
@@ -45,27 +44,27 @@ use Rattle.entry.proofs.Passed.{iam3_length_lem}
 
 -- What `refused` and `let_in` of the code give.
 abbrev pub Turned : Reacted → TagFault → Type 0
-Turned r f = (r.outcome ≡ Refused f) × (r.session ≡ cleared)
+Turned r f = (r.outcome ≡ Err f) × (r.session ≡ cleared)
 
 abbrev pub Entering : Reacted → ℕ → Type 0
-Entering r purpose = (r.outcome ≡ Entered purpose) × (r.session ≡ entered)
+Entering r purpose = (r.outcome ≡ Ok (Entered purpose)) × (r.session ≡ entered)
 
-module _ (v : Checked) (purpose : ℕ) (r : Reacted) where
-  told : (w : Checked) → v ≡ w → r.outcome ≡ settled w (Entered purpose) Refused
+module _ (v : Result Unit TagFault) (purpose : ℕ) (r : Reacted) where
+  told : (w : Result Unit TagFault) → v ≡ w → r.outcome ≡ settled w (Ok (Entered purpose)) Err
       → r.session ≡ settled w entered (λ f. cleared) → LetsIn v purpose r
   told w e o s = record {
-    outcome = o ∙ ap (λ (x : Checked). settled x (Entered purpose) Refused) (sym e);
-    session = s ∙ ap (λ (x : Checked). settled x entered (λ f. cleared)) (sym e);
+    outcome = o ∙ ap (λ (x : Result Unit TagFault). settled x (Ok (Entered purpose)) Err) (sym e);
+    session = s ∙ ap (λ (x : Result Unit TagFault). settled x entered (λ f. cleared)) (sym e);
   }
 
-  pub turns_away : (f : TagFault) → v ≡ Wrong f → Turned r f → LetsIn v purpose r
-  turns_away f e t = told (Wrong f) e t.0 t.1
+  pub turns_away : (f : TagFault) → v ≡ Err f → Turned r f → LetsIn v purpose r
+  turns_away f e t = told (Err f) e t.0 t.1
 
-  lets_in_lem : v ≡ Fine → Entering r purpose → LetsIn v purpose r
-  lets_in_lem e t = told Fine e t.0 t.1
+  lets_in_lem : v ≡ Ok tt → Entering r purpose → LetsIn v purpose r
+  lets_in_lem e t = told (Ok tt) e t.0 t.1
 
 -- a proof from an opened block, in its line
-closing : (P : List ℕ → Bool) (kind : Kind) (m enc enc' x x' b : List ℕ) (rfu rfu' : ℕ) (proof : Bool) (v : Checked)
+closing : (P : List ℕ → Bool) (kind : Kind) (m enc enc' x x' b : List ℕ) (rfu rfu' : ℕ) (proof : Bool) (v : Result Unit TagFault)
     → enc ≡ enc' → x ≡ x' → rfu ≡ rfu' → b ≡ aes_enc enc x → proof ≡ P b → v ≡ judged (closing_checks proof rfu kind m)
     → judged (closing_checks (P (aes_enc enc' x')) rfu' kind m) ≡ v
 closing P kind m enc enc' x x' b rfu rfu' proof v e f g h p w =
@@ -74,7 +73,7 @@ closing P kind m enc enc' x x' b rfu rfu' proof v e f g h p w =
     sym (w ∙ (λ j. judged (closing_checks (told j) (g j) kind m)))
 
 module _ (keys : List Key) (held : Session) (m : List ℕ) (k : Key) (ke : k ≡ key_with held.keyid keys)
-    (b : List ℕ) (proof : Bool) (v : Checked)
+    (b : List ℕ) (proof : Bool) (v : Result Unit TagFault)
   where
     -- IAM2
     module _ (f : Iam2Fields) (e : f ≡ iam2_of m) (be : b ≡ aes_enc k.enc f.iresponse)
@@ -86,16 +85,16 @@ module _ (keys : List Key) (held : Session) (m : List ℕ) (k : Key) (ke : k ≡
             closing (iam_proof c_iam2 held) Iam2 m k.enc _ f.iresponse _ b f.rfu _ proof v (λ j. (ke j).enc)
             (λ j. (e j).iresponse) (λ j. (e j).rfu) be pe w
 
-        pub iam2_wrong : (fault : TagFault) (r : Reacted) → v ≡ Wrong fault → Turned r fault
+        pub iam2_wrong : (fault : TagFault) (r : Reacted) → v ≡ Err fault → Turned r fault
             → LetsIn (iam2_checked keys held m) (iam2_purpose keys held m) r
         iam2_wrong fault r x t = turns_away _ (iam2_purpose keys held m) r fault (iam2_judged ∙ x) t
 
-        pub iam2_fine : (purpose : ℕ) (r : Reacted) → v ≡ Fine → purpose ≡ purpose_in b → Entering r purpose
+        pub iam2_fine : (purpose : ℕ) (r : Reacted) → v ≡ Ok tt → purpose ≡ purpose_in b → Entering r purpose
             → LetsIn (iam2_checked keys held m) (iam2_purpose keys held m) r
         iam2_fine purpose r x q t =
             let told : purpose ≡ iam2_purpose keys held m =
             q ∙ ap purpose_in (be ∙ (λ j. aes_enc (ke j).enc (e j).iresponse)) in
-            lets_in_lem _ (iam2_purpose keys held m) r (iam2_judged ∙ x) (t.0 ∙ ap Entered told, t.1)
+            lets_in_lem _ (iam2_purpose keys held m) r (iam2_judged ∙ x) (t.0 ∙ ap (λ n. Ok (Entered n)) told, t.1)
 
     -- MAM2
     module _ (f : Mam2Fields) (e : f ≡ mam2_of m) (be : b ≡ aes_enc k.enc f.iresponse)
@@ -107,22 +106,22 @@ module _ (keys : List Key) (held : Session) (m : List ℕ) (k : Key) (ke : k ≡
             closing (mam_proof held) Mam2 m k.enc _ f.iresponse _ b f.rfu _ proof v (λ j. (ke j).enc)
             (λ j. (e j).iresponse) (λ j. (e j).rfu) be pe w
 
-        pub mam2_wrong : (fault : TagFault) (r : Reacted) → v ≡ Wrong fault → Turned r fault
+        pub mam2_wrong : (fault : TagFault) (r : Reacted) → v ≡ Err fault → Turned r fault
             → LetsIn (mam2_checked keys held m) (mam2_purpose keys held m) r
         mam2_wrong fault r x t = turns_away _ (mam2_purpose keys held m) r fault (mam2_judged ∙ x) t
 
-        pub mam2_fine : (purpose : ℕ) (r : Reacted) → v ≡ Fine → purpose ≡ purpose_in b → Entering r purpose
+        pub mam2_fine : (purpose : ℕ) (r : Reacted) → v ≡ Ok tt → purpose ≡ purpose_in b → Entering r purpose
             → LetsIn (mam2_checked keys held m) (mam2_purpose keys held m) r
         mam2_fine purpose r x q t =
             let told : purpose ≡ mam2_purpose keys held m =
             q ∙ ap purpose_in (be ∙ (λ j. aes_enc (ke j).enc (e j).iresponse)) in
-            lets_in_lem _ (mam2_purpose keys held m) r (mam2_judged ∙ x) (t.0 ∙ ap Entered told, t.1)
+            lets_in_lem _ (mam2_purpose keys held m) r (mam2_judged ∙ x) (t.0 ∙ ap (λ n. Ok (Entered n)) told, t.1)
 
 -- ---- IAM3
 
 -- its blocks are there once its fields were judged
-pub iam3_whole_lem : (terms : Terms) (k : Key) (m : List ℕ) (f : Iam3Fields) (v : Checked)
-    → v ≡ judged (iam3_field_checks terms k m) → v ≡ Fine → f ≡ iam3_of m
+pub iam3_whole_lem : (terms : Terms) (k : Key) (m : List ℕ) (f : Iam3Fields) (v : Result Unit TagFault)
+    → v ≡ judged (iam3_field_checks terms k m) → v ≡ Ok tt → f ≡ iam3_of m
     → iam3_head_length + blocks_length f.custom.blocksize true f.custom.blockcount ≤ length m
 unfolding iam3_length iam3_mac_at
 iam3_whole_lem terms k m f v w x e =
@@ -133,16 +132,16 @@ iam3_whole_lem terms k m f v w x e =
 
 -- what the proof decides
 by_proof : (t : Bool) (purpose : ℕ) (stored : Area → List ℕ → List ℕ) (i u : List ℕ) (r : Reacted) (i' u' : List ℕ)
-    → r.outcome ≡ pick t (Entered purpose) (Refused ProofWrong) → r.session ≡ pick t entered cleared
+    → r.outcome ≡ pick t (Ok (Entered purpose)) (Err ProofWrong) → r.session ≡ pick t entered cleared
     → i' ≡ pick t (stored Identity i) i → u' ≡ pick t (stored User u) u
-    → Writes (pick t Fine (Wrong ProofWrong)) purpose stored i u r i' u'
+    → Writes (pick t (Ok tt) (Err ProofWrong)) purpose stored i u r i' u'
 by_proof true purpose stored i u r i' u' o s p q =
     record { lets_in = record { outcome = o; session = s }; in_identity = p; in_user = q }
 by_proof false purpose stored i u r i' u' o s p q =
     record { lets_in = record { outcome = o; session = s }; in_identity = p; in_user = q }
 
 module _ (setup : Setup) (held : Session) (m : List ℕ) (k : Key) (ke : k ≡ key_with held.keyid setup.keys)
-    (v : Checked) (w : v ≡ judged (iam3_field_checks (terms_of setup) k m)) (i u : List ℕ)
+    (v : Result Unit TagFault) (w : v ≡ judged (iam3_field_checks (terms_of setup) k m)) (i u : List ℕ)
   where
     abbrev named : Key
     named = key_with held.keyid setup.keys
@@ -154,15 +153,15 @@ module _ (setup : Setup) (held : Session) (m : List ℕ) (k : Key) (ke : k ≡ k
     Written = Writes (iam3_checked setup held m) (iam3_purpose setup held m) (iam3_stored setup held m) i u
 
     -- a fault of the fields is the fault of the message
-    pub iam3_refused : (fault : TagFault) (r : Reacted) → v ≡ Wrong fault → Turned r fault → Written r i u
+    pub iam3_refused : (fault : TagFault) (r : Reacted) → v ≡ Err fault → Turned r fault → Written r i u
     unfolding iam3_checks
     iam3_refused fault r x t =
-        let wrong : iam3_checked setup held m ≡ Wrong fault =
+        let wrong : iam3_checked setup held m ≡ Err fault =
         then_wrong _ fault (iam3_field_checks (terms_of setup) named m) (fields_judged ∙ x) in
         record {
           lets_in = turns_away _ (iam3_purpose setup held m) r fault wrong t;
-          in_identity = ap (λ (y : Checked). settled y (iam3_stored setup held m Identity i) (λ f. i)) (sym wrong);
-          in_user = ap (λ (y : Checked). settled y (iam3_stored setup held m User u) (λ f. u)) (sym wrong);
+          in_identity = ap (λ (y : Result Unit TagFault). settled y (iam3_stored setup held m Identity i) (λ f. i)) (sym wrong);
+          in_user = ap (λ (y : Result Unit TagFault). settled y (iam3_stored setup held m User u) (λ f. u)) (sym wrong);
         }
 
     module _ (f : Iam3Fields) (e : f ≡ iam3_of m) (b : Block) (be : b ≡ block_asked setup.profiles f.custom) where
@@ -172,17 +171,17 @@ module _ (setup : Setup) (held : Session) (m : List ℕ) (k : Key) (ke : k ≡ k
       abbrev proof : Bool
       proof = iam3_proof named held (iam3_of m) m
 
-      decides : iam3_checked setup held m ≡ pick proof Fine (Wrong ProofWrong) → v ≡ Fine → (r : Reacted)
+      decides : iam3_checked setup held m ≡ pick proof (Ok tt) (Err ProofWrong) → v ≡ Ok tt → (r : Reacted)
           (i' u' : List ℕ) → ProofDecides k held f b m i u r i' u' → Written r i' u'
       decides d x r i' u' h =
           let h1 = subst (λ (x : Key). ProofDecides x held f b m i u r i' u') ke h in
           let h2 = subst (λ (g : Iam3Fields). ProofDecides named held g b m i u r i' u') e h1 in
           let s = subst (λ (y : Block). ProofDecides named held (iam3_of m) y m i u r i' u') asked h2 in
-          subst (λ (y : Checked). Writes y (iam3_purpose setup held m) (iam3_stored setup held m) i u r i' u') (sym d)
+          subst (λ (y : Result Unit TagFault). Writes y (iam3_purpose setup held m) (iam3_stored setup held m) i u r i' u') (sym d)
           (by_proof proof (iam3_purpose setup held m) (iam3_stored setup held m) i u r i' u' s.outcome s.session
           s.in_identity s.in_user)
 
-      pub iam3_settled : (r : Reacted) (i' u' : List ℕ) → v ≡ Fine → ProofDecides k held f b m i u r i' u'
+      pub iam3_settled : (r : Reacted) (i' u' : List ℕ) → v ≡ Ok tt → ProofDecides k held f b m i u r i' u'
           → Written r i' u'
       unfolding iam3_checks judged_to
       iam3_settled r i' u' x h =

@@ -1,4 +1,5 @@
 -- What is known of an IAM3 whose fields were judged: the ProtMode, the length, the block.
+use Rattle.std.specs.Prelude.{Ok}
 use Prim.Native.Nat.{ℕ}
 use mathlib.Core.Path.{◌≡◌}
 use mathlib.Core.Bool.{true, false}
@@ -12,14 +13,13 @@ use Rattle.sheet.specs.declared.Terms.{Terms}
 use Rattle.frames.specs.declared.Kind.TheVariants.{Iam3}
 use Rattle.frames.specs.Messages.{iam3_of}
 use Rattle.frames.specs.Lengths.{iam3_fields_length, iam3_length, length_fits, iam3_length_fits}
-use Rattle.offer.specs.declared.Checked.TheVariants.{Fine}
 use Rattle.offer.specs.Checks.{judged}
 use Rattle.offer.specs.Records.{size_offered, mode_supported, slot_named, block_asked}
 use Rattle.offer.proofs.Lines.{first_holds, others_hold}
 use Rattle.offer.proofs.Passed.{Supported, both_second, mode_named}
 use Rattle.entry.specs.Judged.{iam3_field_checks}
 
-module _ (terms : Terms) (key : Key) (m : List ℕ) (h : judged (iam3_field_checks terms key m) ≡ Fine) where
+module _ (terms : Terms) (key : Key) (m : List ℕ) (h : judged (iam3_field_checks terms key m) ≡ Ok tt) where
   pub iam3_mode : mode_supported terms.features key (iam3_of m).protmode ≡ true
   iam3_mode = first_holds _ _ (others_hold _ _ h)
 

@@ -1,4 +1,5 @@
 -- The parts of an IAM3 as it was sent, and what is opened of them.
+use Rattle.std.specs.Prelude.{Some, None}
 use mathlib.Core.Path.{◌≡◌, sym, ap, ◌∙◌}
 use mathlib.Core.Bool.{Bool, true, false}
 use mathlib.Core.List.{List, ◌++◌}
@@ -21,7 +22,6 @@ use Rattle.frames.specs.Messages.{iam3_of}
 use Rattle.frames.proofs.Bounds.{blocks_most}
 use Rattle.frames.proofs.Range.{custom_range}
 use Rattle.frames.specs.declared.ProtMode.{ProtMode}
-use Rattle.frames.specs.declared.ProtModeField.TheVariants.{Mode, NoMode}
 use Rattle.frames.specs.Modes.{encrypts, prot_mode_of}
 use Rattle.payload.proofs.Lengths.{blocks_whole, cbc_dec_long}
 use Rattle.payload.proofs.Overs.{over_taken}
@@ -97,7 +97,7 @@ module _ (key : Key) (mode : ProtMode) (f : Iam3) (m : List ℕ) where
 
 -- what the mode of the field decides
 module _ (key : Key) (held : Session) (mode : ProtMode) (f : Iam3) (m : List ℕ)
-    (named : prot_mode_of f.protmode ≡ Mode mode) where
+    (named : prot_mode_of f.protmode ≡ Some mode) where
   pub opened_named : opened_data key f m ≡ opened_in key mode f m
   unfolding opened_data
   opened_named = rw named
@@ -106,7 +106,7 @@ module _ (key : Key) (held : Session) (mode : ProtMode) (f : Iam3) (m : List ℕ
   unfolding iam3_proof
   proof_named = rw named
 
-pub nothing_proved : (key : Key) (held : Session) (f : Iam3) (m : List ℕ) → prot_mode_of f.protmode ≡ NoMode
+pub nothing_proved : (key : Key) (held : Session) (f : Iam3) (m : List ℕ) → prot_mode_of f.protmode ≡ None
     → iam3_proof key held f m ≡ false
 unfolding iam3_proof
 nothing_proved key held f m none = rw none

@@ -1,9 +1,10 @@
 -- No second answer fits the contract of an exported function: of IAM3 also both areas are determined.
+use Rattle.std.specs.Prelude.{Result}
+use Rattle.offer.specs.declared.TagFault.{TagFault}
 use mathlib.Core.Path.{◌≡◌, refl}
 use mathlib.Core.List.{List}
 use Prim.Native.Nat.{ℕ}
 use Rattle.ground.specs.OneAnswer.{OneAnswer, one, ◌&◌}
-use Rattle.offer.specs.declared.Checked.{Checked}
 use Rattle.entry.specs.declared.Session.{Session}
 use Rattle.entry.specs.declared.Reacted.{Reacted}
 use Rattle.entry.specs.declared.Challenged.{Challenged}
@@ -29,7 +30,7 @@ cleared_one κs a x y v w p q = (one p q, refl)
 pub refused_one : OneAnswer 0 refused-kinds.ps refused-kinds.r refused.Post
 refused_one κs a x y v w p q = ((λ j. record { outcome = one p.0 q.0 j; session = one p.1 q.1 j }), refl)
 
-challenged_one : (v : Checked) (bytes : List ℕ) (next : Session) (x y : Challenged) → Challenges v bytes next x
+challenged_one : (v : Result Unit TagFault) (bytes : List ℕ) (next : Session) (x y : Challenged) → Challenges v bytes next x
     → Challenges v bytes next y → x ≡ y
 challenged_one v bytes next x y p q = λ j. record {
   outcome = one p.outcome q.outcome j;
@@ -43,7 +44,7 @@ iam1_one κs a x y v w p q = (challenged_one _ _ _ x y p q, refl)
 pub mam1_one : OneAnswer 2 mam1-kinds.ps mam1-kinds.r mam1.Post
 mam1_one κs a x y v w p q = (challenged_one _ _ _ x y p q, refl)
 
-reacted_one : (v : Checked) (purpose : ℕ) (x y : Reacted) → LetsIn v purpose x → LetsIn v purpose y → x ≡ y
+reacted_one : (v : Result Unit TagFault) (purpose : ℕ) (x y : Reacted) → LetsIn v purpose x → LetsIn v purpose y → x ≡ y
 reacted_one v purpose x y p q = λ j. record {
   outcome = one p.outcome q.outcome j;
   session = one p.session q.session j;

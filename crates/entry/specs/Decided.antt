@@ -1,5 +1,6 @@
 -- What is left of an IAM3 once its fields were judged: the proof alone decides.
-use Rattle.std.specs.Prelude.{ℕ, ◌≡◌, List}
+use Rattle.std.specs.Prelude.{ℕ, ◌≡◌, List, Ok, Err}
+use Rattle.offer.specs.declared.Answer.TheVariants.{Entered}
 use Rattle.ground.specs.Choice.{pick}
 use Rattle.aes.specs.AesEnc.{aes_enc}
 use Rattle.memory.specs.declared.Area.{Area}
@@ -9,7 +10,6 @@ use Rattle.memory.specs.Areas.{stored_in}
 use Rattle.sheet.specs.declared.Key.{Key}
 use Rattle.frames.specs.declared.Iam3.{Iam3}
 use Rattle.offer.specs.declared.TagFault.TheVariants.{ProofWrong}
-use Rattle.offer.specs.declared.Outcome.TheVariants.{Entered, Refused}
 use Rattle.entry.specs.declared.Session.{Session}
 use Rattle.entry.specs.declared.Reacted.{Reacted}
 use Rattle.entry.specs.Sessions.{cleared, entered}
@@ -23,7 +23,7 @@ module _ (key : Key) (held : Session) (f : Iam3) (block : Block) (m : List ℕ) 
   stored_words area s = stored_in area block (words_in f.custom (opened_data key f m)) s
 
   pub record ProofDecides (identity user : List ℕ) (r : Reacted) (i u : List ℕ) : Type 0 where
-    pub outcome : r.outcome ≡ decided (Entered (purpose_in (aes_enc key.enc (sent_block m)))) (Refused ProofWrong)
+    pub outcome : r.outcome ≡ decided (Ok (Entered (purpose_in (aes_enc key.enc (sent_block m))))) (Err ProofWrong)
     pub session : r.session ≡ decided entered cleared
     pub in_identity : i ≡ decided (stored_words Identity identity) identity
     pub in_user : u ≡ decided (stored_words User user) user

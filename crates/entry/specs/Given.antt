@@ -1,5 +1,7 @@
 -- What each message of IAM and MAM comes to: what is judged of it, and what follows where nothing is refused.
-use Rattle.std.specs.Prelude.{ℕ, ◌≡◌, List, drop, replicate}
+use Rattle.std.specs.Prelude.{ℕ, ◌≡◌, List, drop, replicate, Result, Ok, Err}
+use Rattle.offer.specs.declared.Answer.TheVariants.{Entered}
+use Rattle.offer.specs.declared.TagFault.{TagFault}
 use Rattle.aes.specs.AesEnc.{aes_enc}
 use Rattle.modes.specs.Room.{over}
 use Rattle.memory.specs.declared.Area.{Area}
@@ -9,8 +11,6 @@ use Rattle.sheet.specs.declared.Key.{Key}
 use Rattle.sheet.specs.Setups.{Setup}
 use Rattle.frames.specs.declared.Kind.TheVariants.{Iam1, Mam1}
 use Rattle.frames.specs.Messages.{iam1_of, iam2_of, iam3_of, mam1_of, mam2_of}
-use Rattle.offer.specs.declared.Outcome.TheVariants.{Entered, Refused}
-use Rattle.offer.specs.declared.Checked.{Checked}
 use Rattle.offer.specs.Outcomes.{settled, sending, sent}
 use Rattle.offer.specs.Checks.{judged}
 use Rattle.offer.specs.Judged.{opening_checks}
@@ -26,7 +26,7 @@ use Rattle.entry.specs.Opened.{purpose_in, opened_data, words_in, sent_block}
 use Rattle.entry.specs.Judged.{iam2_checks, iam3_checks, mam2_checks}
 
 -- 9.5.2, 9.5.3: the challenge is the ten draws, and is kept with the KeyID.
-abbrev pub iam1_checked : List Key → List ℕ → Checked
+abbrev pub iam1_checked : List Key → List ℕ → Result Unit TagFault
 iam1_checked keys m = let f = iam1_of m in judged (opening_checks Iam1 f.rfu f.keyid keys m)
 
 abbrev pub iam1_held : List ℕ → List ℕ → Session
@@ -38,7 +38,7 @@ iam1_held m draws = record {
 }
 
 -- 9.6.2, 9.6.3: also the last 32 bits of the reader's challenge are kept.
-abbrev pub mam1_checked : List Key → List ℕ → Checked
+abbrev pub mam1_checked : List Key → List ℕ → Result Unit TagFault
 mam1_checked keys m = let f = mam1_of m in judged (opening_checks Mam1 f.rfu f.keyid keys m)
 
 abbrev pub mam1_sent : List Key → List ℕ → List ℕ → List ℕ
@@ -54,14 +54,14 @@ mam1_held m draws = record {
 
 module _ (keys : List Key) (held : Session) (m : List ℕ) where
   -- 9.5.5, 9.5.6
-  abbrev pub iam2_checked : Checked
+  abbrev pub iam2_checked : Result Unit TagFault
   iam2_checked = judged (iam2_checks keys held m)
 
   abbrev pub iam2_purpose : ℕ
   iam2_purpose = purpose_in (aes_enc (key_with held.keyid keys).enc (iam2_of m).iresponse)
 
   -- 9.6.5, 9.6.6
-  abbrev pub mam2_checked : Checked
+  abbrev pub mam2_checked : Result Unit TagFault
   mam2_checked = judged (mam2_checks keys held m)
 
   abbrev pub mam2_purpose : ℕ
@@ -69,7 +69,7 @@ module _ (keys : List Key) (held : Session) (m : List ℕ) where
 
 module _ (setup : Setup) (held : Session) (m : List ℕ) where
   -- 9.5.8, 9.5.9: after everything was judged the words of the block are written, and no others.
-  abbrev pub iam3_checked : Checked
+  abbrev pub iam3_checked : Result Unit TagFault
   iam3_checked = judged (iam3_checks setup held m)
 
   abbrev pub iam3_purpose : ℕ
@@ -86,18 +86,18 @@ abbrev pub challenge_room : ℕ
 challenge_room = 22
 
 -- What is given to a message that asks for a challenge: numbers 1 to 6 end in Initial.
-pub record Challenges (v : Checked) (bytes : List ℕ) (next : Session) (r : Challenged) : Type 0 where
+pub record Challenges (v : Result Unit TagFault) (bytes : List ℕ) (next : Session) (r : Challenged) : Type 0 where
   pub outcome : r.outcome ≡ sending v bytes
   pub session : r.session ≡ settled v next (λ f. cleared)
   pub reply : r.reply ≡ over (sent v bytes) (replicate challenge_room 0)
 
 -- What is given to a message that ends an authentication: the reader is let in, with its Purpose for the host.
-pub record LetsIn (v : Checked) (purpose : ℕ) (r : Reacted) : Type 0 where
-  pub outcome : r.outcome ≡ settled v (Entered purpose) Refused
+pub record LetsIn (v : Result Unit TagFault) (purpose : ℕ) (r : Reacted) : Type 0 where
+  pub outcome : r.outcome ≡ settled v (Ok (Entered purpose)) Err
   pub session : r.session ≡ settled v entered (λ f. cleared)
 
 -- The same, and what the areas hold afterwards: a refusal writes no word.
-pub record Writes (v : Checked) (purpose : ℕ) (stored : Area → List ℕ → List ℕ) (identity user : List ℕ) (r : Reacted)
+pub record Writes (v : Result Unit TagFault) (purpose : ℕ) (stored : Area → List ℕ → List ℕ) (identity user : List ℕ) (r : Reacted)
     (i u : List ℕ) : Type 0
   where
     pub lets_in : LetsIn v purpose r

@@ -8,64 +8,64 @@ use frames::fields::iam3_of;
 use frames::sizes::length_fits;
 use frames::{Iam3, Kind};
 use memory::Block;
-use offer::{Checked, TagFault, records};
+use offer::{TagFault, records};
 use sheet::{Key, Slot, Terms};
 
 /// IAM2, MAM2: length, RFU, and the proof, which the caller worked out.
 ///
 /// Ruled out: a wrong proof told before an RFU bit; a message of another length let in by its proof.
-pub fn closing(proof: bool, rfu: u8, kind: Kind, m: &[u8]) -> Checked
+pub fn closing(proof: bool, rfu: u8, kind: Kind, m: &[u8]) -> Result<(), TagFault>
     ensures { result ≡ judged (closing_checks proof rfu kind m.now) }
 {
     if !length_fits(kind, m) {
-        return Checked::Wrong(TagFault::OtherError);
+        return Err(TagFault::OtherError);
     }
     if rfu != 0 {
-        return Checked::Wrong(TagFault::NotSupported);
+        return Err(TagFault::NotSupported);
     }
     if proof {
-        return Checked::Fine;
+        return Ok(());
     }
-    Checked::Wrong(TagFault::ProofWrong)
+    Err(TagFault::ProofWrong)
 }
 
 // IAM3: profile, right, memory, lock. A block size that is not offered counts as memory.
-fn iam3_block(terms: Terms, key: Key, f: Iam3, slot: Slot, block: Block) -> Checked
+fn iam3_block(terms: Terms, key: Key, f: Iam3, slot: Slot, block: Block) -> Result<(), TagFault>
     ensures { result ≡ judged (iam3_block_checks terms key f slot block) }
 {
     let custom = f.custom;
     if !slot.present {
-        return Checked::Wrong(TagFault::NotSupported);
+        return Err(TagFault::NotSupported);
     }
     if !memory::permits(key.mpi, custom.profile) {
-        return Checked::Wrong(TagFault::NotSupported);
+        return Err(TagFault::NotSupported);
     }
     let features = terms.features;
     let size = custom.blocksize;
     if !records::size_offered(features, size) {
-        return Checked::Wrong(TagFault::MemoryOverrun);
+        return Err(TagFault::MemoryOverrun);
     }
     let profile = slot.profile;
     if !memory::fits(profile, block) {
-        return Checked::Wrong(TagFault::MemoryOverrun);
+        return Err(TagFault::MemoryOverrun);
     }
     let locks = terms.locks.table;
     if memory::locked(locks, terms.locks.count, block) {
-        return Checked::Wrong(TagFault::MemoryWriteError);
+        return Err(TagFault::MemoryWriteError);
     }
-    Checked::Fine
+    Ok(())
 }
 
 // IAM3, all between the length and the proof: ProtMode, RFU, and the block.
-fn iam3_middle(terms: Terms, key: Key, f: Iam3) -> Checked
+fn iam3_middle(terms: Terms, key: Key, f: Iam3) -> Result<(), TagFault>
     ensures { result ≡ judged (iam3_middle_checks terms key f) }
 {
     let features = terms.features;
     if !records::mode_supported(features, key, f.protmode) {
-        return Checked::Wrong(TagFault::NotSupported);
+        return Err(TagFault::NotSupported);
     }
     if f.rfu != 0 {
-        return Checked::Wrong(TagFault::NotSupported);
+        return Err(TagFault::NotSupported);
     }
     let custom = f.custom;
     let profiles = terms.profiles;
@@ -76,11 +76,11 @@ fn iam3_middle(terms: Terms, key: Key, f: Iam3) -> Checked
 /// IAM3, all but its proof, with the record that is held: length, ProtMode, RFU, profile, right, memory, lock.
 ///
 /// Ruled out: a locked word told before a block past its profile; ProtMode 4 refused for its length.
-pub fn iam3_fields(terms: Terms, key: Key, m: &[u8]) -> Checked
+pub fn iam3_fields(terms: Terms, key: Key, m: &[u8]) -> Result<(), TagFault>
     ensures { result ≡ judged (iam3_field_checks terms key m.now) }
 {
     if !length_fits(Kind::Iam3, m) {
-        return Checked::Wrong(TagFault::OtherError);
+        return Err(TagFault::OtherError);
     }
     iam3_middle(terms, key, iam3_of(m))
 }

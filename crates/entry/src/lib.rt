@@ -12,7 +12,7 @@ ghost use Rattle.entry.specs.Given.{iam3_stored, mam1_checked, mam1_sent, mam1_h
 
 use frames::Kind;
 use frames::fields::{iam1_of, iam2_of, iam3_of, mam1_of, mam2_of};
-use offer::{Checked, Outcome, TagFault, records};
+use offer::{Answer, Outcome, TagFault, records};
 use sheet::Terms;
 
 mod judged; // judged.rt: the checks of IAM2, MAM2 and IAM3, in their order
@@ -84,31 +84,31 @@ fn entered() -> Session
 ///
 /// Ruled out: another number; a state that stays.
 pub fn refused(fault: TagFault) -> Reacted
-    ensures { (result.outcome ≡ Outcome.Refused fault) × (result.session ≡ cleared) }
+    ensures { (result.outcome ≡ Err fault) × (result.session ≡ cleared) }
 {
     Reacted {
-        outcome: Outcome::Refused(fault),
+        outcome: Err(fault),
         session: cleared(),
     }
 }
 
 // The reader is let in (9.5.6, 9.5.9, 9.6.6).
 fn let_in(purpose: u8) -> Reacted
-    ensures { (result.outcome ≡ Outcome.Entered purpose) × (result.session ≡ entered) }
+    ensures { (result.outcome ≡ Ok (Answer.Entered purpose)) × (result.session ≡ entered) }
 {
     Reacted {
-        outcome: Outcome::Entered(purpose),
+        outcome: Ok(Answer::Entered(purpose)),
         session: entered(),
     }
 }
 
 // No challenge for a message that is refused.
 fn unchallenged(fault: TagFault) -> Challenged
-    ensures { (result.outcome ≡ Outcome.Refused fault) × (result.session ≡ cleared)
+    ensures { (result.outcome ≡ Err fault) × (result.session ≡ cleared)
         × (result.reply ≡ replicate challenge_room 0) }
 {
     Challenged {
-        outcome: Outcome::Refused(fault),
+        outcome: Err(fault),
         session: cleared(),
         reply: [0u8; 22],
     }
@@ -123,13 +123,13 @@ pub fn iam1(keys: &[u8], message: &[u8], draws: [u8; 10]) -> Challenged
 {
     let f = iam1_of(message);
     let verdict = offer::judged::opening(keys, Kind::Iam1, f.rfu, f.keyid, message);
-    if let Checked::Wrong(fault) = verdict {
+    if let Err(fault) = verdict {
         return unchallenged(fault);
     }
     let mut reply = [0u8; 22];
     reply[..10].copy_from_slice(&draws);
     Challenged {
-        outcome: Outcome::Replied(10),
+        outcome: Ok(Answer::Replied(10)),
         session: Session {
             state: State::IamInit,
             keyid: f.keyid,
@@ -150,7 +150,7 @@ pub fn mam1(keys: &[u8], message: &[u8], draws: [u8; 10]) -> Challenged
 {
     let f = mam1_of(message);
     let verdict = offer::judged::opening(keys, Kind::Mam1, f.rfu, f.keyid, message);
-    if let Checked::Wrong(fault) = verdict {
+    if let Err(fault) = verdict {
         return unchallenged(fault);
     }
     let found = keytable::find(keys, f.keyid);
@@ -158,7 +158,7 @@ pub fn mam1(keys: &[u8], message: &[u8], draws: [u8; 10]) -> Challenged
     let reply = replies::mam1_reply(key, f, draws);
     let c = f.ichallenge;
     Challenged {
-        outcome: Outcome::Replied(22),
+        outcome: Ok(Answer::Replied(22)),
         session: Session {
             state: State::MamInit,
             keyid: f.keyid,
@@ -184,7 +184,7 @@ pub fn iam2(keys: &[u8], held: Session, message: &[u8]) -> Reacted
     let b = aes::encrypt(enc, iresponse);
     let proof = opened::iam_proof(0xDA8, held, b);
     let verdict = judged::closing(proof, f.rfu, Kind::Iam2, message);
-    if let Checked::Wrong(fault) = verdict {
+    if let Err(fault) = verdict {
         return refused(fault);
     }
     let_in(opened::purpose(b))
@@ -205,7 +205,7 @@ pub fn mam2(keys: &[u8], held: Session, message: &[u8]) -> Reacted
     let b = aes::encrypt(enc, iresponse);
     let proof = opened::mam_proof(held, b);
     let verdict = judged::closing(proof, f.rfu, Kind::Mam2, message);
-    if let Checked::Wrong(fault) = verdict {
+    if let Err(fault) = verdict {
         return refused(fault);
     }
     let_in(opened::purpose(b))
@@ -230,7 +230,7 @@ pub fn iam3(
     let found = keytable::find(keys, held.keyid);
     let key = found.key;
     let verdict = judged::iam3_fields(terms, key, message);
-    if let Checked::Wrong(fault) = verdict {
+    if let Err(fault) = verdict {
         return refused(fault);
     }
     let f = iam3_of(message);

@@ -17,7 +17,7 @@ use super::{Reacted, Session, let_in, refused};
 use frames::constants::iam3_constant;
 use frames::protection::{encrypts, prot_mode};
 use frames::sizes::{DATA_ROOM, blocks_length};
-use frames::{Custom, Iam3, ProtMode, ProtModeField};
+use frames::{Custom, Iam3, ProtMode};
 use memory::{Area, Block};
 use offer::TagFault;
 use sheet::Key;
@@ -107,7 +107,7 @@ fn open_data(key: Key, mode: ProtMode, f: Iam3, m: &[u8], out: &mut [u8])
     if encrypts(mode) {
         let enc = key.enc;
         let iv = field::first_block(&m[4..]);
-        modes::cbc_dec_aes(iv, enc, &m[20..end], out);
+        modes::cbc_dec_aes(iv, enc, &m[20..end], out).unwrap();
         return;
     }
     out[..end - 20].copy_from_slice(&m[20..end]);
@@ -163,7 +163,7 @@ fn iam3_in_mode(
     identity: &mut [u8],
     user: &mut [u8],
 ) -> Reacted
-    requires { (f ≡ iam3_of m.now) × (prot_mode_of f.protmode ≡ ProtModeField.Mode mode)
+    requires { (f ≡ iam3_of m.now) × (prot_mode_of f.protmode ≡ Some mode)
         × (iam3_head_length + blocks_length f.custom.blocksize true f.custom.blockcount ≤ length m.now) }
     ensures { ProofDecides key held f block m.now identity.old user.old result
         identity.new user.new }
@@ -199,10 +199,10 @@ pub fn iam3(
         identity.new user.new }
 {
     match prot_mode(f.protmode) {
-        ProtModeField::Mode(mode) => {
+        Some(mode) => {
             return iam3_in_mode(key, held, mode, f, block, m, identity, user);
         }
-        ProtModeField::NoMode => {
+        None => {
             return refused(TagFault::ProofWrong);
         }
     }

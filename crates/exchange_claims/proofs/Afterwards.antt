@@ -1,16 +1,15 @@
 -- What is next after a turn: a half that played its turn is not next.
+use Rattle.std.specs.Prelude.{Result, Ok, Err}
+use Rattle.offer.specs.Outcomes.{Outcome}
+use Rattle.offer.specs.declared.Answer.TheVariants.{Replied, Entered}
 use mathlib.Core.Path.{◌≡◌, refl, ap}
 use mathlib.Core.Bool.{Bool, true, false}
 use mathlib.Core.List.{List}
 use Prim.Native.Nat.{ℕ}
 use Rattle.ground.specs.Choice.{pick}
 use Rattle.offer.specs.declared.TagFault.{TagFault}
-use Rattle.offer.specs.declared.Outcome.{Outcome}
-use Rattle.offer.specs.declared.Outcome.TheVariants.{Replied, Entered, Refused}
 use Rattle.reader.specs.declared.ReaderFault.{ReaderFault}
 use Rattle.reader.specs.declared.ReaderFault.TheVariants.{OwnMessage}
-use Rattle.reader_judge.specs.declared.Verdict.{Verdict}
-use Rattle.reader_judge.specs.declared.Verdict.TheVariants.{Accepted, Refused as Rejected}
 use Rattle.plan.specs.declared.Plan.{Plan}
 use Rattle.turns.specs.declared.Next.{Next}
 use Rattle.turns.specs.declared.Next.TheVariants.{ReaderOpens, TagAnswers, ReaderCloses, TagEnds, Done}
@@ -35,16 +34,16 @@ module _ (P : Next → Bool) (v : Bool) where
     unfolding sends
     sends_next next s d h = chosen d.fit _ _ h (λ e. refused OwnMessage)
 
-    pub meets_next : (p : Plan) (words challenge : List ℕ) (s : Standing) (verdict : Verdict) → P TagEnds ≡ v
+    pub meets_next : (p : Plan) (words challenge : List ℕ) (s : Standing) (verdict : Result Unit ReaderFault) → P TagEnds ≡ v
         → P (meets p words challenge s verdict).next ≡ v
     unfolding meets proves
-    meets_next p words challenge s Accepted h = sends_next TagEnds _ _ h
-    meets_next p words challenge s (Rejected f) h = refused f
+    meets_next p words challenge s (Ok tt) h = sends_next TagEnds _ _ h
+    meets_next p words challenge s (Err f) h = refused f
 
-    verdict_next_lem : (verdict : Verdict) → P Done ≡ v → P (verdict_next verdict) ≡ v
+    verdict_next_lem : (verdict : Result Unit ReaderFault) → P Done ≡ v → P (verdict_next verdict) ≡ v
     unfolding verdict_next
-    verdict_next_lem Accepted h = h
-    verdict_next_lem (Rejected f) h = refused f
+    verdict_next_lem (Ok tt) h = h
+    verdict_next_lem (Err f) h = refused f
 
     -- a reply is judged, or waits for the reader where it does not end the exchange
     module _ (p : Plan) (s : Standing) (done : P Done ≡ v)
@@ -56,9 +55,9 @@ module _ (P : Next → Bool) (v : Bool) where
       pub replied_next : (room : List ℕ) (o : Outcome) → ((f : TagFault) → P (RefusedByTag f) ≡ v)
           → P (replied p s room o).next ≡ v
       unfolding replied
-      replied_next room (Replied n) k = received_next _
-      replied_next room (Entered purpose) k = received_next _
-      replied_next room (Refused f) k = k f
+      replied_next room (Ok (Replied n)) k = received_next _
+      replied_next room (Ok (Entered purpose)) k = received_next _
+      replied_next room (Err f) k = k f
 
 -- ---- the halves
 

@@ -1,4 +1,6 @@
 -- A TAM exchange is done after two turns: the opening is taken, and the reader's side recovers what the tag put in.
+use Rattle.std.specs.Prelude.{Ok}
+use Rattle.offer.specs.declared.Answer.TheVariants.{Replied}
 use mathlib.Core.Path.{◌≡◌, refl, sym, ap, ◌∙◌, subst}
 use mathlib.Core.Bool.{true}
 use mathlib.Core.List.{List}
@@ -19,7 +21,6 @@ use Rattle.frames.proofs.Shape.{tam1_shape, tam2_shape}
 use Rattle.frames.proofs.Taken.{tam2_taken}
 use Rattle.memory.specs.Areas.{window_of}
 use Rattle.keytable.specs.Named.{key_with}
-use Rattle.offer.specs.declared.Outcome.TheVariants.{Replied}
 use Rattle.offer.specs.Records.{block_asked}
 use Rattle.offer.proofs.Passed.{mode_named}
 use Rattle.entry.specs.Sessions.{cleared}
@@ -27,7 +28,6 @@ use Rattle.tag.specs.declared.Tag.{Tag}
 use Rattle.tag.specs.Answers.{Answer, replied, answer_with}
 use Rattle.tag.specs.States.{keyed, keyless}
 use Rattle.reader_build.specs.Builds.{tam1_made, tam2_made}
-use Rattle.reader_judge.specs.declared.Verdict.TheVariants.{Accepted}
 use Rattle.reader_judge.specs.Findings.{Finding, carries}
 use Rattle.plan.specs.declared.Method.{Method}
 use Rattle.turns.specs.declared.Found.{Found}
@@ -45,11 +45,11 @@ module _ (x : Setting) (limit : ℕ) (tag : Tag) (identity user : List ℕ) (eno
     (two : has_two x.plan.method ≡ true) (fit : (opening x.plan x.plan.method).fit ≡ true) (r : List ℕ)
     (e : answer x limit tag identity user
     ≡ answer_with (keyed tag x.keys).setup (replied (first_call x identity user) r cleared)) where
-  pub taken : (answer x limit tag identity user).outcome ≡ Replied (length (answer x limit tag identity user).reply)
+  pub taken : (answer x limit tag identity user).outcome ≡ Ok (Replied (length (answer x limit tag identity user).reply))
   unfolding replied
-  taken = ap (λ (z : Answer). z.outcome) e ∙ sym (ap (λ (z : Answer). Replied (length z.reply)) e)
+  taken = ap (λ (z : Answer). z.outcome) e ∙ sym (ap (λ (z : Answer). Ok (Replied (length z.reply))) e)
 
-  pub done : (f : Finding) → f.verdict ≡ Accepted → finding x limit tag identity user ≡ f
+  pub done : (f : Finding) → f.verdict ≡ Ok tt → finding x limit tag identity user ≡ f
       → DoneAfterTwo x (start x limit tag identity user) tag identity user f.bytes f.worth
   unfolding replied verdict_next
   done f good found = record {

@@ -1,4 +1,5 @@
 -- An opening of IAM or MAM that is out of its turn ends the exchange in the tag's turn.
+use Rattle.std.specs.Prelude.{Ok}
 use mathlib.Core.Path.{◌≡◌, refl, sym, ap, ap₂, ◌∙◌}
 use mathlib.Core.Bool.{Bool, true, false}
 use mathlib.Core.List.{List, [], ◌∷◌}
@@ -12,7 +13,6 @@ use Rattle.frames.specs.declared.Kind.{Kind}
 use Rattle.frames.specs.Kinds.{kind_of, iam_kind}
 use Rattle.frames.specs.Messages.{iam1_message}
 use Rattle.frames.proofs.Shape.{mam1_shape}
-use Rattle.offer.specs.declared.Checked.TheVariants.{Fine}
 use Rattle.offer.specs.declared.TagFault.TheVariants.{NotSupported, OutOfTurn}
 use Rattle.offer.specs.Checks.{judged}
 use Rattle.offer.specs.Judged.{lending_checks}
@@ -56,7 +56,7 @@ use Rattle.exchange_claims.proofs.TwoTurns.{whose_turn, start, sent, there, open
 -- a message that the tag offers, but out of its turn
 module _ (c : Call) (tag : KeyedTag) (kind : Kind)
     (bench : judged (lending_checks tag.setup.sizes (length c.draws) c.room (length c.identity)
-    (length c.user)) ≡ Fine)
+    (length c.user)) ≡ Ok tt)
     (known : offered tag.setup.features kind ≡ true) (turn : in_turn tag.session.state kind ≡ false) where
   of_message_lem : (m : List ℕ) → 1 ≤ length m → kind_of (byte_at m 0) ≡ kind
       → of_message c tag.setup tag.session m ≡ refused c OutOfTurn cleared

@@ -1,10 +1,10 @@
 -- Demand 1 for each turn: the reader's turn changes neither the tag nor an area; a turn that the tag refuses sends
 -- nothing, writes no word, and leaves the tag as demand 1 says.
+use Rattle.std.specs.Prelude.{Err}
 use mathlib.Core.Path.{◌≡◌, refl, ap}
 use mathlib.Core.List.{List}
 use Prim.Native.Nat.{ℕ}
 use Rattle.offer.specs.declared.TagFault.{TagFault}
-use Rattle.offer.specs.declared.Outcome.TheVariants.{Refused}
 use Rattle.tag.specs.States.{keyed, keyless, session_after}
 use Rattle.tag.proofs.Unchanged.{refusal_unchanged}
 use Rattle.plan.specs.declared.Plan.{Plan}
@@ -21,7 +21,7 @@ pub record LeftAlone (f : TagFault) (t after : Table) : Type 0 where
   pub user : after.user ≡ t.user
 
 pub refused_turn : (p : Plan) (keys draws : List ℕ) (t : Table) (f : TagFault)
-    → (answer_in keys draws t).outcome ≡ Refused f → LeftAlone f t (answered p keys draws t)
+    → (answer_in keys draws t).outcome ≡ Err f → LeftAlone f t (answered p keys draws t)
 unfolding answered replied
 refused_turn p keys draws t f e =
     let u = refusal_unchanged _ (keyed t.tag keys) f e in

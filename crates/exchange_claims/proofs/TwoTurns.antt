@@ -1,4 +1,7 @@
 -- Two turns of an exchange: the reader opens, the tag answers, and the reply is judged in the tag's turn.
+use Rattle.std.specs.Prelude.{Ok}
+use Rattle.offer.specs.Outcomes.{Outcome}
+use Rattle.offer.specs.declared.Answer.TheVariants.{Replied}
 use mathlib.Core.Path.{◌≡◌, refl, ap, ◌∙◌}
 use mathlib.Core.Bool.{Bool, true, false}
 use mathlib.Core.List.{List}
@@ -10,8 +13,6 @@ use lib.Seq.{take_at}
 use Rattle.ground.specs.Choice.{pick}
 use Rattle.modes.specs.Room.{over}
 use Rattle.reader.specs.declared.ReaderFault.TheVariants.{OwnMessage}
-use Rattle.offer.specs.declared.Outcome.{Outcome}
-use Rattle.offer.specs.declared.Outcome.TheVariants.{Replied}
 use Rattle.tag.specs.declared.Tag.{Tag}
 use Rattle.tag.specs.Answers.{Answer, answer_of}
 use Rattle.tag.specs.Reactions.{lent}
@@ -87,7 +88,7 @@ module _ (x : Setting) (limit : ℕ) (tag : Tag) (identity user : List ℕ) wher
   abbrev pub after : Table
   after = table (ended_by sent reply finding) (keyless answer.tag) answer.identity answer.user
 
-  answers : 2 ≤ limit → has_two x.plan.method ≡ true → answer.outcome ≡ Replied (length answer.reply)
+  answers : 2 ≤ limit → has_two x.plan.method ≡ true → answer.outcome ≡ Ok (Replied (length answer.reply))
       → one_turn x (table sent tag identity user) ≡ after
   unfolding answered tags draws_of replied received ends_with ended finding_in
   answers enough two taken =
@@ -103,7 +104,7 @@ module _ (x : Setting) (limit : ℕ) (tag : Tag) (identity user : List ℕ) wher
 
   module _ (enough : 2 ≤ limit) (two : has_two x.plan.method ≡ true)
       (fit : (opening x.plan x.plan.method).fit ≡ true)
-      (taken : answer.outcome ≡ Replied (length answer.reply)) where
+      (taken : answer.outcome ≡ Ok (Replied (length answer.reply))) where
     pub after_one : played_of x 1 start ≡ table sent tag identity user
     unfolding by_turns
     after_one = played_turns x 1 start ∙ opens enough fit

@@ -1,9 +1,8 @@
 -- M-100 and Annex A: while a challenge waits for its answer, an exchange of IAM or MAM ends after two turns with the
 -- tag's 5, and leaves the tag in Initial; tried again, it is done after four (Done).
-use Rattle.std.specs.Prelude.{◌≡◌, true, false, List, ℕ, ◌+◌, ◌≤◌, length}
+use Rattle.std.specs.Prelude.{◌≡◌, true, false, List, ℕ, ◌+◌, ◌≤◌, length, Ok}
 use Rattle.frames.specs.declared.Kind.{Kind}
 use Rattle.frames.specs.declared.Kind.TheVariants.{Tam1, Tam2, Iam1, Mam1}
-use Rattle.offer.specs.declared.Checked.TheVariants.{Fine}
 use Rattle.offer.specs.declared.TagFault.TheVariants.{OutOfTurn}
 use Rattle.offer.specs.Checks.{judged}
 use Rattle.offer.specs.Judged.{lending_checks}
@@ -48,7 +47,7 @@ EndsOutOfTurn =
     → 2 ≤ limit
     → (let c = first_call x identity user in
     let setup = (keyed tag x.keys).setup in
-    judged (lending_checks setup.sizes (length c.draws) c.room (length identity) (length user)) ≡ Fine
+    judged (lending_checks setup.sizes (length c.draws) c.room (length identity) (length user)) ≡ Ok tt
     → offered setup.features (opening_kind x.plan.method) ≡ true
     → at_rest tag.session.state ≡ false
     → length x.plan.ichallenge ≡ 10

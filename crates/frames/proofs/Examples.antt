@@ -1,4 +1,5 @@
 -- Examples of the papers, computed.
+use Rattle.std.specs.Prelude.{Some, None}
 use mathlib.Core.Path.{◌≡◌, refl}
 use mathlib.Core.Bool.{true, false}
 use mathlib.Core.List.{List, [], ◌∷◌}
@@ -12,7 +13,6 @@ use Rattle.memory.specs.Address.{block_size_bit}
 use Rattle.frames.specs.Fields.{size_of, select_bytes, select_custom}
 use Rattle.frames.specs.Header.{header_start, header_of}
 use Rattle.frames.specs.Modes.{prot_mode_of, has_mac}
-use Rattle.frames.specs.declared.ProtModeField.TheVariants.{Mode, NoMode}
 use Rattle.frames.specs.declared.ProtMode.TheVariants.{Plaintext, Cbc, Cmac, CbcCmac}
 use Rattle.frames.specs.Lengths.{mac_length, iam3_mac_at, iam3_length, tam2_mac_at, tam2_reply_length}
 use Rattle.frames.specs.Messages.{tam2_message, iam3_of}
@@ -88,7 +88,7 @@ unfolding tam2_constant iam3_constant by_mode with_purpose
 constants = (refl, refl, refl, refl, refl, refl, refl)
 
 -- Table 3, row by row; 4 and 15 stand for the values that it leaves open
-pub modes : (prot_mode_of 0 ≡ Mode Plaintext) × (prot_mode_of 1 ≡ Mode Cbc) × (prot_mode_of 2 ≡ Mode Cmac)
-    × (prot_mode_of 3 ≡ Mode CbcCmac) × (prot_mode_of 4 ≡ NoMode) × (prot_mode_of 15 ≡ NoMode)
+pub modes : (prot_mode_of 0 ≡ Some Plaintext) × (prot_mode_of 1 ≡ Some Cbc) × (prot_mode_of 2 ≡ Some Cmac)
+    × (prot_mode_of 3 ≡ Some CbcCmac) × (prot_mode_of 4 ≡ None) × (prot_mode_of 15 ≡ None)
 unfolding prot_mode_of
 modes = (refl, refl, refl, refl, refl, refl)

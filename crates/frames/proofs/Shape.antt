@@ -1,4 +1,5 @@
 -- What is built has the kind and the length of its message.
+use Rattle.std.specs.Prelude.{Some}
 use mathlib.Core.Path.{◌≡◌, refl, ap, ◌∙◌}
 use mathlib.Core.Bool.{true}
 use mathlib.Core.List.{List, ◌++◌}
@@ -13,7 +14,6 @@ use Rattle.frames.specs.Header.{header_start, header_of}
 use Rattle.frames.specs.Kinds.{kind_of}
 use Rattle.frames.specs.Modes.{prot_mode_of}
 use Rattle.frames.specs.declared.ProtMode.{ProtMode}
-use Rattle.frames.specs.declared.ProtModeField.TheVariants.{Mode}
 use Rattle.frames.specs.Lengths.{
   tam1_length,
   tam2_length,
@@ -100,7 +100,7 @@ module _ (f : Iam3Fields) (long : length f.iresponse ≡ 16) where
 
   -- with its data blocks and its MAC behind it the message is as long as its fields say
   pub iam3_whole_lem : (rest : List ℕ) (mode : ProtMode) → f.rfu < 4 → custom_fits f.custom ≡ true
-      → f.protmode < 16 → prot_mode_of f.protmode ≡ Mode mode
+      → f.protmode < 16 → prot_mode_of f.protmode ≡ Some mode
       → length rest ≡ blocks_length f.custom.blocksize true f.custom.blockcount + mac_length mode
       → iam3_length_fits (iam3_head f ++ rest) ≡ true
   unfolding iam3_length_fits iam3_length iam3_mac_at

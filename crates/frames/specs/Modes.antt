@@ -1,23 +1,21 @@
 -- ProtMode: the four modes of Table 3, and what a field of four bits says.
-use Rattle.std.specs.Prelude.{ℕ, Bool, true, false, eqb}
+use Rattle.std.specs.Prelude.{ℕ, Bool, true, false, eqb, Option, Some, None}
 use Rattle.ground.specs.Choice.{pick}
 use Rattle.frames.specs.declared.ProtMode.{ProtMode}
 use Rattle.frames.specs.declared.ProtMode.TheVariants.{Plaintext, Cbc, Cmac, CbcCmac}
-use Rattle.frames.specs.declared.ProtModeField.{ProtModeField}
-use Rattle.frames.specs.declared.ProtModeField.TheVariants.{Mode, NoMode}
 
 -- Table 3
-unfoldable pub prot_mode_of : ℕ → ProtModeField
+unfoldable pub prot_mode_of : ℕ → Option ProtMode
 prot_mode_of protmode =
-    pick (eqb protmode 0) (Mode Plaintext)
-    (pick (eqb protmode 1) (Mode Cbc)
-    (pick (eqb protmode 2) (Mode Cmac)
-    (pick (eqb protmode 3) (Mode CbcCmac) NoMode)))
+    pick (eqb protmode 0) (Some Plaintext)
+    (pick (eqb protmode 1) (Some Cbc)
+    (pick (eqb protmode 2) (Some Cmac)
+    (pick (eqb protmode 3) (Some CbcCmac) None)))
 
 -- what follows from a mode; and what where the field says none
-abbrev pub in_mode : {A : Type 0} → ProtModeField → (ProtMode → A) → A → A
-in_mode (Mode mode) of none = of mode
-in_mode NoMode of none = none
+abbrev pub in_mode : {A : Type 0} → Option ProtMode → (ProtMode → A) → A → A
+in_mode (Some mode) of none = of mode
+in_mode None of none = none
 
 -- Table 3: CBC encrypts
 unfoldable pub encrypts : ProtMode → Bool

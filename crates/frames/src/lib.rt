@@ -34,13 +34,6 @@ pub enum ProtMode {
     CbcCmac,
 }
 
-// What a field ProtMode says. Table 3 leaves 4 to 15 to later editions and to makers: no mode of this suite.
-#[derive(Clone, Copy)]
-pub enum ProtModeField {
-    Mode(ProtMode),
-    NoMode,
-}
-
 // The custom data that a message names (9.2). Profile has 4 bits, Offset 12, BlockCount 4.
 #[derive(Clone, Copy)]
 pub struct Custom {

@@ -2,25 +2,25 @@
 ghost use Rattle.std.specs.Prelude.{◌≡◌};
 ghost use Rattle.frames.specs.Modes.{prot_mode_of, encrypts, has_mac};
 
-use super::{ProtMode, ProtModeField};
+use super::{ProtMode};
 
-// The mode of a field ProtMode (Table 3). Ruled out: 1 and 2 exchanged, and 4 taken for a mode.
-pub fn prot_mode(protmode: u8) -> ProtModeField
+// The mode of a field ProtMode. Table 3 leaves 4 to 15 to later editions and to makers: no mode of this suite. Ruled out: 1 and 2 exchanged, and 4 taken for a mode.
+pub fn prot_mode(protmode: u8) -> Option<ProtMode>
     ensures { result ≡ prot_mode_of protmode }
 {
     if protmode == 0 {
-        return ProtModeField::Mode(ProtMode::Plaintext);
+        return Some(ProtMode::Plaintext);
     }
     if protmode == 1 {
-        return ProtModeField::Mode(ProtMode::Cbc);
+        return Some(ProtMode::Cbc);
     }
     if protmode == 2 {
-        return ProtModeField::Mode(ProtMode::Cmac);
+        return Some(ProtMode::Cmac);
     }
     if protmode == 3 {
-        return ProtModeField::Mode(ProtMode::CbcCmac);
+        return Some(ProtMode::CbcCmac);
     }
-    ProtModeField::NoMode
+    None
 }
 
 // Are the data chained? Ruled out: ProtMode 2 chained, and ProtMode 3 not.

@@ -14,7 +14,7 @@ ghost use Rattle.frames.specs.Lengths.{
 
 use super::fields::iam3_of;
 use super::protection::{has_mac, prot_mode};
-use super::{Custom, Kind, ProtMode, ProtModeField};
+use super::{Custom, Kind, ProtMode};
 use memory::{Block, BlockSize, Profile, address};
 
 // The scope paper's rooms: for any reply, for any message, and for header and data of nine blocks; and the most data
@@ -128,8 +128,8 @@ fn iam3_length_fits(m: &[u8]) -> bool
     let custom = f.custom;
     let size = custom.blocksize;
     match prot_mode(f.protmode) {
-        ProtModeField::Mode(mode) => m.len() == iam3_length(size, custom.blockcount, mode),
-        ProtModeField::NoMode => true,
+        Some(mode) => m.len() == iam3_length(size, custom.blockcount, mode),
+        None => true,
     }
 }
 

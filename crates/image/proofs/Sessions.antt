@@ -1,4 +1,5 @@
 -- What a tag holds fits an image, from power-up on: its challenges have their lengths, and at rest nothing is held.
+use Rattle.std.specs.Prelude.{Result}
 use mathlib.Core.Path.{◌≡◌, refl, ap, ◌∙◌, subst}
 use mathlib.Core.Bool.{Bool, true, false}
 use Prim.Native.Nat.{ℕ, ◌-◌}
@@ -14,7 +15,6 @@ use Rattle.frames.specs.Kinds.{kind_of}
 use Rattle.frames.specs.Messages.{mam1_of}
 use Rattle.offer.specs.declared.TagFault.{TagFault}
 use Rattle.offer.specs.declared.TagFault.TheVariants.{NotSupported, BenchFault}
-use Rattle.offer.specs.declared.Checked.{Checked}
 use Rattle.offer.specs.Judged.{lending_checks}
 use Rattle.offer.proofs.Lines.{fails}
 use Rattle.entry.specs.Sessions.{cleared, entered}
@@ -72,7 +72,7 @@ module _ (c : Call) where
     not_ten : eqb (length c.draws) 10 ≡ false → Fits (answer_of c tag).tag.session
     unfolding effect_of lending_checks refused
     not_ten e =
-        subst (λ (v : Checked). Fits (of_lending c tag.setup tag.session v).session) (fails BenchFault _ e) h
+        subst (λ (v : Result Unit TagFault). Fits (of_lending c tag.setup tag.session v).session) (fails BenchFault _ e) h
 
     by_draws : (b : Bool) → eqb (length c.draws) 10 ≡ b → Fits (answer_of c tag).tag.session
     by_draws true e = ten_drawn (eqb-true _ _ e)

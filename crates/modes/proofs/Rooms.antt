@@ -1,4 +1,6 @@
 -- The answers of the calls that write into a lent room, each test taken or left.
+use Rattle.std.specs.Prelude.{Ok, Err}
+use Rattle.modes.specs.declared.ChainingFault.TheVariants.{BlocksOrRoom}
 use mathlib.Core.Path.{◌≡◌, sym, ap, ap₂, ◌∙◌}
 use mathlib.Core.Bool.{Bool, true, false, false≢true}
 use mathlib.Core.List.{List, ◌++◌}
@@ -8,19 +10,18 @@ use lib.ListN.{length, drop}
 use borrow.Author.Tests.{eq-eqb, ne_eqb, le-leb, lt-leb, leb-true}
 use Rattle.ground.specs.Choice.{pick, both}
 use Rattle.modes.specs.Room.{Into, chains, macs, over}
-use Rattle.modes.specs.declared.Chaining.TheVariants.{Done, Refused}
 
-pub refused : (taken : Bool) (out room : List ℕ) → taken ≡ false → Into taken out room Refused room
+pub refused : (taken : Bool) (out room : List ℕ) → taken ≡ false → Into taken out room (Err BlocksOrRoom) room
 refused taken out room e = record {
-  says = ap (λ (b : Bool). pick b Done Refused) (sym e);
+  says = ap (λ (b : Bool). pick b (Ok tt) (Err BlocksOrRoom)) (sym e);
   number = ap (λ (b : Bool). pick b 0 8) (sym e);
   leaves = ap (λ (b : Bool). pick b (over out room) room) (sym e);
 }
 
 pub done : (taken : Bool) (out room after : List ℕ) → taken ≡ true → after ≡ over out room
-    → Into taken out room Done after
+    → Into taken out room (Ok tt) after
 done taken out room after e f = record {
-  says = ap (λ (b : Bool). pick b Done Refused) (sym e);
+  says = ap (λ (b : Bool). pick b (Ok tt) (Err BlocksOrRoom)) (sym e);
   number = ap (λ (b : Bool). pick b 0 8) (sym e);
   leaves = f ∙ ap (λ (b : Bool). pick b (over out room) room) (sym e);
 }

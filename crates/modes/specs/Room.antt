@@ -1,14 +1,14 @@
 -- What a chaining or MAC call answers, and what its room holds afterwards (the house rules' number 8).
-use Rattle.std.specs.Prelude.{◌≡◌, ℕ, ◌%◌, Bool, List, ◌++◌, eqb, leb, length, drop}
+use Rattle.std.specs.Prelude.{◌≡◌, ℕ, ◌%◌, Bool, List, ◌++◌, eqb, leb, length, drop, Result, Ok, Err}
+use Rattle.modes.specs.declared.ChainingFault.TheVariants.{BlocksOrRoom}
+use Rattle.modes.specs.declared.ChainingFault.{ChainingFault}
 use Rattle.ground.specs.Choice.{pick, both}
 use Rattle.modes.specs.Cmac.{mac_bytes}
-use Rattle.modes.specs.declared.Chaining.{Chaining}
-use Rattle.modes.specs.declared.Chaining.TheVariants.{Done, Refused}
 
 -- The house's number of an answer; 0 where nothing is refused.
-abbrev pub number_of : Chaining → ℕ
-number_of Done = 0
-number_of Refused = 8
+abbrev pub number_of : Result Unit ChainingFault → ℕ
+number_of (Ok tt) = 0
+number_of (Err BlocksOrRoom) = 8
 
 -- Chaining n bytes into a room of m is taken: they are whole blocks, and there is room for as many.
 abbrev pub chains : ℕ → ℕ → Bool
@@ -23,7 +23,7 @@ abbrev pub over : List ℕ → List ℕ → List ℕ
 over out room = out ++ drop (length out) room
 
 -- What a call that is taken, or is not, answers, and what it leaves in the room it was lent.
-pub record Into (taken : Bool) (out room : List ℕ) (answer : Chaining) (after : List ℕ) : Type 0 where
-  pub says : answer ≡ pick taken Done Refused
+pub record Into (taken : Bool) (out room : List ℕ) (answer : Result Unit ChainingFault) (after : List ℕ) : Type 0 where
+  pub says : answer ≡ pick taken (Ok tt) (Err BlocksOrRoom)
   pub number : number_of answer ≡ pick taken 0 8
   pub leaves : after ≡ pick taken (over out room) room

@@ -12,21 +12,20 @@ ghost use Rattle.modes.specs.Room.{Into, chains, macs, over, number_of};
 // one part, and a loop goes from part to part, so that no input takes more stack than the frames of sixteen blocks.
 pub const PART: usize = 256;
 
-// The answer of a call that writes into a lent room. Refused: nothing was written.
-#[derive(Clone, Copy)]
-pub enum Chaining {
-    Done,
-    Refused,
+// Why a call that writes into a lent room writes nothing: the house's number 8.
+#[derive(Clone, Copy, Debug, PartialEq, Eq)]
+pub enum ChainingFault {
+    BlocksOrRoom,
 }
 
 // The house's number of an answer: 8 for a refusal, 0 for none.
 // Ruled out: the two exchanged; another number for the refusal.
-pub fn number(c: Chaining) -> u8
-    ensures { result ≡ number_of c }
+pub fn number(answer: Result<(), ChainingFault>) -> u8
+    ensures { result ≡ number_of answer }
 {
-    match c {
-        Chaining::Done => 0,
-        Chaining::Refused => 8,
+    match answer {
+        Ok(()) => 0,
+        Err(ChainingFault::BlocksOrRoom) => 8,
     }
 }
 
@@ -43,49 +42,49 @@ pub fn takes(input: usize, room: usize) -> bool
 
 // CBC_ENC_AES (IV, key, data) into the first bytes of the room. Refused where the input is no whole number of blocks,
 // or the room is shorter than it. Ruled out: the chain taken from the input block; a byte written past the output.
-pub fn cbc_enc_aes(iv: [u8; 16], key: [u8; 16], input: &[u8], room: &mut [u8]) -> Chaining
+pub fn cbc_enc_aes(iv: [u8; 16], key: [u8; 16], input: &[u8], room: &mut [u8]) -> Result<(), ChainingFault>
     ensures { Into (chains (length input.now) (length room.old))
         (cbc_enc_aes iv key input.now) room.old result room.new }
 {
     if takes(input.len(), room.len()) {
         enc_parts(iv, key, input, room);
-        return Chaining::Done;
+        return Ok(());
     }
-    Chaining::Refused
+    Err(ChainingFault::BlocksOrRoom)
 }
 
 // CBC_DEC_AES (IV, key, data) into the first bytes of the room. Refused as cbc_enc_aes is.
 // Ruled out: the chain taken from the output block; AES-DEC in place of AES-ENC.
-pub fn cbc_dec_aes(iv: [u8; 16], key: [u8; 16], input: &[u8], room: &mut [u8]) -> Chaining
+pub fn cbc_dec_aes(iv: [u8; 16], key: [u8; 16], input: &[u8], room: &mut [u8]) -> Result<(), ChainingFault>
     ensures { Into (chains (length input.now) (length room.old))
         (cbc_dec_aes iv key input.now) room.old result room.new }
 {
     if takes(input.len(), room.len()) {
         dec_parts(iv, key, input, room);
-        return Chaining::Done;
+        return Ok(());
     }
-    Chaining::Refused
+    Err(ChainingFault::BlocksOrRoom)
 }
 
 // AES-CMAC-96 (key, data) into the first 12 bytes of the room. Refused where the input is no whole number of blocks or
 // none, or the room has under 12 bytes. Ruled out: the second subkey; all 16 bytes written; an input of no block
 // accepted.
-pub fn cmac_96(key: [u8; 16], input: &[u8], room: &mut [u8]) -> Chaining
+pub fn cmac_96(key: [u8; 16], input: &[u8], room: &mut [u8]) -> Result<(), ChainingFault>
     ensures { Into (macs (length input.now) (length room.old))
         (cmac96 key input.now) room.old result room.new }
 {
     if input.len() < 1 {
-        return Chaining::Refused;
+        return Err(ChainingFault::BlocksOrRoom);
     }
     if input.len() % 16 != 0 {
-        return Chaining::Refused;
+        return Err(ChainingFault::BlocksOrRoom);
     }
     if room.len() < 12 {
-        return Chaining::Refused;
+        return Err(ChainingFault::BlocksOrRoom);
     }
     let mac = cmac(key, input);
     room[..12].copy_from_slice(&mac[..12]);
-    Chaining::Done
+    Ok(())
 }
 
 // Enciphers an input of any length, part by part: the first block of each is chained to the last output block of the

@@ -6,32 +6,32 @@ ghost use Rattle.aes_inverse.specs.AesDec.{aes_dec};
 ghost use Rattle.modes.specs.Room.{Into, chains, over};
 ghost use Rattle.modes_inverse.specs.CbcInv.{cbc_dec_aes_inv, cbc_enc_aes_inv};
 
-use modes::{Chaining, PART};
+use modes::{ChainingFault, PART};
 
 // CBC_DEC_AES_INV (IV, key, data) into the first bytes of the room. Refused as modes::cbc_enc_aes is.
 // Ruled out: the chain taken from the output block; AES-ENC in place of AES-DEC.
-pub fn cbc_dec_aes_inv(iv: [u8; 16], key: [u8; 16], input: &[u8], room: &mut [u8]) -> Chaining
+pub fn cbc_dec_aes_inv(iv: [u8; 16], key: [u8; 16], input: &[u8], room: &mut [u8]) -> Result<(), ChainingFault>
     ensures { Into (chains (length input.now) (length room.old))
         (cbc_dec_aes_inv iv key input.now) room.old result room.new }
 {
     if modes::takes(input.len(), room.len()) {
         dec_inv_parts(iv, key, input, room);
-        return Chaining::Done;
+        return Ok(());
     }
-    Chaining::Refused
+    Err(ChainingFault::BlocksOrRoom)
 }
 
 // CBC_ENC_AES_INV (IV, key, data) into the first bytes of the room. Refused as modes::cbc_enc_aes is.
 // Ruled out: AES-ENC in place of AES-DEC; the chain taken from the input block.
-pub fn cbc_enc_aes_inv(iv: [u8; 16], key: [u8; 16], input: &[u8], room: &mut [u8]) -> Chaining
+pub fn cbc_enc_aes_inv(iv: [u8; 16], key: [u8; 16], input: &[u8], room: &mut [u8]) -> Result<(), ChainingFault>
     ensures { Into (chains (length input.now) (length room.old))
         (cbc_enc_aes_inv iv key input.now) room.old result room.new }
 {
     if modes::takes(input.len(), room.len()) {
         enc_inv_parts(iv, key, input, room);
-        return Chaining::Done;
+        return Ok(());
     }
-    Chaining::Refused
+    Err(ChainingFault::BlocksOrRoom)
 }
 
 // Deciphers an input of any length, part by part: the first block of each is chained to the last input block of the

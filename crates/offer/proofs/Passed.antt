@@ -1,4 +1,5 @@
 -- What is known of a call that passed the bench's check, of a message that passed the opening line, and of a ProtMode.
+use Rattle.std.specs.Prelude.{Ok}
 use Prim.Native.Nat.{ℕ, ◌≤◌}
 use mathlib.Core.Path.{◌≡◌}
 use mathlib.Core.Bool.{Bool, true, false, false≢true}
@@ -11,7 +12,6 @@ use Rattle.sheet.specs.declared.Sizes.{Sizes}
 use Rattle.frames.specs.declared.Kind.{Kind}
 use Rattle.frames.proofs.ProtModes.{Says, says}
 use Rattle.frames.specs.Lengths.{length_fits, reply_room}
-use Rattle.offer.specs.declared.Checked.TheVariants.{Fine}
 use Rattle.offer.specs.Checks.{judged}
 use Rattle.keytable.specs.Named.{has_key}
 use Rattle.offer.specs.Records.{mode_served, mode_supported}
@@ -32,7 +32,7 @@ mode_named f key p h = says p (mode_served f key) h
 
 -- The bench: the draws and the room.
 module _ (sizes : Sizes) (draws room identity user : ℕ)
-    (h : judged (lending_checks sizes draws room identity user) ≡ Fine) where
+    (h : judged (lending_checks sizes draws room identity user) ≡ Ok tt) where
   pub lending_draws : draws ≡ draw_bytes
   unfolding lending_checks
   lending_draws = eqb-true _ _ (first_holds _ _ h)
@@ -43,7 +43,7 @@ module _ (sizes : Sizes) (draws room identity user : ℕ)
 
 -- TAM1, IAM1, MAM1: the length and the record.
 module _ (kind : Kind) (rfu keyid : ℕ) (keys : List Key) (m : List ℕ)
-    (h : judged (opening_checks kind rfu keyid keys m) ≡ Fine) where
+    (h : judged (opening_checks kind rfu keyid keys m) ≡ Ok tt) where
   pub opening_length : length_fits kind m ≡ true
   unfolding opening_checks
   opening_length = first_holds _ _ h

@@ -1,12 +1,14 @@
 -- What a message comes to, and the scope paper's "Numbers the tag gives".
-use Rattle.std.specs.Prelude.{ℕ, List, [], length}
-use Rattle.offer.specs.declared.Outcome.{Outcome}
-use Rattle.offer.specs.declared.Outcome.TheVariants.{Replied, Entered, Refused}
-use Rattle.offer.specs.declared.Checked.{Checked}
-use Rattle.offer.specs.declared.Checked.TheVariants.{Fine, Wrong}
+use Rattle.std.specs.Prelude.{ℕ, List, [], length, Result, Ok, Err}
+use Rattle.offer.specs.declared.Answer.{Answer}
+use Rattle.offer.specs.declared.Answer.TheVariants.{Replied, Entered}
 use Rattle.offer.specs.declared.TagFault.{TagFault}
 use Rattle.offer.specs.declared.TagFault.TheVariants.{OtherError, NotSupported, MemoryOverrun, MemoryWriteError}
 use Rattle.offer.specs.declared.TagFault.TheVariants.{OutOfTurn, ProofWrong, BenchFault}
+
+-- What a message comes to: an answer, or a refusal.
+abbrev pub Outcome : Type 0
+Outcome = Result Answer TagFault
 
 -- The scope paper's number of each refusal.
 abbrev pub number_of : TagFault → ℕ
@@ -20,23 +22,23 @@ number_of BenchFault = 7
 
 -- The number that a call gives, 0 where nothing is refused; and the reply's length.
 abbrev pub number_given : Outcome → ℕ
-number_given (Replied n) = 0
-number_given (Entered purpose) = 0
-number_given (Refused f) = number_of f
+number_given (Ok (Replied n)) = 0
+number_given (Ok (Entered purpose)) = 0
+number_given (Err f) = number_of f
 
 abbrev pub reply_length : Outcome → ℕ
-reply_length (Replied n) = n
-reply_length (Entered purpose) = 0
-reply_length (Refused f) = 0
+reply_length (Ok (Replied n)) = n
+reply_length (Ok (Entered purpose)) = 0
+reply_length (Err f) = 0
 
 -- What follows a line of checks: `a` where all hold, and otherwise what the refusal leads to.
-abbrev pub settled : {A : Type 0} → Checked → A → (TagFault → A) → A
-settled Fine a refused = a
-settled (Wrong f) a refused = refused f
+abbrev pub settled : {A : Type 0} → Result Unit TagFault → A → (TagFault → A) → A
+settled (Ok tt) a refused = a
+settled (Err f) a refused = refused f
 
 -- Bytes that are sent where all holds: the outcome, and what is sent.
-abbrev pub sending : Checked → List ℕ → Outcome
-sending v reply = settled v (Replied (length reply)) Refused
+abbrev pub sending : Result Unit TagFault → List ℕ → Outcome
+sending v reply = settled v (Ok (Replied (length reply))) Err
 
-abbrev pub sent : Checked → List ℕ → List ℕ
+abbrev pub sent : Result Unit TagFault → List ℕ → List ℕ
 sent v reply = settled v reply (λ f. [])

@@ -9,7 +9,7 @@ pub mod records; // records.rt: what a setup offers, and what a message names
 pub mod judged; // judged.rt: the bench's check, and the line that opens TAM1, IAM1 and MAM1
 
 /// Why a message is refused: the scope paper's numbers 1 to 7.
-#[derive(Clone, Copy)]
+#[derive(Clone, Copy, Debug, PartialEq, Eq)]
 pub enum TagFault {
     OtherError,
     NotSupported,
@@ -20,21 +20,15 @@ pub enum TagFault {
     BenchFault,
 }
 
-/// The end of a line of checks.
-#[derive(Clone, Copy)]
-pub enum Checked {
-    Fine,
-    Wrong(TagFault),
-}
-
-/// What a message comes to: a reply of so many bytes, a reader that is let in with its Purpose (the reply is empty), or
-/// a refusal.
-#[derive(Clone, Copy)]
-pub enum Outcome {
+/// What a tag answers: a reply of so many bytes, or a reader is let in with its Purpose (the reply is empty).
+#[derive(Clone, Copy, Debug, PartialEq, Eq)]
+pub enum Answer {
     Replied(usize),
     Entered(u8),
-    Refused(TagFault),
 }
+
+/// What a message comes to.
+pub type Outcome = Result<Answer, TagFault>;
 
 // The scope paper's number of a refusal.
 fn fault_number(fault: TagFault) -> u8
@@ -58,9 +52,9 @@ pub fn number(outcome: Outcome) -> u8
     ensures { result ≡ number_given outcome }
 {
     match outcome {
-        Outcome::Replied(_) => 0,
-        Outcome::Entered(_) => 0,
-        Outcome::Refused(fault) => fault_number(fault),
+        Ok(Answer::Replied(_)) => 0,
+        Ok(Answer::Entered(_)) => 0,
+        Err(fault) => fault_number(fault),
     }
 }
 
@@ -71,8 +65,8 @@ pub fn reply_length(outcome: Outcome) -> usize
     ensures { result ≡ reply_length outcome }
 {
     match outcome {
-        Outcome::Replied(n) => n,
-        Outcome::Entered(_) => 0,
-        Outcome::Refused(_) => 0,
+        Ok(Answer::Replied(n)) => n,
+        Ok(Answer::Entered(_)) => 0,
+        Err(_) => 0,
     }
 }

@@ -6,7 +6,7 @@ ghost use Rattle.offer.specs.Records.{offered, size_offered, rev_offered, mode_o
 ghost use Rattle.offer.specs.Records.{mode_supported, block_asked};
 
 use frames::protection::{has_mac, prot_mode};
-use frames::{Custom, Kind, ProtMode, ProtModeField};
+use frames::{Custom, Kind, ProtMode};
 use memory::{Area, Block, BlockSize, Profile, Word};
 use sheet::{Features, Key, Slot};
 
@@ -84,8 +84,8 @@ pub fn mode_supported(f: Features, key: Key, protmode: u8) -> bool
     ensures { result ≡ mode_supported f key protmode }
 {
     match prot_mode(protmode) {
-        ProtModeField::Mode(mode) => mode_served(f, key, mode),
-        ProtModeField::NoMode => false,
+        Some(mode) => mode_served(f, key, mode),
+        None => false,
     }
 }
 

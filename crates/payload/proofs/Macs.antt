@@ -1,4 +1,6 @@
 -- The MAC behind the bytes that it covers, made and judged.
+use Rattle.std.specs.Prelude.{Result}
+use Rattle.modes.specs.declared.ChainingFault.{ChainingFault}
 use mathlib.Core.Path.{◌≡◌, refl, sym, ap, ap₂, ◌∙◌}
 use mathlib.Core.Bool.{Bool, true, false}
 use mathlib.Core.List.{List, [], ◌++◌, append-nil}
@@ -9,7 +11,6 @@ use lib.Seq.{length-take-le}
 use Rattle.ground.specs.Choice.{pick, both, implies}
 use Rattle.modes.specs.Cmac.{cmac96}
 use Rattle.modes.specs.Room.{Into, macs, over, number_of}
-use Rattle.modes.specs.declared.Chaining.{Chaining}
 use Rattle.modes.proofs.Rooms.{room_for_mac}
 use Rattle.frames.specs.Built.{Built}
 use Rattle.frames.specs.Modes.{has_mac}
@@ -25,7 +26,7 @@ use Rattle.payload.proofs.Rooms.{over_built}
 -- ---- what a call of the cipher answers
 
 -- a call that is taken, by its number, and what it leaves in its room
-module _ (b : Bool) (out room after : List ℕ) (answer : Chaining) (i : Into b out room answer after) where
+module _ (b : Bool) (out room after : List ℕ) (answer : Result Unit ChainingFault) (i : Into b out room answer after) where
   pub into_refused : (n : ℕ) → n ≡ number_of answer → (n ≡ 0 → ⊥) → b ≡ false
   into_refused n e h = none b (λ z. h (e ∙ i.number ∙ z))
     where
@@ -44,7 +45,7 @@ module _ (b : Bool) (out room after : List ℕ) (answer : Chaining) (i : Into b 
   into_taken e = i.leaves ∙ ap (λ (x : Bool). pick x (over out room) room) e
 
 -- the MAC, in a room of twelve
-pub mac_made : (k : ℕ) (key s fresh mac : List ℕ) (answer : Chaining) → length fresh ≡ 12 → macs k 12 ≡ true
+pub mac_made : (k : ℕ) (key s fresh mac : List ℕ) (answer : Result Unit ChainingFault) → length fresh ≡ 12 → macs k 12 ≡ true
     → Into (macs k 12) (cmac96 key s) fresh answer mac → mac ≡ cmac96 key s
 mac_made k key s fresh mac answer l t i = into_taken (macs k 12) (cmac96 key s) fresh mac answer i t
     ∙ over_all (cmac96 key s) fresh (mac_twelve key s ∙ sym l)

@@ -158,7 +158,7 @@ pub fn mac_behind(mackey: [u8; 16], mode: ProtMode, n: usize, room: &mut [u8]) -
         return true;
     }
     let mut mac = [0u8; 12];
-    if modes::number(modes::cmac_96(mackey, &room[..n], &mut mac)) != 0 {
+    if modes::cmac_96(mackey, &room[..n], &mut mac).is_err() {
         return false;
     }
     put(room, n, &mac)
@@ -174,7 +174,7 @@ pub fn mac_fits(mackey: [u8; 16], mode: ProtMode, covered: &[u8], mac: &[u8]) ->
         return true;
     }
     let mut made = [0u8; 12];
-    if modes::number(modes::cmac_96(mackey, covered, &mut made)) != 0 {
+    if modes::cmac_96(mackey, covered, &mut made).is_err() {
         return false;
     }
     same(&made, mac)

@@ -6,7 +6,6 @@ ghost use Rattle.plan.specs.Drafts.{opening, closing};
 
 use frames::Custom;
 use reader::{Keys, ReaderFault};
-use reader_build::Made;
 
 /// What the trainee picks.
 #[derive(Clone, Copy)]
@@ -33,7 +32,7 @@ pub struct Plan {
 }
 
 /// The message that opens an exchange. Ruled out: MAM1 for an IAM; a TAM1 where the trainee picked TAM2.
-pub fn opening(plan: Plan, room: &mut [u8]) -> Made
+pub fn opening(plan: Plan, room: &mut [u8]) -> Result<usize, ReaderFault>
     ensures { Makes (opening plan plan.method).fit (opening plan plan.method).message
         room.old result room.new }
 {
@@ -72,7 +71,7 @@ pub fn opening(plan: Plan, room: &mut [u8]) -> Made
 
 /// The message that proves the reader to the tag, of the tag's challenge. TAM has none.
 /// Ruled out: an IAM2 where the trainee picked IAM3; a message that is sent in TAM.
-pub fn closing(plan: Plan, tchallenge: [u8; 10], words: &[u8], room: &mut [u8]) -> Made
+pub fn closing(plan: Plan, tchallenge: [u8; 10], words: &[u8], room: &mut [u8]) -> Result<usize, ReaderFault>
     ensures { Makes (closing plan words.now tchallenge plan.method).fit
         (closing plan words.now tchallenge plan.method).message room.old result
         room.new }
@@ -80,10 +79,10 @@ pub fn closing(plan: Plan, tchallenge: [u8; 10], words: &[u8], room: &mut [u8]) 
     let method = plan.method;
     match method {
         Method::Tam1 => {
-            return Made::Refused(ReaderFault::OwnMessage);
+            return Err(ReaderFault::OwnMessage);
         }
         Method::Tam2 => {
-            return Made::Refused(ReaderFault::OwnMessage);
+            return Err(ReaderFault::OwnMessage);
         }
         Method::Iam2 => {
             let keys = plan.keys;

@@ -17,7 +17,7 @@ pub struct Keys {
 }
 
 /// Why the reader's side refuses: the scope paper's numbers 20 to 24.
-#[derive(Clone, Copy)]
+#[derive(Clone, Copy, Debug, PartialEq, Eq)]
 pub enum ReaderFault {
     ReplyLength,
     ChallengeWrong,

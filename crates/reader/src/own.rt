@@ -8,7 +8,7 @@ use super::Keys;
 use frames::fields::{iam1_of, iam2_of, iam3_of, mam1_of, mam2_of, tam1_of, tam2_of};
 use frames::protection::{has_mac, prot_mode};
 use frames::sizes::{DATA_ROOM, length_fits};
-use frames::{Kind, ProtMode, ProtModeField};
+use frames::{Kind, ProtMode};
 
 // Where the mode has a MAC, is there a key for it?
 fn mode_served(keys: Keys, mode: ProtMode) -> bool
@@ -26,8 +26,8 @@ pub fn mode_fits(keys: Keys, protmode: u8) -> bool
     ensures { result ≡ mode_fits keys protmode }
 {
     match prot_mode(protmode) {
-        ProtModeField::Mode(mode) => mode_served(keys, mode),
-        ProtModeField::NoMode => false,
+        Some(mode) => mode_served(keys, mode),
+        None => false,
     }
 }
 

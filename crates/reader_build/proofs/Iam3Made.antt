@@ -1,4 +1,5 @@
 -- IAM3 built: what it comes to once its data were laid out in the D blocks p.
+use Rattle.std.specs.Prelude.{Ok, Option, Some}
 use mathlib.Core.Path.{◌≡◌, refl, sym, ap, ap₂, ◌∙◌}
 use mathlib.Core.Bool.{Bool, true, false}
 use mathlib.Core.List.{List, []}
@@ -18,13 +19,10 @@ use Rattle.frames.specs.Lengths.{message_room}
 use Rattle.frames.specs.Messages.{select_fits}
 use Rattle.frames.specs.Modes.{in_mode, prot_mode_of}
 use Rattle.frames.specs.declared.ProtMode.{ProtMode}
-use Rattle.frames.specs.declared.ProtModeField.{ProtModeField}
-use Rattle.frames.specs.declared.ProtModeField.TheVariants.{Mode}
 use Rattle.frames.proofs.Joins.{built_front}
 use Rattle.payload.specs.Data.{carried_data}
 use Rattle.payload.proofs.Data.{blocks_fit, carried_long}
 use Rattle.reader.specs.declared.Keys.{Keys}
-use Rattle.reader_build.specs.declared.Made.TheVariants.{Message}
 use Rattle.reader_build.specs.Builds.{response, iam3_whole, iam3_in_mode, iam3_made, iam3_fits}
 use Rattle.reader_build.specs.Makes.{Makes}
 use Rattle.reader_build.proofs.Making.{decided, part_fits, parts_fit, part_count, part_select}
@@ -81,22 +79,22 @@ module _ (keys : Keys) (custom : Custom) (protmode purpose : ℕ) (words room p 
         blocks_there = omega (arith, data_long, length-take n p)
 
         pub iam3_built : (mode : ProtMode) (irnd tchallenge k a out after : List ℕ) (result : ℕ)
-            → prot_mode_of protmode ≡ Mode mode
+            → prot_mode_of protmode ≡ Some mode
             → k ≡ with_purpose (iam3_constant mode) purpose → a ≡ response keys.enc k irnd tchallenge
             → message_room ≤ length out
             → (result ≡ length (iam3_whole keys custom protmode mode a (take n p)))
             × (after ≡ over (iam3_whole keys custom protmode mode a (take n p)) out)
             → Makes (iam3_fits keys custom protmode purpose (length words))
-            (iam3_made keys custom protmode purpose irnd tchallenge words) out (Message result) after
+            (iam3_made keys custom protmode purpose irnd tchallenge words) out (Ok result) after
         unfolding iam3_in_mode iam3_made
         iam3_built mode irnd tchallenge k a out after result named ek ea h r =
             let e : iam3_whole keys custom protmode mode a (take n p)
             ≡ iam3_made keys custom protmode purpose irnd tchallenge words =
             ap₂ (iam3_whole keys custom protmode mode)
             (ea ∙ ap (λ (x : List ℕ). response keys.enc x irnd tchallenge) ek) data_there
-            ∙ ap (λ (x : ProtModeField). in_mode x (iam3_in_mode keys custom protmode purpose irnd tchallenge words) [])
+            ∙ ap (λ (x : Option ProtMode). in_mode x (iam3_in_mode keys custom protmode purpose irnd tchallenge words) [])
             (sym named) in
             decided (iam3_fits keys custom protmode purpose (length words)) true
-            (iam3_made keys custom protmode purpose irnd tchallenge words) out after (Message result)
-            (sym (ap₂ both all_fit (le-leb message_room (length out) h))) (ap Message (r.0 ∙ ap length e))
+            (iam3_made keys custom protmode purpose irnd tchallenge words) out after (Ok result)
+            (sym (ap₂ both all_fit (le-leb message_room (length out) h))) (ap Ok (r.0 ∙ ap length e))
             (r.1 ∙ ap (λ (x : List ℕ). over x out) e)

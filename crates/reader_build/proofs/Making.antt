@@ -1,4 +1,6 @@
 -- A builder's answer from its parts: what is not fit, a room that is too short, and what frames built.
+use Rattle.std.specs.Prelude.{Result, Ok, Err, None, ℕ}
+use Rattle.reader.specs.declared.ReaderFault.{ReaderFault}
 use mathlib.Core.Path.{◌≡◌, refl, sym, ap, ap₂, ◌∙◌}
 use mathlib.Core.Bool.{Bool, true, false}
 use mathlib.Core.List.{List, ◌++◌}
@@ -16,27 +18,24 @@ use Rattle.frames.specs.Fields.{custom_fits}
 use Rattle.frames.specs.Lengths.{message_room}
 use Rattle.frames.specs.Messages.{select_fits}
 use Rattle.frames.specs.Modes.{prot_mode_of}
-use Rattle.frames.specs.declared.ProtModeField.TheVariants.{NoMode}
 use Rattle.frames.proofs.Range.{both_left, both_right}
 use Rattle.reader.specs.declared.Keys.{Keys}
-use Rattle.reader_build.specs.declared.Made.{Made}
-use Rattle.reader_build.specs.declared.Made.TheVariants.{Message, Refused}
 use Rattle.reader.specs.declared.ReaderFault.TheVariants.{OwnMessage}
 use Rattle.frames.proofs.ProtModes.{says, mode_below}
 use Rattle.reader.specs.Own.{mode_served, mode_fits}
 use Rattle.reader_build.specs.Builds.{purpose_fits, data_fits, iam3_fits}
 use Rattle.reader_build.specs.Makes.{Makes, made_number, taken}
 
-numbered : (b : Bool) (n : ℕ) → made_number (pick b (Message n) (Refused OwnMessage)) ≡ pick b 0 24
+numbered : (b : Bool) (n : ℕ) → made_number (pick b (Ok n) (Err OwnMessage)) ≡ pick b 0 24
 numbered true n = refl
 numbered false n = refl
 
 -- by one test t that says whether the message is taken
-pub decided : (fit t : Bool) (message room after : List ℕ) (answer : Made) → t ≡ taken fit room
-    → answer ≡ pick t (Message (length message)) (Refused OwnMessage)
+pub decided : (fit t : Bool) (message room after : List ℕ) (answer : Result ℕ ReaderFault) → t ≡ taken fit room
+    → answer ≡ pick t (Ok (length message)) (Err OwnMessage)
     → after ≡ pick t (over message room) room → Makes fit message room answer after
 decided fit t message room after answer e says holds = record {
-  says = says ∙ ap (λ (b : Bool). pick b (Message (length message)) (Refused OwnMessage)) e;
+  says = says ∙ ap (λ (b : Bool). pick b (Ok (length message)) (Err OwnMessage)) e;
   number = ap made_number says ∙ numbered t (length message) ∙ ap (λ (b : Bool). pick b 0 24) e;
   holds = holds ∙ ap (λ (b : Bool). pick b (over message room) room) e;
 }
@@ -50,29 +49,29 @@ room_enough true = refl
 room_enough false = refl
 
 pub short : (fit : Bool) (message room : List ℕ) → length room < message_room
-    → Makes fit message room (Refused OwnMessage) room
-short fit message room h = decided fit false message room room (Refused OwnMessage)
+    → Makes fit message room (Err OwnMessage) room
+short fit message room h = decided fit false message room room (Err OwnMessage)
     (sym (ap (both fit) (lt-leb message_room (length room) h) ∙ no_room fit)) refl refl
 
-pub unfit : (fit : Bool) (message room : List ℕ) → fit ≡ false → Makes fit message room (Refused OwnMessage) room
-unfit fit message room e = decided fit false message room room (Refused OwnMessage)
+pub unfit : (fit : Bool) (message room : List ℕ) → fit ≡ false → Makes fit message room (Err OwnMessage) room
+unfit fit message room e = decided fit false message room room (Err OwnMessage)
     (ap (λ (b : Bool). both b (leb message_room (length room))) (sym e)) refl refl
 
 -- what frames built, in a room that has the bytes of the longest message
-pub built : (fit fields b : Bool) (n : ℕ) (message room after : List ℕ) (answer : Made) → message_room ≤ length room
+pub built : (fit fields b : Bool) (n : ℕ) (message room after : List ℕ) (answer : Result ℕ ReaderFault) → message_room ≤ length room
     → fields ≡ fit → length message ≡ n → n ≤ message_room
-    → Built fields n message room b after → answer ≡ pick b (Message n) (Refused OwnMessage)
+    → Built fields n message room b after → answer ≡ pick b (Ok n) (Err OwnMessage)
     → Makes fit message room answer after
 built fit fields b n message room after answer h e l m r says =
     let t : both fields (leb n (length room)) ≡ fit = ap (both fields) (le-leb n (length room) (omega arith))
     ∙ room_enough fields ∙ e in
     decided fit fit message room after answer
     (sym (ap (both fit) (le-leb message_room (length room) h) ∙ room_enough fit))
-    (says ∙ ap₂ {C = Made} (λ x k. pick x (Message k) (Refused OwnMessage)) (r.says ∙ t) (sym l))
+    (says ∙ ap₂ {C = (Result ℕ ReaderFault)} (λ x k. pick x (Ok k) (Err OwnMessage)) (r.says ∙ t) (sym l))
     (r.holds ∙ ap₂ {C = List ℕ} (λ x k. pick x (message ++ drop k room) room) t (sym l))
 
 -- the same message in other words
-pub in_words : (fit : Bool) (l message room after : List ℕ) (answer : Made) → l ≡ message
+pub in_words : (fit : Bool) (l message room after : List ℕ) (answer : Result ℕ ReaderFault) → l ≡ message
     → Makes fit l room answer after → Makes fit message room answer after
 in_words fit l message room after answer e h = rw (← e) h
 
@@ -95,7 +94,7 @@ module _ (keys : Keys) (protmode : ℕ) where
       let s = says protmode (mode_served keys) e in
       mode_below protmode s.mode s.named
 
-  pub no_mode : prot_mode_of protmode ≡ NoMode → mode_fits keys protmode ≡ false
+  pub no_mode : prot_mode_of protmode ≡ None → mode_fits keys protmode ≡ false
   unfolding mode_fits
   no_mode none = rw none
 

@@ -1,4 +1,6 @@
 -- IAM3 from its parts, as they stand in the room: the data as they are sent, IResponse, and the whole.
+use Rattle.std.specs.Prelude.{Result}
+use Rattle.modes.specs.declared.ChainingFault.{ChainingFault}
 use mathlib.Core.Path.{◌≡◌, refl, sym, ap, ap₂, ◌∙◌}
 use mathlib.Core.Bool.{Bool, true, false}
 use mathlib.Core.List.{List, [], ◌++◌, append_assoc}
@@ -13,7 +15,6 @@ use Rattle.aes_inverse.specs.InvCipher.{inv_cipher}
 use Rattle.modes.specs.Blocks.{whole_blocks}
 use Rattle.modes.specs.Cmac.{cmac96}
 use Rattle.modes.specs.Room.{Into, chains, over}
-use Rattle.modes.specs.declared.Chaining.{Chaining}
 use Rattle.modes.proofs.Rooms.{copied, enough, room_for_mac}
 use Rattle.modes.proofs.Whole.{whole_count}
 use Rattle.modes_inverse.specs.CbcInv.{cbc_enc_aes_inv}
@@ -41,7 +42,7 @@ use Rattle.reader_build.specs.Builds.{sent_data, iam3_response, iam3_whole}
 -- ---- the data as they are sent
 
 module _ (mode : ProtMode) (b : Bool) (enc a p room : List ℕ) (told : b ≡ encrypts mode) where
-  pub data_chained : (after : List ℕ) (answer : Chaining) → b ≡ true → length p % 16 ≡ 0 → length p ≤ length room
+  pub data_chained : (after : List ℕ) (answer : Result Unit ChainingFault) → b ≡ true → length p % 16 ≡ 0 → length p ≤ length room
       → Into (chains (length p) (length room)) (cbc_enc_aes_inv a enc p) room answer after
       → after ≡ over (sent_data enc mode a p) room
   unfolding sent_data

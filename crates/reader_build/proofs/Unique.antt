@@ -1,10 +1,11 @@
 -- No second answer fits the contract of a builder: its answer, and what the room holds afterwards.
+use Rattle.std.specs.Prelude.{Result, ℕ}
+use Rattle.reader.specs.declared.ReaderFault.{ReaderFault}
 use mathlib.Core.Path.{◌≡◌, refl}
 use mathlib.Core.Bool.{Bool}
 use mathlib.Core.List.{List}
 use Prim.Native.Nat.{ℕ}
 use Rattle.ground.specs.OneAnswer.{OneAnswer, one, ◌&◌}
-use Rattle.reader_build.specs.declared.Made.{Made}
 use Rattle.reader_build.specs.Makes.{Makes}
 use Rattle.reader_build.proofs.tam1.Reads as tam1
 use Rattle.reader_build.proofs.tam1.Kinds as tam1-kinds
@@ -21,7 +22,7 @@ use Rattle.reader_build.proofs.mam2.Kinds as mam2-kinds
 use Rattle.reader_build.proofs.iam3.Reads as iam3
 use Rattle.reader_build.proofs.iam3.Kinds as iam3-kinds
 
-one_made : (fit : Bool) (message room : List ℕ) (x y : Made) (s t : List ℕ) → Makes fit message room x s
+one_made : (fit : Bool) (message room : List ℕ) (x y : Result ℕ ReaderFault) (s t : List ℕ) → Makes fit message room x s
     → Makes fit message room y t → (x ≡ y) × (s ≡ t)
 one_made fit message room x y s t p q = (one p.says q.says, one p.holds q.holds)
 

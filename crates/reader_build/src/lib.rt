@@ -19,27 +19,20 @@ use frames::build::{iam1_into, iam2_into, mam1_into, mam2_into, tam1_into, tam2_
 use frames::constants::{iam2_constant, iam3_constant, mam2_constant};
 use frames::protection::prot_mode;
 use frames::sizes::{DATA_ROOM, MESSAGE_ROOM, blocks_length, data_length};
-use frames::{Custom, Iam1, Iam2, Mam1, Mam2, ProtMode, ProtModeField, Tam1, Tam2};
+use frames::{Custom, Iam1, Iam2, Mam1, Mam2, ProtMode, Tam1, Tam2};
 use payload::carried_into;
 use reader::own::mode_fits;
 use reader::{Keys, ReaderFault};
 use sent::{iam3_whole, response};
 
-/// What a builder answers: a message of so many bytes in the room's first bytes, or a refusal, and the room as it was.
-#[derive(Clone, Copy)]
-pub enum Made {
-    Message(usize),
-    Refused(ReaderFault),
-}
-
 // What is built of frames' answer: a message of so many bytes, or nothing.
-fn answer(built: bool, n: usize) -> Made
-    ensures { result ≡ pick built (Made.Message n) (Made.Refused ReaderFault.OwnMessage) }
+fn answer(built: bool, n: usize) -> Result<usize, ReaderFault>
+    ensures { result ≡ pick built (Ok n) (Err ReaderFault.OwnMessage) }
 {
     if built {
-        return Made::Message(n);
+        return Ok(n);
     }
-    Made::Refused(ReaderFault::OwnMessage)
+    Err(ReaderFault::OwnMessage)
 }
 
 // Is what an IAM3 with n bytes of data says fit to be sent, its Profile, Offset and BlockCount aside?
@@ -57,11 +50,11 @@ fn iam3_fits(keys: Keys, custom: Custom, protmode: u8, purpose: u8, n: usize) ->
 }
 
 /// TAM1 (9.4.2). Ruled out: a message in a room of 12 bytes; the KeyID of another record.
-pub fn tam1(keyid: u8, ichallenge: [u8; 10], room: &mut [u8]) -> Made
+pub fn tam1(keyid: u8, ichallenge: [u8; 10], room: &mut [u8]) -> Result<usize, ReaderFault>
     ensures { Makes true (tam1_made keyid ichallenge) room.old result room.new }
 {
     if room.len() < MESSAGE_ROOM {
-        return Made::Refused(ReaderFault::OwnMessage);
+        return Err(ReaderFault::OwnMessage);
     }
     answer(
         tam1_into(
@@ -85,15 +78,15 @@ pub fn tam2(
     custom: Custom,
     protmode: u8,
     room: &mut [u8],
-) -> Made
+) -> Result<usize, ReaderFault>
     ensures { Makes (both (mode_fits keys protmode) (custom_fits custom))
         (tam2_made keyid ichallenge rev custom protmode) room.old result room.new }
 {
     if room.len() < MESSAGE_ROOM {
-        return Made::Refused(ReaderFault::OwnMessage);
+        return Err(ReaderFault::OwnMessage);
     }
     if !mode_fits(keys, protmode) {
-        return Made::Refused(ReaderFault::OwnMessage);
+        return Err(ReaderFault::OwnMessage);
     }
     let f = Tam2 {
         rev,
@@ -107,21 +100,21 @@ pub fn tam2(
 }
 
 /// IAM1 (9.5.2). Ruled out: the first byte of MAM1; a room of 175 bytes taken.
-pub fn iam1(keyid: u8, room: &mut [u8]) -> Made
+pub fn iam1(keyid: u8, room: &mut [u8]) -> Result<usize, ReaderFault>
     ensures { Makes true (iam1_made keyid) room.old result room.new }
 {
     if room.len() < MESSAGE_ROOM {
-        return Made::Refused(ReaderFault::OwnMessage);
+        return Err(ReaderFault::OwnMessage);
     }
     answer(iam1_into(Iam1 { rfu: 0, keyid }, room), 2)
 }
 
 /// MAM1 (9.6.2). Ruled out: the first byte of TAM1; a byte of the room changed where it has under 176.
-pub fn mam1(keyid: u8, ichallenge: [u8; 10], room: &mut [u8]) -> Made
+pub fn mam1(keyid: u8, ichallenge: [u8; 10], room: &mut [u8]) -> Result<usize, ReaderFault>
     ensures { Makes true (mam1_made keyid ichallenge) room.old result room.new }
 {
     if room.len() < MESSAGE_ROOM {
-        return Made::Refused(ReaderFault::OwnMessage);
+        return Err(ReaderFault::OwnMessage);
     }
     answer(
         mam1_into(
@@ -137,15 +130,15 @@ pub fn mam1(keyid: u8, ichallenge: [u8; 10], room: &mut [u8]) -> Made
 }
 
 /// IAM2 (9.5.4, 9.5.5). Ruled out: IResponse by AES-ENC; a Purpose of five bits carried into the constant.
-pub fn iam2(keys: Keys, purpose: u8, irnd: [u8; 4], tchallenge: [u8; 10], room: &mut [u8]) -> Made
+pub fn iam2(keys: Keys, purpose: u8, irnd: [u8; 4], tchallenge: [u8; 10], room: &mut [u8]) -> Result<usize, ReaderFault>
     ensures { Makes (purpose_fits purpose) (iam2_made keys purpose irnd tchallenge) room.old result
         room.new }
 {
     if room.len() < MESSAGE_ROOM {
-        return Made::Refused(ReaderFault::OwnMessage);
+        return Err(ReaderFault::OwnMessage);
     }
     if 16 <= purpose {
-        return Made::Refused(ReaderFault::OwnMessage);
+        return Err(ReaderFault::OwnMessage);
     }
     let enc = keys.enc;
     let iresponse = response(enc, iam2_constant(purpose), irnd, tchallenge);
@@ -159,15 +152,15 @@ pub fn mam2(
     ichallenge: [u8; 10],
     tchallenge: [u8; 10],
     room: &mut [u8],
-) -> Made
+) -> Result<usize, ReaderFault>
     ensures { Makes (purpose_fits purpose) (mam2_made keys purpose ichallenge tchallenge) room.old result
         room.new }
 {
     if room.len() < MESSAGE_ROOM {
-        return Made::Refused(ReaderFault::OwnMessage);
+        return Err(ReaderFault::OwnMessage);
     }
     if 16 <= purpose {
-        return Made::Refused(ReaderFault::OwnMessage);
+        return Err(ReaderFault::OwnMessage);
     }
     let enc = keys.enc;
     let last = [ichallenge[6], ichallenge[7], ichallenge[8], ichallenge[9]];
@@ -186,8 +179,8 @@ fn iam3_in_mode(
     tchallenge: [u8; 10],
     words: &[u8],
     room: &mut [u8],
-) -> Made
-    requires { (message_room ≤ length room.old) × (prot_mode_of protmode ≡ ProtModeField.Mode mode)
+) -> Result<usize, ReaderFault>
+    requires { (message_room ≤ length room.old) × (prot_mode_of protmode ≡ Some mode)
         × (both (mode_fits keys protmode) (both (purpose_fits purpose) (data_fits custom (length words.now))) ≡ true) }
     ensures { Makes (iam3_fits keys custom protmode purpose (length words.now))
         (iam3_made keys custom protmode purpose irnd tchallenge words.now) room.old result
@@ -195,13 +188,13 @@ fn iam3_in_mode(
 {
     let mut p = [0u8; DATA_ROOM];
     if !carried_into(true, custom, words, &mut p) {
-        return Made::Refused(ReaderFault::OwnMessage);
+        return Err(ReaderFault::OwnMessage);
     }
     let enc = keys.enc;
     let a = response(enc, iam3_constant(mode, purpose), irnd, tchallenge);
     let blocksize = custom.blocksize;
     let n = blocks_length(blocksize, true, custom.blockcount);
-    Made::Message(iam3_whole(keys, custom, protmode, mode, a, &p[..n], room))
+    Ok(iam3_whole(keys, custom, protmode, mode, a, &p[..n], room))
 }
 
 /// IAM3 (9.5.4, 9.5.8). Ruled out: the MAC over the data before they are chained; fewer bytes of data than BlockCount
@@ -215,25 +208,25 @@ pub fn iam3(
     tchallenge: [u8; 10],
     words: &[u8],
     room: &mut [u8],
-) -> Made
+) -> Result<usize, ReaderFault>
     ensures { Makes (iam3_fits keys custom protmode purpose (length words.now))
         (iam3_made keys custom protmode purpose irnd tchallenge words.now) room.old result
         room.new }
 {
     if room.len() < MESSAGE_ROOM {
-        return Made::Refused(ReaderFault::OwnMessage);
+        return Err(ReaderFault::OwnMessage);
     }
     if !iam3_fits(keys, custom, protmode, purpose, words.len()) {
-        return Made::Refused(ReaderFault::OwnMessage);
+        return Err(ReaderFault::OwnMessage);
     }
     match prot_mode(protmode) {
-        ProtModeField::Mode(mode) => {
+        Some(mode) => {
             return iam3_in_mode(
                 keys, custom, protmode, mode, purpose, irnd, tchallenge, words, room,
             );
         }
-        ProtModeField::NoMode => {
-            return Made::Refused(ReaderFault::OwnMessage);
+        None => {
+            return Err(ReaderFault::OwnMessage);
         }
     }
 }

@@ -36,7 +36,7 @@ fn sent_data(enc: [u8; 16], mode: ProtMode, a: [u8; 16], p: &[u8], room: &mut [u
     ensures { room.new ≡ over (sent_data enc mode a p.now) room.old }
 {
     if encrypts(mode) {
-        modes_inverse::cbc_enc_aes_inv(a, enc, p, room);
+        modes_inverse::cbc_enc_aes_inv(a, enc, p, room).unwrap();
         return;
     }
     room[..p.len()].copy_from_slice(p);

@@ -9,9 +9,8 @@ use console::{answer, fields};
 use frames::Kind;
 use frames::sizes::{DATA_ROOM, MESSAGE_ROOM};
 use lines::print;
-use reader::Keys;
-use reader_build::Made;
-use reader_judge::{Judgement, Verdict, Worth, judge};
+use reader::{Keys, ReaderFault};
+use reader_judge::{Judgement, Worth, judge};
 use std::io;
 
 // The reader's keys from one command to the next, where there are some.
@@ -80,15 +79,15 @@ pub fn build(rt: &impl Print, k: Keyring, line: &[u8]) -> io::Result<()> {
     built(rt, made, &room)
 }
 
-fn built(rt: &impl Print, made: Made, room: &[u8]) -> io::Result<()> {
+fn built(rt: &impl Print, made: Result<usize, ReaderFault>, room: &[u8]) -> io::Result<()> {
     match made {
-        Made::Message(n) => {
+        Ok(n) => {
             let e = within(n, room);
             print::text(rt, b"message ")?;
             answer::hex(rt, &room[..e])?;
             print::text(rt, b"\n")
         }
-        Made::Refused(fault) => answer::refused(rt, reader::number(fault)),
+        Err(fault) => answer::refused(rt, reader::number(fault)),
     }
 }
 
@@ -112,8 +111,8 @@ pub fn judged(rt: &impl Print, k: Keyring, line: &[u8]) -> io::Result<()> {
 fn told(rt: &impl Print, j: Judgement, room: &[u8]) -> io::Result<()> {
     let verdict = j.verdict;
     match verdict {
-        Verdict::Refused(fault) => answer::refused(rt, reader::number(fault)),
-        Verdict::Accepted => accepted(rt, j, room),
+        Err(fault) => answer::refused(rt, reader::number(fault)),
+        Ok(()) => accepted(rt, j, room),
     }
 }
 

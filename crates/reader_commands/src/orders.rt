@@ -8,7 +8,6 @@ use lines::numbers::sum;
 use memory::{BlockSize, Offset};
 use octets::same;
 use reader::{Keys, ReaderFault};
-use reader_build::Made;
 use std::io;
 
 pub fn kind_of(name: &[u8]) -> Kind {
@@ -61,7 +60,7 @@ pub fn keyed(kind: Kind) -> bool {
     }
 }
 
-pub fn made(keys: Keys, kind: Kind, line: &[u8], room: &mut [u8]) -> Made {
+pub fn made(keys: Keys, kind: Kind, line: &[u8], room: &mut [u8]) -> Result<usize, ReaderFault> {
     match kind {
         Kind::Tam1 => {
             return challenge(false, line, room);
@@ -90,12 +89,12 @@ pub fn made(keys: Keys, kind: Kind, line: &[u8], room: &mut [u8]) -> Made {
     }
 }
 
-fn out_of_range() -> Made {
-    Made::Refused(ReaderFault::OwnMessage)
+fn out_of_range() -> Result<usize, ReaderFault> {
+    Err(ReaderFault::OwnMessage)
 }
 
 // TAM1, or MAM1, which has the same fields.
-fn challenge(mutual: bool, line: &[u8], room: &mut [u8]) -> Made {
+fn challenge(mutual: bool, line: &[u8], room: &mut [u8]) -> Result<usize, ReaderFault> {
     let mut ichallenge = [0u8; 10];
     if !fill(line, 3, &mut ichallenge) {
         return out_of_range();
@@ -109,14 +108,14 @@ fn challenge(mutual: bool, line: &[u8], room: &mut [u8]) -> Made {
     reader_build::tam1(small(line, 2), ichallenge, room)
 }
 
-fn iam1(line: &[u8], room: &mut [u8]) -> Made {
+fn iam1(line: &[u8], room: &mut [u8]) -> Result<usize, ReaderFault> {
     if 255 < number(line, 2) {
         return out_of_range();
     }
     reader_build::iam1(small(line, 2), room)
 }
 
-fn tam2(keys: Keys, line: &[u8], room: &mut [u8]) -> Made {
+fn tam2(keys: Keys, line: &[u8], room: &mut [u8]) -> Result<usize, ReaderFault> {
     let mut ichallenge = [0u8; 10];
     if !fill(line, 5, &mut ichallenge) {
         return out_of_range();
@@ -162,7 +161,7 @@ fn blocksize(n: u16) -> BlockSize {
     BlockSize::Bits16
 }
 
-fn iam2(keys: Keys, line: &[u8], room: &mut [u8]) -> Made {
+fn iam2(keys: Keys, line: &[u8], room: &mut [u8]) -> Result<usize, ReaderFault> {
     let mut irnd = [0u8; 4];
     let mut tchallenge = [0u8; 10];
     if !fill(line, 3, &mut irnd) {
@@ -174,7 +173,7 @@ fn iam2(keys: Keys, line: &[u8], room: &mut [u8]) -> Made {
     reader_build::iam2(keys, small(line, 2), irnd, tchallenge, room)
 }
 
-fn mam2(keys: Keys, line: &[u8], room: &mut [u8]) -> Made {
+fn mam2(keys: Keys, line: &[u8], room: &mut [u8]) -> Result<usize, ReaderFault> {
     let mut ichallenge = [0u8; 10];
     let mut tchallenge = [0u8; 10];
     if !fill(line, 3, &mut ichallenge) {
@@ -186,7 +185,7 @@ fn mam2(keys: Keys, line: &[u8], room: &mut [u8]) -> Made {
     reader_build::mam2(keys, small(line, 2), ichallenge, tchallenge, room)
 }
 
-fn iam3(keys: Keys, line: &[u8], room: &mut [u8]) -> Made {
+fn iam3(keys: Keys, line: &[u8], room: &mut [u8]) -> Result<usize, ReaderFault> {
     let mut irnd = [0u8; 4];
     let mut tchallenge = [0u8; 10];
     if !fill(line, 8, &mut irnd) {

@@ -1,4 +1,6 @@
 -- A TAM2 reply: its parts as the code takes them, and its data in the clear.
+use Rattle.std.specs.Prelude.{Result, Some, None}
+use Rattle.modes.specs.declared.ChainingFault.{ChainingFault}
 use mathlib.Core.Path.{◌≡◌, refl, sym, ap, ap₂, ◌∙◌}
 use mathlib.Core.Bool.{Bool, true, false}
 use mathlib.Core.List.{List, ◌++◌}
@@ -15,7 +17,6 @@ use Rattle.field.proofs.Block.{first_block_is}
 use Rattle.memory.specs.declared.BlockSize.{BlockSize}
 use Rattle.aes_inverse.specs.AesDec.{aes_dec}
 use Rattle.modes.specs.Blocks.{whole_blocks}
-use Rattle.modes.specs.declared.Chaining.{Chaining}
 use Rattle.modes.specs.Room.{Into, chains, over}
 use Rattle.modes.proofs.Rooms.{enough, copied}
 use Rattle.modes.proofs.Whole.{whole_count}
@@ -28,7 +29,6 @@ use Rattle.frames.specs.Lengths.{tam2_mac_at, tam2_reply_length}
 use Rattle.frames.specs.Messages.{tam2_of}
 use Rattle.payload.specs.Data.{words_in, header_fits, filler_fits}
 use Rattle.frames.specs.declared.ProtMode.{ProtMode}
-use Rattle.frames.specs.declared.ProtModeField.TheVariants.{Mode, NoMode}
 use Rattle.frames.specs.Modes.{encrypts, prot_mode_of}
 use Rattle.payload.proofs.Data.{blocks_hold, blocks_fit}
 use Rattle.payload.proofs.Lengths.{blocks_whole, dec_joined}
@@ -99,7 +99,7 @@ module _ (keys : Keys) (mode : ProtMode) (f : Tam2) (reply : List ℕ)
     sent : take (16 + r - 16) (drop 16 reply) ≡ data_sent f reply
     sent = let k : 16 + r - 16 ≡ r = omega arith in ap (λ (j : ℕ). take j (drop 16 reply)) (k ∙ e)
 
-    pub opened_chained : (iv after : List ℕ) (answer : Chaining) → encrypts mode ≡ true → iv ≡ first_block reply
+    pub opened_chained : (iv after : List ℕ) (answer : Result Unit ChainingFault) → encrypts mode ≡ true → iv ≡ first_block reply
         → Into (chains (length (take (16 + r - 16) (drop 16 reply))) (length room))
         (cbc_dec_aes_inv iv keys.enc (take (16 + r - 16) (drop 16 reply))) room answer after
         → after ≡ over (opened_data keys mode f reply) room
@@ -160,11 +160,11 @@ tam2_in_range m h =
 -- ---- the judgement is that of the mode
 
 module _ (keys : Keys) (f : Tam2) (reply : List ℕ) where
-  pub tam2_named : (mode : ProtMode) → prot_mode_of f.protmode ≡ Mode mode
+  pub tam2_named : (mode : ProtMode) → prot_mode_of f.protmode ≡ Some mode
       → tam2_finding keys f reply ≡ tam2_in_mode keys f reply mode
   unfolding tam2_finding
   tam2_named mode named = rw named
 
-  pub tam2_unnamed : prot_mode_of f.protmode ≡ NoMode → tam2_finding keys f reply ≡ refused OwnMessage
+  pub tam2_unnamed : prot_mode_of f.protmode ≡ None → tam2_finding keys f reply ≡ refused OwnMessage
   unfolding tam2_finding
   tam2_unnamed none = rw none

@@ -5,7 +5,7 @@ ghost use Rattle.reader_judge.specs.Judged.{tam1_finding, iam1_finding, mam1_fin
 
 use super::opened::{block_fits, challenge_in, opened_block};
 use super::said::{issues, refused, silent};
-use super::{Judgement, Verdict};
+use super::{Judgement};
 use frames::constants::{mam1_constant, tam1_constant};
 use frames::{Mam1, Tam1};
 use reader::{Keys, ReaderFault};
@@ -21,7 +21,7 @@ pub fn tam1(keys: Keys, f: Tam1, reply: &[u8]) -> Judgement
     if !block_fits(tam1_constant(), ichallenge, opened_block(keys, reply)) {
         return refused(ReaderFault::ChallengeWrong);
     }
-    silent(Verdict::Accepted)
+    silent(Ok(()))
 }
 
 /// IAM1 (9.5.3): the reply is the challenge. Ruled out: a challenge of nine bytes taken; the bytes in turned order.
@@ -58,5 +58,5 @@ pub fn empty(reply: &[u8]) -> Judgement
     if reply.len() != 0 {
         return refused(ReaderFault::ReplyLength);
     }
-    silent(Verdict::Accepted)
+    silent(Ok(()))
 }

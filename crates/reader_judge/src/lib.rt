@@ -28,18 +28,11 @@ pub enum Worth {
     Proved,
 }
 
-/// The end of a judgement.
-#[derive(Clone, Copy)]
-pub enum Verdict {
-    Accepted,
-    Refused(ReaderFault),
-}
-
 /// What the judge says of a reply: the verdict; how many bytes of data stand in the data room's first bytes, and what
 /// they are worth; whether the tag issued a challenge, and the challenge (zeros where not).
 #[derive(Clone, Copy)]
 pub struct Judgement {
-    pub verdict: Verdict,
+    pub verdict: Result<(), ReaderFault>,
     pub data: usize,
     pub worth: Worth,
     pub issued: bool,

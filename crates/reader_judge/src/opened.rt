@@ -55,7 +55,7 @@ pub fn open_data(keys: Keys, mode: ProtMode, f: Tam2, reply: &[u8], out: &mut [u
     if encrypts(mode) {
         let enc = keys.enc;
         let iv = field::first_block(reply);
-        modes_inverse::cbc_dec_aes_inv(iv, enc, &reply[16..end], out);
+        modes_inverse::cbc_dec_aes_inv(iv, enc, &reply[16..end], out).unwrap();
         return;
     }
     out[..end - 16].copy_from_slice(&reply[16..end]);

@@ -2,13 +2,13 @@
 ghost use Rattle.std.specs.Prelude.{◌≡◌};
 ghost use Rattle.reader_judge.specs.Findings.{silent, refused, issues, carries, worth_of, said_of};
 
-use super::{Judgement, Verdict, Worth};
+use super::{Judgement, Worth};
 use frames::ProtMode;
 use frames::protection::has_mac;
 use reader::ReaderFault;
 
 /// A verdict alone. Ruled out: data that are counted where none came; a challenge that is not zeros.
-pub fn silent(verdict: Verdict) -> Judgement
+pub fn silent(verdict: Result<(), ReaderFault>) -> Judgement
     ensures { result ≡ said_of (silent verdict) }
 {
     Judgement {
@@ -24,7 +24,7 @@ pub fn silent(verdict: Verdict) -> Judgement
 pub fn refused(fault: ReaderFault) -> Judgement
     ensures { result ≡ said_of (refused fault) }
 {
-    silent(Verdict::Refused(fault))
+    silent(Err(fault))
 }
 
 /// A challenge that the tag issued. Ruled out: a challenge that is not reported as issued; a refusal.
@@ -32,7 +32,7 @@ pub fn issues(challenge: [u8; 10]) -> Judgement
     ensures { result ≡ said_of (issues challenge) }
 {
     Judgement {
-        verdict: Verdict::Accepted,
+        verdict: Ok(()),
         data: 0,
         worth: Worth::NoData,
         issued: true,
@@ -56,7 +56,7 @@ pub fn carries(mode: ProtMode, words: &[u8]) -> Judgement
 {
     let worth = worth_of(mode);
     Judgement {
-        verdict: Verdict::Accepted,
+        verdict: Ok(()),
         data: words.len(),
         worth,
         issued: false,

@@ -14,7 +14,7 @@ use super::said::{carries, refused};
 use frames::constants::tam2_constant;
 use frames::protection::prot_mode;
 use frames::sizes::{DATA_ROOM, blocks_length, tam2_reply_length};
-use frames::{ProtMode, ProtModeField, Tam2};
+use frames::{ProtMode, Tam2};
 use reader::{Keys, ReaderFault};
 
 // Header and filler of the data in the clear; then the data over the room's first bytes.
@@ -79,7 +79,7 @@ pub fn tam2(keys: Keys, f: Tam2, reply: &[u8], room: &mut [u8]) -> Judgement
     ensures { Judges (tam2_finding keys f reply.now) room.old result room.new }
 {
     match prot_mode(f.protmode) {
-        ProtModeField::Mode(mode) => tam2_in_mode(keys, mode, f, reply, room),
-        ProtModeField::NoMode => refused(ReaderFault::OwnMessage),
+        Some(mode) => tam2_in_mode(keys, mode, f, reply, room),
+        None => refused(ReaderFault::OwnMessage),
     }
 }

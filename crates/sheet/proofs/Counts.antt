@@ -1,5 +1,7 @@
 -- What is gathered counts the records that were taken, and has the kind of the last: so 32 and 34 speak of the records
 -- that stand before.
+use Rattle.std.specs.Prelude.{Ok}
+use Rattle.sheet.specs.declared.Finding.TheVariants.{Taken}
 use mathlib.Core.Path.{◌≡◌, refl, sym, ap, subst}
 use mathlib.Core.List.{List, [], ◌∷◌}
 use Prim.Native.Nat.{ℕ}
@@ -16,7 +18,6 @@ use Rattle.sheet.specs.PaperNumbers.{all_stand}
 use Rattle.sheet.specs.declared.Kind.{Kind}
 use Rattle.sheet.specs.declared.Kind.TheVariants.{FeatureRecord, SizeRecord, KeyRecord, ProfileRecord}
 use Rattle.sheet.specs.declared.Kind.TheVariants.{LockRecord, EndRecord, NoRecord}
-use Rattle.sheet.specs.declared.Finding.TheVariants.{Taken}
 use Rattle.sheet.specs.declared.Gathered.{Gathered}
 use Rattle.sheet.specs.declared.Judged.{Judged}
 use Rattle.sheet.proofs.Walks.{Took, took_features, took_sizes, took_key, took_profile, took_lock}
@@ -45,7 +46,7 @@ took_counted kinds (took_lock r) c =
     record { last = refl; keys = c.keys; profiles = c.profiles; locks = omega (arith, c.locks) }
 
 one_counted : (limit n : ℕ) (k k' : Gathered) (kinds r : List ℕ)
-    → judged_of limit r k ≡ record { finding = Taken n; gathered = k' } → Counted k kinds
+    → judged_of limit r k ≡ record { finding = Ok (Taken n); gathered = k' } → Counted k kinds
     → Counted k' (byte_at r 0 ∷ kinds)
 one_counted limit n k k' kinds [] j c =
     let h = nothing_there limit k in

@@ -1,4 +1,7 @@
 -- The end record: it is 06, and leaves what was gathered.
+use Rattle.std.specs.Prelude.{Result, Ok, Err}
+use Rattle.sheet.specs.declared.Finding.TheVariants.{Ended}
+use Rattle.sheet.specs.declared.SheetFault.{SheetFault}
 use mathlib.Core.Path.{◌≡◌, refl, ap, ◌∙◌}
 use mathlib.Core.Bool.{Bool, true, false}
 use mathlib.Core.List.{List, [], ◌∷◌}
@@ -15,9 +18,6 @@ use Rattle.sheet.specs.Judgement.{with_features, with_sizes, with_key, with_prof
 use Rattle.sheet.specs.declared.Kind.{Kind}
 use Rattle.sheet.specs.declared.Kind.TheVariants.{FeatureRecord, SizeRecord, KeyRecord, ProfileRecord}
 use Rattle.sheet.specs.declared.Kind.TheVariants.{LockRecord, EndRecord, NoRecord}
-use Rattle.sheet.specs.declared.Finding.TheVariants.{Ended}
-use Rattle.sheet.specs.declared.Head.{Head}
-use Rattle.sheet.specs.declared.Head.TheVariants.{Open, Shut}
 use Rattle.sheet.specs.declared.Gathered.{Gathered}
 use Rattle.sheet.proofs.Openings.{passed}
 use Rattle.sheet.proofs.Walks.{ahead, nothing_there}
@@ -61,11 +61,11 @@ kind_code x h =
     code_is x (eqb x 1) (eqb x 2) (eqb x 3) (eqb x 4) (eqb x 5) (eqb x 6) refl refl refl refl refl refl h
 
 -- the end record leaves what was gathered
-pick_end : (q : Kind) (k k' : Gathered) (r : Bool) → (taken_if r q k k').finding ≡ Ended → ⊥
+pick_end : (q : Kind) (k k' : Gathered) (r : Bool) → (taken_if r q k k').finding ≡ (Ok Ended) → ⊥
 pick_end q k k' true e = let z : ◌≡◌ {A = ℕ} 0 1 = cc in omega arith
 pick_end q k k' false e = let z : ◌≡◌ {A = ℕ} 0 1 = cc in omega arith
 
-record_end : (q : Kind) (b : List ℕ) (k : Gathered) → (record_of q b k).finding ≡ Ended
+record_end : (q : Kind) (b : List ℕ) (k : Gathered) → (record_of q b k).finding ≡ (Ok Ended)
     → (q ≡ EndRecord) × ((record_of q b k).gathered ≡ k)
 unfolding record_of
 record_end FeatureRecord b k e = absurd (pick_end FeatureRecord k (with_features k b) (features_rule b) e)
@@ -86,24 +86,24 @@ pub record End (limit b : ℕ) (t : List ℕ) (k : Gathered) : Type 0 where
   pub ordered : in_order k.marks.last 6 ≡ true
   pub same : (judged_of limit (b ∷ t) k).gathered ≡ k
 
-ended : (limit b : ℕ) (t : List ℕ) (k : Gathered) (o : Head) → opened_of limit b (length t) k ≡ o
-    → (only_if o k (ahead (kind_of b) t k)).finding ≡ Ended
+ended : (limit b : ℕ) (t : List ℕ) (k : Gathered) (o : Result Unit SheetFault) → opened_of limit b (length t) k ≡ o
+    → (only_if o k (ahead (kind_of b) t k)).finding ≡ (Ok Ended)
     → (b ≡ 6) × (in_order k.marks.last 6 ≡ true) × ((only_if o k (ahead (kind_of b) t k)).gathered ≡ k)
-ended limit b t k Open o e =
+ended limit b t k (Ok tt) o e =
     let h = record_end (kind_of b) (take (body_length (kind_of b)) t) k e in
     let p = passed limit b (length t) k o in
     let six = kind_code b p.known ∙ ap code_of h.0 in
     (six, rw six at p.ordered, h.1)
-ended limit b t k (Shut f) o e = let z : ◌≡◌ {A = ℕ} 0 1 = cc in absurd (omega arith)
+ended limit b t k (Err f) o e = let z : ◌≡◌ {A = ℕ} 0 1 = cc in absurd (omega arith)
 
-pub end : (limit b : ℕ) (t : List ℕ) (k : Gathered) → (judged_of limit (b ∷ t) k).finding ≡ Ended → End limit b t k
+pub end : (limit b : ℕ) (t : List ℕ) (k : Gathered) → (judged_of limit (b ∷ t) k).finding ≡ (Ok Ended) → End limit b t k
 unfolding judged_of
 end limit b t k e =
     let h = ended limit b t k (opened_of limit b (length t) k) refl e in
     record { byte = h.0; ordered = h.1; same = h.2 }
 
 -- of the bytes r: there is a byte, and nothing is gathered of it
-pub ended_same : (limit : ℕ) (r : List ℕ) (k : Gathered) → (judged_of limit r k).finding ≡ Ended
+pub ended_same : (limit : ℕ) (r : List ℕ) (k : Gathered) → (judged_of limit r k).finding ≡ (Ok Ended)
     → (0 < length r) × ((judged_of limit r k).gathered ≡ k)
 ended_same limit [] k e =
     let h = nothing_there limit k in

@@ -1,4 +1,5 @@
 -- One record judged: what the calls on the way give.
+use Rattle.std.specs.Prelude.{Result, Ok, Err}
 use mathlib.Core.Path.{◌≡◌, refl, sym, ◌∙◌}
 use mathlib.Core.Bool.{false}
 use mathlib.Core.List.{List, [], ◌∷◌}
@@ -13,8 +14,6 @@ use Rattle.sheet.specs.declared.Kind.{Kind}
 use Rattle.sheet.specs.declared.Kind.TheVariants.{KeyRecord, ProfileRecord, LockRecord}
 use Rattle.sheet.specs.declared.SheetFault.{SheetFault}
 use Rattle.sheet.specs.declared.SheetFault.TheVariants.{Cut}
-use Rattle.sheet.specs.declared.Head.{Head}
-use Rattle.sheet.specs.declared.Head.TheVariants.{Open, Shut}
 use Rattle.sheet.specs.declared.Gathered.{Gathered}
 use Rattle.sheet.specs.declared.Judged.{Judged}
 use Rattle.sheet.proofs.Openings.{passed}
@@ -38,8 +37,8 @@ unfolding judged_of
 judged_none limit [] k e = refl
 judged_none limit (b ∷ t) k e = absurd (omega arith)
 
-pub judged_shut : (limit : ℕ) (r : List ℕ) (k : Gathered) (o : Head) (f : SheetFault) → (length r ≡ 0 → ⊥)
-    → o ≡ opened_of limit (get_or r 0 0) (length r - 1) k → o ≡ Shut f → refused f k ≡ judged_of limit r k
+pub judged_shut : (limit : ℕ) (r : List ℕ) (k : Gathered) (o : Result Unit SheetFault) (f : SheetFault) → (length r ≡ 0 → ⊥)
+    → o ≡ opened_of limit (get_or r 0 0) (length r - 1) k → o ≡ Err f → refused f k ≡ judged_of limit r k
 unfolding judged_of
 judged_shut limit [] k o f n e h = absurd (n refl)
 judged_shut limit (b ∷ t) k o f n e h =
@@ -47,8 +46,8 @@ judged_shut limit (b ∷ t) k o f n e h =
     rw (sym (rw l at e) ∙ h)
 
 -- q and n are the kind and the body's length
-module _ (limit : ℕ) (r : List ℕ) (k : Gathered) (o : Head) (q : Kind) (n : ℕ) (some : length r ≡ 0 → ⊥)
-    (eo : o ≡ opened_of limit (get_or r 0 0) (length r - 1) k) (eop : o ≡ Open)
+module _ (limit : ℕ) (r : List ℕ) (k : Gathered) (o : Result Unit SheetFault) (q : Kind) (n : ℕ) (some : length r ≡ 0 → ⊥)
+    (eo : o ≡ opened_of limit (get_or r 0 0) (length r - 1) k) (eop : o ≡ Ok tt)
     (eq : q ≡ kind_of (get_or r 0 0)) (en : n ≡ body_length q) where
   pub body_fits : n ≤ length r - 1
   body_fits = rw (en, eq) (passed limit (get_or r 0 0) (length r - 1) k (sym eo ∙ eop)).whole
@@ -59,8 +58,8 @@ module _ (limit : ℕ) (r : List ℕ) (k : Gathered) (o : Head) (q : Kind) (n : 
   pub body_long : length (take (1 + n - 1) (drop 1 r)) ≡ body_length q
   body_long = simp (length-take, length-drop) (omega (arith, body_fits, en))
 
-pub judged_open : (limit : ℕ) (r : List ℕ) (k : Gathered) (o : Head) (q : Kind) (n : ℕ) (j : Judged)
-    → (length r ≡ 0 → ⊥) → o ≡ opened_of limit (get_or r 0 0) (length r - 1) k → o ≡ Open
+pub judged_open : (limit : ℕ) (r : List ℕ) (k : Gathered) (o : Result Unit SheetFault) (q : Kind) (n : ℕ) (j : Judged)
+    → (length r ≡ 0 → ⊥) → o ≡ opened_of limit (get_or r 0 0) (length r - 1) k → o ≡ Ok tt
     → q ≡ kind_of (get_or r 0 0) → n ≡ body_length q → j ≡ record_of q (take (1 + n - 1) (drop 1 r)) k
     → j ≡ judged_of limit r k
 unfolding judged_of

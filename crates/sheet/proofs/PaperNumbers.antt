@@ -1,4 +1,7 @@
 -- The numbers 30 to 35 and their places are those of the scope paper's list.
+use Rattle.std.specs.Prelude.{Result, Ok, Err}
+use Rattle.sheet.specs.declared.Finding.TheVariants.{Taken, Ended}
+use Rattle.sheet.specs.declared.Finding.{Finding}
 use mathlib.Core.Path.{◌≡◌, refl, sym, ap, subst, subst₂, ◌∙◌}
 use mathlib.Core.Bool.{Bool, true, false, not}
 use mathlib.Core.Logic.{◌↔◌}
@@ -22,9 +25,6 @@ use Rattle.sheet.specs.declared.Kind.TheVariants.{FeatureRecord, SizeRecord, Key
 use Rattle.sheet.specs.declared.Kind.TheVariants.{LockRecord, EndRecord, NoRecord}
 use Rattle.sheet.specs.declared.SheetFault.{SheetFault}
 use Rattle.sheet.specs.declared.SheetFault.TheVariants.{Cut, Unknown, Order, Value, Many, Tail}
-use Rattle.sheet.specs.declared.Finding.{Finding}
-use Rattle.sheet.specs.declared.Finding.TheVariants.{Taken, Ended, Faulty}
-use Rattle.sheet.specs.declared.Head.TheVariants.{Open}
 use Rattle.sheet.specs.declared.SheetVerdict.{SheetVerdict}
 use Rattle.sheet.specs.declared.SheetVerdict.TheVariants.{Whole, Refused}
 use Rattle.sheet.specs.declared.Gathered.{Gathered}
@@ -55,7 +55,7 @@ value_number NoRecord b k e = let z : ◌≡◌ {A = ℕ} 0 1 = cc in absurd (om
 -- 31, 32, 34, 30, and n behind them
 line_by_line : (u o m c : Bool) (k : Gathered) (j : Judged) (n : ℕ) → (u ≡ false → finding_number j.finding ≡ n)
     → finding_number
-    (only_if (shut_if u Unknown (shut_if (not o) Order (shut_if m Many (shut_if c Cut Open)))) k j).finding
+    (only_if (shut_if u Unknown (shut_if (not o) Order (shut_if m Many (shut_if c Cut (Ok tt))))) k j).finding
     ≡ pick u 31 (pick (not o) 32 (pick m 34 (pick c 30 n)))
 line_by_line true o m c k j n h = refl
 line_by_line false false m c k j n h = refl
@@ -87,7 +87,7 @@ module _ (limit : ℕ) (s : List ℕ) where
   Fault = FirstFault limit s 0 nothing_gathered
 
   -- the number of a finding, told by the list
-  found : {p : ℕ} {k : Gathered} (h : InTurn limit s 0 nothing_gathered p k) (f : Finding)
+  found : {p : ℕ} {k : Gathered} (h : InTurn limit s 0 nothing_gathered p k) (f : Result Finding SheetFault)
       → (judged_of limit (drop p s) k).finding ≡ f → finding_number f ≡ paper_number limit (drop p s) (kinds_taken h) k
   unfolding judged_number
   found {p = p} {k = k} h f e =
@@ -97,17 +97,17 @@ module _ (limit : ℕ) (s : List ℕ) where
   fault_listed : {f : SheetFault} {p : ℕ} → FirstFault limit s 0 nothing_gathered f p
       → PaperSays limit s (number_of f) p
   fault_listed (there {p = p} {k = k} {f = f} h e) =
-      let q : number_of f ≡ paper_number limit (drop p s) (kinds_taken h) k = found h (Faulty f) e in
+      let q : number_of f ≡ paper_number limit (drop p s) (kinds_taken h) k = found h (Err f) e in
       subst (λ (n : ℕ). PaperSays limit s n p) (sym q) (line h (omega (arith, some_number f)))
   fault_listed (behind h e l) = bytes_follow h e l
 
   -- what is on the list is a first fault
-  on_list : (p : ℕ) (k : Gathered) (h : InTurn limit s 0 nothing_gathered p k) (f : Finding)
+  on_list : (p : ℕ) (k : Gathered) (h : InTurn limit s 0 nothing_gathered p k) (f : Result Finding SheetFault)
       → (judged_of limit (drop p s) k).finding ≡ f → 0 < paper_number limit (drop p s) (kinds_taken h) k
       → (g : SheetFault) × Fault g p × (number_of g ≡ paper_number limit (drop p s) (kinds_taken h) k)
-  on_list p k h (Taken n) e l = absurd (omega (arith, found h (Taken n) e))
-  on_list p k h Ended e l = absurd (omega (arith, found h Ended e))
-  on_list p k h (Faulty f) e l = (f, there h e, found h (Faulty f) e)
+  on_list p k h (Ok (Taken n)) e l = absurd (omega (arith, found h (Ok (Taken n)) e))
+  on_list p k h (Ok Ended) e l = absurd (omega (arith, found h (Ok Ended) e))
+  on_list p k h (Err f) e l = (f, there h e, found h (Err f) e)
 
   listed_fault : {n p : ℕ} → PaperSays limit s n p → (f : SheetFault) × Fault f p × (number_of f ≡ n)
   listed_fault (line {p = p} {k = k} h l) = on_list p k h (judged_of limit (drop p s) k).finding refl l

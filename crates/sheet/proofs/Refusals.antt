@@ -1,6 +1,9 @@
 -- A sheet is refused by f at p exactly if the records before p are taken in turn and f is the first fault there; it is
 -- whole exactly if they are taken in turn up to an end record that is its last byte. So no refusal's place is past the
 -- sheet.
+use Rattle.std.specs.Prelude.{Result, Ok, Err}
+use Rattle.sheet.specs.declared.Finding.TheVariants.{Taken, Ended}
+use Rattle.sheet.specs.declared.Finding.{Finding}
 use mathlib.Core.Path.{◌≡◌, refl, sym, ap, subst, subst₂, ◌∙◌}
 use mathlib.Core.Bool.{Bool, true, false}
 use mathlib.Core.Logic.{◌↔◌}
@@ -17,8 +20,6 @@ use Rattle.sheet.specs.Sheet.{refused_at, ends, walk, place_in, read_from, read_
 use Rattle.sheet.specs.Refusals.{InTurn, begins, goes_on, FirstFault, there, behind, Complete}
 use Rattle.sheet.specs.declared.SheetFault.{SheetFault}
 use Rattle.sheet.specs.declared.SheetFault.TheVariants.{Cut}
-use Rattle.sheet.specs.declared.Finding.{Finding}
-use Rattle.sheet.specs.declared.Finding.TheVariants.{Taken, Ended, Faulty}
 use Rattle.sheet.specs.declared.SheetVerdict.{SheetVerdict}
 use Rattle.sheet.specs.declared.SheetVerdict.TheVariants.{Whole, Refused}
 use Rattle.sheet.specs.declared.Gathered.{Gathered}
@@ -37,7 +38,7 @@ module _ (limit : ℕ) (s : List ℕ) (from : ℕ) (before : Gathered) (start : 
   on begins = (start, refl)
   on (goes_on {p = p} {n = n} {k = k} {k' = k'} h e) =
       let i = on h in
-      let t = read_taken limit s p k (record { finding = Taken n; gathered = k' }) i.0 (sym e) n refl in
+      let t = read_taken limit s p k (record { finding = Ok (Taken n); gathered = k' }) i.0 (sym e) n refl in
       (t.1, i.1 ∙ t.2)
 
   refused_there : {f : SheetFault} {p : ℕ} → FirstFault limit s from before f p
@@ -77,7 +78,7 @@ module _ (limit : ℕ) (s : List ℕ) (from : ℕ) (before : Gathered) (start : 
   fault_ends h = subst Ending (sym (refused_there h).1) (refuses h)
 
   -- the end record, with or without a byte behind it
-  last_ends : (p : ℕ) (k : Gathered) → InTurn limit s from before p k → (judged_of limit (drop p s) k).finding ≡ Ended
+  last_ends : (p : ℕ) (k : Gathered) → InTurn limit s from before p k → (judged_of limit (drop p s) k).finding ≡ (Ok Ended)
       → (t : Bool) → ltb (p + 1) (length s) ≡ t → Ends
   last_ends p k h e true l = fault_ends (behind h e (ltb-true (p + 1) (length s) l))
   last_ends p k h e false l =
@@ -89,14 +90,14 @@ module _ (limit : ℕ) (s : List ℕ) (from : ℕ) (before : Gathered) (start : 
       subst Ending (sym (completed c)) (completes c)
 
   turn : (p : ℕ) (k : Gathered) → InTurn limit s from before p k
-      → (f : Finding) → (judged_of limit (drop p s) k).finding ≡ f
+      → (f : Result Finding SheetFault) → (judged_of limit (drop p s) k).finding ≡ f
       → ((q : ℕ) (k' : Gathered) → p < q → InTurn limit s from before q k' → Ends) → Ends
-  turn p k h (Taken n) e rest =
+  turn p k h (Ok (Taken n)) e rest =
       let k' = (judged_of limit (drop p s) k).gathered in
       let t = read_taken limit s p k _ (on h).0 refl n e in
       rest (p + n) k' (omega (arith, t.0)) (goes_on h (λ i. record { finding = e i; gathered = k' }))
-  turn p k h Ended e rest = last_ends p k h e (ltb (p + 1) (length s)) refl
-  turn p k h (Faulty f) e rest = fault_ends (there h e)
+  turn p k h (Ok Ended) e rest = last_ends p k h e (ltb (p + 1) (length s)) refl
+  turn p k h (Err f) e rest = fault_ends (there h e)
 
   -- N bounds the bytes that are left
   go : (N p : ℕ) (k : Gathered) → length s < p + N → InTurn limit s from before p k → Ends

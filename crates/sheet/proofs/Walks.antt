@@ -1,4 +1,6 @@
 -- The walk over a sheet's bytes: a record that is taken is passed.
+use Rattle.std.specs.Prelude.{Result, Ok, Err}
+use Rattle.sheet.specs.declared.Finding.TheVariants.{Taken, Ended}
 use mathlib.Core.Path.{◌≡◌, refl, sym, ap, ◌∙◌}
 use mathlib.Core.Bool.{Bool, true, false}
 use mathlib.Core.List.{List, [], ◌∷◌}
@@ -18,9 +20,6 @@ use Rattle.sheet.specs.declared.Kind.TheVariants.{FeatureRecord, SizeRecord, Key
 use Rattle.sheet.specs.declared.Kind.TheVariants.{LockRecord, EndRecord, NoRecord}
 use Rattle.sheet.specs.declared.SheetFault.{SheetFault}
 use Rattle.sheet.specs.declared.SheetFault.TheVariants.{Cut, Tail}
-use Rattle.sheet.specs.declared.Finding.TheVariants.{Taken, Ended, Faulty}
-use Rattle.sheet.specs.declared.Head.{Head}
-use Rattle.sheet.specs.declared.Head.TheVariants.{Open, Shut}
 use Rattle.sheet.specs.declared.Gathered.{Gathered}
 use Rattle.sheet.specs.declared.Judged.{Judged}
 use Rattle.sheet.proofs.Openings.{Passed, passed}
@@ -46,11 +45,11 @@ pub data Took : Kind → List ℕ → Gathered → Gathered → Type 0 where
       → Took LockRecord b k (with_lock k b)
 
 picked : (q : Kind) (b : List ℕ) (k k' : Gathered) (r : Bool) (n : ℕ) → (r ≡ true → Took q b k k')
-    → (taken_if r q k k').finding ≡ Taken n → (n ≡ record_length q) × Took q b k (taken_if r q k k').gathered
+    → (taken_if r q k k').finding ≡ Ok (Taken n) → (n ≡ record_length q) × Took q b k (taken_if r q k k').gathered
 picked q b k k' true n t e = (let h : n ≡ record_length q = cc in h, t refl)
 picked q b k k' false n t e = let z : ◌≡◌ {A = ℕ} 0 1 = cc in absurd (omega arith)
 
-pub record_took : (q : Kind) (b : List ℕ) (k : Gathered) (n : ℕ) → (record_of q b k).finding ≡ Taken n
+pub record_took : (q : Kind) (b : List ℕ) (k : Gathered) (n : ℕ) → (record_of q b k).finding ≡ Ok (Taken n)
     → (n ≡ record_length q) × Took q b k (record_of q b k).gathered
 unfolding record_of
 record_took FeatureRecord b k n e = picked FeatureRecord b k (with_features k b) (features_rule b) n took_features e
@@ -70,22 +69,22 @@ pub record Step (limit b : ℕ) (t : List ℕ) (k k' : Gathered) (n : ℕ) : Typ
   pub passed_checks : Passed limit b (length t) k
   pub size : n ≡ record_length (kind_of b)
   pub took : Took (kind_of b) (take (body_length (kind_of b)) t) k k'
-  pub judged : judged_of limit (b ∷ t) k ≡ record { finding = Taken n; gathered = k' }
+  pub judged : judged_of limit (b ∷ t) k ≡ record { finding = Ok (Taken n); gathered = k' }
 
 -- the record of kind q with which the body in front of t starts, were it opened
 abbrev pub ahead : Kind → List ℕ → Gathered → Judged
 ahead q t k = record_of q (take (body_length q) t) k
 
-stepped : (limit b : ℕ) (t : List ℕ) (k : Gathered) (n : ℕ) (o : Head) → opened_of limit b (length t) k ≡ o
-    → (only_if o k (ahead (kind_of b) t k)).finding ≡ Taken n
+stepped : (limit b : ℕ) (t : List ℕ) (k : Gathered) (n : ℕ) (o : Result Unit SheetFault) → opened_of limit b (length t) k ≡ o
+    → (only_if o k (ahead (kind_of b) t k)).finding ≡ Ok (Taken n)
     → Passed limit b (length t) k × (n ≡ record_length (kind_of b))
     × Took (kind_of b) (take (body_length (kind_of b)) t) k (only_if o k (ahead (kind_of b) t k)).gathered
-stepped limit b t k n Open o e =
+stepped limit b t k n (Ok tt) o e =
     let h = record_took (kind_of b) (take (body_length (kind_of b)) t) k n e in
     (passed limit b (length t) k o, h.0, h.1)
-stepped limit b t k n (Shut f) o e = let z : ◌≡◌ {A = ℕ} 0 1 = cc in absurd (omega arith)
+stepped limit b t k n (Err f) o e = let z : ◌≡◌ {A = ℕ} 0 1 = cc in absurd (omega arith)
 
-pub step : (limit b : ℕ) (t : List ℕ) (k : Gathered) (n : ℕ) → (judged_of limit (b ∷ t) k).finding ≡ Taken n
+pub step : (limit b : ℕ) (t : List ℕ) (k : Gathered) (n : ℕ) → (judged_of limit (b ∷ t) k).finding ≡ Ok (Taken n)
     → Step limit b t k (judged_of limit (b ∷ t) k).gathered n
 unfolding judged_of
 step limit b t k n e =
@@ -98,13 +97,13 @@ step limit b t k n e =
     }
 
 -- where no byte is left
-pub nothing_there : (limit : ℕ) (k : Gathered) → (judged_of limit [] k).finding ≡ Faulty Cut
+pub nothing_there : (limit : ℕ) (k : Gathered) → (judged_of limit [] k).finding ≡ Err Cut
 unfolding judged_of
 nothing_there limit k = refl
 
 -- What each finding on the record at which the bytes r start means for the walk.
 module _ (limit at : ℕ) (k : Gathered) where
-  pub walk_faulty : (r : List ℕ) (f : SheetFault) → (judged_of limit r k).finding ≡ Faulty f
+  pub walk_faulty : (r : List ℕ) (f : SheetFault) → (judged_of limit r k).finding ≡ Err f
       → walk limit r 0 at k ≡ refused_at f at
   unfolding walk after
   walk_faulty [] f e =
@@ -113,14 +112,14 @@ module _ (limit at : ℕ) (k : Gathered) where
       ap (λ (g : SheetFault). refused_at g at) c
   walk_faulty (b ∷ t) f e = rw e
 
-  pub walk_tail : (r : List ℕ) → 1 < length r → (judged_of limit r k).finding ≡ Ended
+  pub walk_tail : (r : List ℕ) → 1 < length r → (judged_of limit r k).finding ≡ (Ok Ended)
       → walk limit r 0 at k ≡ refused_at Tail (at + 1)
   unfolding walk after
   walk_tail [] h e = absurd (omega arith)
   walk_tail (b ∷ []) h e = absurd (omega arith)
   walk_tail (b ∷ x ∷ t) h e = rw e
 
-  pub walk_whole : (r : List ℕ) → length r ≤ 1 → (judged_of limit r k).finding ≡ Ended
+  pub walk_whole : (r : List ℕ) → length r ≤ 1 → (judged_of limit r k).finding ≡ (Ok Ended)
       → walk limit r 0 at k ≡ ends (judged_of limit r k).gathered
   unfolding walk after
   walk_whole [] h e =
@@ -130,7 +129,7 @@ module _ (limit at : ℕ) (k : Gathered) where
   walk_whole (b ∷ []) h e = rw e
   walk_whole (b ∷ x ∷ t) h e = absurd (omega arith)
 
-  pub walk_taken : (r : List ℕ) (n : ℕ) → (judged_of limit r k).finding ≡ Taken n
+  pub walk_taken : (r : List ℕ) (n : ℕ) → (judged_of limit r k).finding ≡ Ok (Taken n)
       → (1 ≤ n) × (n ≤ length r) × (walk limit r 0 at k ≡ walk limit (drop n r) 0 (at + n)
       (judged_of limit r k).gathered)
   unfolding walk after
@@ -166,20 +165,20 @@ module _ (limit : ℕ) (s : List ℕ) (at : ℕ) (k : Gathered) (j : Judged) (h 
   long : length (drop at s) ≡ length s - at
   long = length-drop at s
 
-  pub read_faulty : (f : SheetFault) → j.finding ≡ Faulty f → read_from limit s at k ≡ refused_at f at
+  pub read_faulty : (f : SheetFault) → j.finding ≡ Err f → read_from limit s at k ≡ refused_at f at
   read_faulty f g = placed limit s at k h ∙ walk_faulty limit at k (drop at s) f (rw judged at g)
 
-  pub read_tail : j.finding ≡ Ended → at + 1 < length s → read_from limit s at k ≡ refused_at Tail (at + 1)
+  pub read_tail : j.finding ≡ (Ok Ended) → at + 1 < length s → read_from limit s at k ≡ refused_at Tail (at + 1)
   read_tail g l =
       placed limit s at k h ∙ walk_tail limit at k (drop at s) (rw long (omega arith)) (rw judged at g)
 
-  pub read_whole : j.finding ≡ Ended → length s ≤ at + 1 → read_from limit s at k ≡ ends j.gathered
+  pub read_whole : j.finding ≡ (Ok Ended) → length s ≤ at + 1 → read_from limit s at k ≡ ends j.gathered
   read_whole g l =
       placed limit s at k h
       ∙ walk_whole limit at k (drop at s) (rw long (omega arith)) (rw judged at g)
       ∙ ap (λ (x : Judged). ends x.gathered) (sym judged)
 
-  pub read_taken : (n : ℕ) → j.finding ≡ Taken n
+  pub read_taken : (n : ℕ) → j.finding ≡ Ok (Taken n)
       → (1 ≤ n) × (at + n ≤ length s) × (read_from limit s at k ≡ read_from limit s (at + n) j.gathered)
   read_taken n g =
       let t = walk_taken limit at k (drop at s) n (rw judged at g) in

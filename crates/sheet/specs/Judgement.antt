@@ -1,6 +1,8 @@
 -- The scope paper, "The tag sheet": one record judged against those before it. `limit` is how many key records there
 -- may be.
-use Rattle.std.specs.Prelude.{◌≡◌, ℕ, ◌+◌, Bool, true, false, not, List, [], ◌∷◌, length, take, set, leb, ltb}
+use Rattle.std.specs.Prelude.{◌≡◌, ℕ, ◌+◌, Bool, true, false, not, List, [], ◌∷◌, length, take, set, leb, ltb, Result, Ok, Err}
+use Rattle.sheet.specs.declared.Finding.TheVariants.{Taken, Ended}
+use Rattle.sheet.specs.declared.Finding.{Finding}
 use Rattle.ground.specs.Choice.{pick}
 use Rattle.ground.specs.Bytes.{byte_at, word_at}
 use Rattle.sheet.specs.Limits.{profile_limit, lock_limit}
@@ -28,10 +30,6 @@ use Rattle.sheet.specs.declared.Kind.TheVariants.{
 }
 use Rattle.sheet.specs.declared.SheetFault.{SheetFault}
 use Rattle.sheet.specs.declared.SheetFault.TheVariants.{Cut, Unknown, Order, Value, Many}
-use Rattle.sheet.specs.declared.Finding.{Finding}
-use Rattle.sheet.specs.declared.Finding.TheVariants.{Taken, Ended, Faulty}
-use Rattle.sheet.specs.declared.Head.{Head}
-use Rattle.sheet.specs.declared.Head.TheVariants.{Open, Shut}
 use Rattle.sheet.specs.declared.Gathered.{Gathered}
 use Rattle.sheet.specs.declared.Judged.{Judged}
 
@@ -45,25 +43,25 @@ too_many limit LockRecord k = leb lock_limit k.terms.locks.count
 too_many limit EndRecord k = false
 too_many limit NoRecord k = false
 
-abbrev pub shut_if : Bool → SheetFault → Head → Head
-shut_if true f o = Shut f
+abbrev pub shut_if : Bool → SheetFault → Result Unit SheetFault → Result Unit SheetFault
+shut_if true f o = Err f
 shut_if false f o = o
 
 -- What a kind byte b and the number of bytes after it decide, in the paper's order: 31, 32, 34, 30.
-unfoldable pub opened_of : ℕ → ℕ → ℕ → Gathered → Head
+unfoldable pub opened_of : ℕ → ℕ → ℕ → Gathered → Result Unit SheetFault
 opened_of limit b left k =
     shut_if (is_unknown (kind_of b)) Unknown
     (shut_if (not (in_order k.marks.last b)) Order
     (shut_if (too_many limit (kind_of b) k) Many
     (shut_if (ltb left (body_length (kind_of b))) Cut
-    Open)))
+    (Ok tt))))
 
 -- A record that is refused leaves what was gathered; one that is taken takes its kind byte and its body.
 abbrev pub refused : SheetFault → Gathered → Judged
-refused f k = record { finding = Faulty f; gathered = k }
+refused f k = record { finding = Err f; gathered = k }
 
 abbrev pub taken : Kind → Gathered → Judged
-taken q k = record { finding = Taken (record_length q); gathered = k }
+taken q k = record { finding = Ok (Taken (record_length q)); gathered = k }
 
 -- What is gathered after a record of each kind.
 unfoldable pub with_features : Gathered → List ℕ → Gathered
@@ -175,12 +173,12 @@ record_of ProfileRecord b k =
     taken_if (profile_rule k.marks.number k.terms.sizes b) ProfileRecord k (with_profile k b)
 record_of LockRecord b k =
     taken_if (lock_rule k.marks.area k.marks.word k.terms.sizes b) LockRecord k (with_lock k b)
-record_of EndRecord b k = record { finding = Ended; gathered = k }
+record_of EndRecord b k = record { finding = (Ok Ended); gathered = k }
 record_of NoRecord b k = refused Unknown k
 
-abbrev pub only_if : Head → Gathered → Judged → Judged
-only_if Open k j = j
-only_if (Shut f) k j = refused f k
+abbrev pub only_if : Result Unit SheetFault → Gathered → Judged → Judged
+only_if (Ok tt) k j = j
+only_if (Err f) k j = refused f k
 
 -- The record with which these bytes start. 30 also where the kind byte is missing.
 unfoldable pub judged_of : ℕ → List ℕ → Gathered → Judged
@@ -189,10 +187,10 @@ judged_of limit (b ∷ t) k =
     only_if (opened_of limit b (length t) k) k (record_of (kind_of b) (take (body_length (kind_of b)) t) k)
 
 -- the number of a finding; 0 for a record that is taken or that ends the sheet
-abbrev pub finding_number : Finding → ℕ
-finding_number (Taken n) = 0
-finding_number Ended = 0
-finding_number (Faulty f) = number_of f
+abbrev pub finding_number : Result Finding SheetFault → ℕ
+finding_number (Ok (Taken n)) = 0
+finding_number (Ok Ended) = 0
+finding_number (Err f) = number_of f
 
 -- A judgement that is this one, by name and by number.
 abbrev pub JudgedAs : Judged → Judged → Type 0

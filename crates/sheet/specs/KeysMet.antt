@@ -1,5 +1,8 @@
 -- The keys of a sheet as the walk over it meets them, record by record. Those of an accepted sheet are its key table's.
-use Rattle.std.specs.Prelude.{ℕ, zero, suc, List, [], ◌∷◌, ◌++◌, take}
+use Rattle.std.specs.Prelude.{ℕ, zero, suc, List, [], ◌∷◌, ◌++◌, take, Result, Ok, Err}
+use Rattle.sheet.specs.declared.Finding.TheVariants.{Taken, Ended}
+use Rattle.sheet.specs.declared.Finding.{Finding}
+use Rattle.sheet.specs.declared.SheetFault.{SheetFault}
 use Rattle.sheet.specs.Kinds.{kind_of, body_length}
 use Rattle.sheet.specs.Records.{key_of}
 use Rattle.sheet.specs.Setups.{nothing_gathered}
@@ -14,8 +17,6 @@ use Rattle.sheet.specs.declared.Kind.TheVariants.{
   EndRecord,
   NoRecord,
 }
-use Rattle.sheet.specs.declared.Finding.{Finding}
-use Rattle.sheet.specs.declared.Finding.TheVariants.{Taken, Ended, Faulty}
 use Rattle.sheet.specs.declared.Key.{Key}
 use Rattle.sheet.specs.declared.Gathered.{Gathered}
 
@@ -30,10 +31,10 @@ key_said EndRecord b = []
 key_said NoRecord b = []
 
 -- of a record that is taken, and those behind it
-abbrev pub met_in : Finding → List Key → List Key → List Key
-met_in (Taken n) said ks = said ++ ks
-met_in Ended said ks = []
-met_in (Faulty f) said ks = []
+abbrev pub met_in : Result Finding SheetFault → List Key → List Key → List Key
+met_in (Ok (Taken n)) said ks = said ++ ks
+met_in (Ok Ended) said ks = []
+met_in (Err f) said ks = []
 
 -- the bytes are passed as in `walk`
 unfoldable pub met_from : ℕ → List ℕ → ℕ → Gathered → List Key

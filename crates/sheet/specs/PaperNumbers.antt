@@ -1,6 +1,7 @@
 -- The scope paper, "The tag sheet": its list of refusals with their numbers, line by line in its order. `number_of` (in
 -- Kinds) names no condition; here each number stands beside its own.
-use Rattle.std.specs.Prelude.{◌≡◌, ℕ, ◌+◌, ◌<◌, Bool, true, false, not, List, [], ◌∷◌, length, take, drop, leb, ltb}
+use Rattle.std.specs.Prelude.{◌≡◌, ℕ, ◌+◌, ◌<◌, Bool, true, false, not, List, [], ◌∷◌, length, take, drop, leb, ltb, Ok}
+use Rattle.sheet.specs.declared.Finding.TheVariants.{Ended}
 use Rattle.ground.specs.Choice.{pick}
 use Rattle.ground.specs.Bytes.{byte_at}
 use Rattle.sheet.specs.Limits.{profile_limit, lock_limit}
@@ -19,7 +20,6 @@ use Rattle.sheet.specs.declared.Kind.TheVariants.{
   EndRecord,
   NoRecord,
 }
-use Rattle.sheet.specs.declared.Finding.TheVariants.{Ended}
 use Rattle.sheet.specs.declared.Gathered.{Gathered}
 
 -- whether the values of a body keep the rule of its kind; the end record has none
@@ -66,4 +66,4 @@ pub data PaperSays (limit : ℕ) (s : List ℕ) : ℕ → ℕ → Type 0 where
       → 0 < paper_number limit (drop p s) (kinds_taken h) k
       → PaperSays limit s (paper_number limit (drop p s) (kinds_taken h) k) p
   bytes_follow : {p : ℕ} {k : Gathered} → InTurn limit s 0 nothing_gathered p k
-      → (judged_of limit (drop p s) k).finding ≡ Ended → p + 1 < length s → PaperSays limit s 35 (p + 1)
+      → (judged_of limit (drop p s) k).finding ≡ (Ok Ended) → p + 1 < length s → PaperSays limit s 35 (p + 1)

@@ -1,13 +1,13 @@
 -- The scope paper, "The tag sheet": a whole sheet. `limit` is how many key records there may be.
-use Rattle.std.specs.Prelude.{◌≡◌, ℕ, zero, suc, ◌+◌, min, List, [], ◌∷◌, length, drop}
+use Rattle.std.specs.Prelude.{◌≡◌, ℕ, zero, suc, ◌+◌, min, List, [], ◌∷◌, length, drop, Result, Ok, Err}
+use Rattle.sheet.specs.declared.Finding.TheVariants.{Taken, Ended}
+use Rattle.sheet.specs.declared.Finding.{Finding}
 use Rattle.sheet.specs.Kinds.{kind_of, body_length, number_of}
 use Rattle.sheet.specs.KeyTable.{key_table}
 use Rattle.sheet.specs.Setups.{Setup, setup_of, empty_terms, nothing_gathered}
 use Rattle.sheet.specs.Judgement.{judged_of}
 use Rattle.sheet.specs.declared.SheetFault.{SheetFault}
 use Rattle.sheet.specs.declared.SheetFault.TheVariants.{Cut, Tail}
-use Rattle.sheet.specs.declared.Finding.{Finding}
-use Rattle.sheet.specs.declared.Finding.TheVariants.{Taken, Ended, Faulty}
 use Rattle.sheet.specs.declared.SheetVerdict.{SheetVerdict}
 use Rattle.sheet.specs.declared.SheetVerdict.TheVariants.{Whole, Refused}
 use Rattle.sheet.specs.declared.Terms.{Terms}
@@ -28,11 +28,11 @@ ends k = whole k.terms k.marks.keys
 
 -- What follows from the finding on the record at a place, with the bytes t after its kind byte: the reading goes on
 -- behind it, or the sheet ends there (35 at the first byte that follows), or it is refused at that place.
-unfoldable pub after : Finding → Gathered → ℕ → List ℕ → Reading → Reading
-after (Taken n) k at t r = r
-after Ended k at [] r = ends k
-after Ended k at (x ∷ t) r = refused_at Tail (at + 1)
-after (Faulty f) k at t r = refused_at f at
+unfoldable pub after : Result Finding SheetFault → Gathered → ℕ → List ℕ → Reading → Reading
+after (Ok (Taken n)) k at t r = r
+after (Ok Ended) k at [] r = ends k
+after (Ok Ended) k at (x ∷ t) r = refused_at Tail (at + 1)
+after (Err f) k at t r = refused_at f at
 
 -- The bytes from a place on. They are passed one by one: `body` of them belong to the record that was judged last, and
 -- the next is a kind byte. So the walk falls with the bytes themselves, and needs no other bound.

@@ -4,10 +4,7 @@ ghost use Rattle.sheet.specs.Limits.{key_limit};
 ghost use Rattle.sheet.specs.Kinds.{kind_of, is_unknown, body_length, in_order};
 ghost use Rattle.sheet.specs.Judgement.{too_many, opened_of};
 
-use crate::{
-    FEATURE_BODY, Gathered, Head, KEY_BODY, KEY_LIMIT, Kind, LOCK_BODY, LOCK_LIMIT, PROFILE_BODY,
-    PROFILE_LIMIT, SIZE_BODY, SheetFault,
-};
+use crate::{FEATURE_BODY, Gathered, KEY_BODY, KEY_LIMIT, Kind, LOCK_BODY, LOCK_LIMIT, PROFILE_BODY, PROFILE_LIMIT, SIZE_BODY, SheetFault};
 
 pub(crate) fn kind_of(b: u8) -> Kind
     ensures { result ≡ kind_of b }
@@ -94,22 +91,22 @@ fn too_many(q: Kind, gathered: Gathered) -> bool
 }
 
 // The four checks before the body's values, in the paper's order.
-pub(crate) fn opening(b: u8, left: usize, gathered: Gathered) -> Head
+pub(crate) fn opening(b: u8, left: usize, gathered: Gathered) -> Result<(), SheetFault>
     ensures { result ≡ opened_of key_limit b left gathered }
 {
     let q = kind_of(b);
     if is_unknown(q) {
-        return Head::Shut(SheetFault::Unknown);
+        return Err(SheetFault::Unknown);
     }
     let last = gathered.marks.last;
     if !in_order(last, b) {
-        return Head::Shut(SheetFault::Order);
+        return Err(SheetFault::Order);
     }
     if too_many(q, gathered) {
-        return Head::Shut(SheetFault::Many);
+        return Err(SheetFault::Many);
     }
     if left < body_length(q) {
-        return Head::Shut(SheetFault::Cut);
+        return Err(SheetFault::Cut);
     }
-    Head::Open
+    Ok(())
 }

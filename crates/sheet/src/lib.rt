@@ -52,7 +52,7 @@ pub const LOCK_RECORD: usize = 1 + LOCK_BODY;
 pub const KEYS_AT: usize = FEATURE_RECORD + SIZE_RECORD;
 
 // Why a sheet is refused.
-#[derive(Clone, Copy)]
+#[derive(Clone, Copy, Debug, PartialEq, Eq)]
 pub enum SheetFault {
     Cut,
     Unknown,
@@ -151,25 +151,17 @@ pub struct Gathered {
     pub terms: Terms,
 }
 
-// A record is taken, with this many bytes; or it is the end record; or it is refused.
-#[derive(Clone, Copy)]
+// What stands at a place of a sheet: a record that is taken, with this many bytes, or the end record.
+#[derive(Clone, Copy, Debug, PartialEq, Eq)]
 pub enum Finding {
     Taken(usize),
     Ended,
-    Faulty(SheetFault),
-}
-
-// What the kind byte and the number of bytes after it decide.
-#[derive(Clone, Copy)]
-pub enum Head {
-    Open,
-    Shut(SheetFault),
 }
 
 // The finding on a record, and what is gathered after it.
 #[derive(Clone, Copy)]
 pub struct Judged {
-    pub finding: Finding,
+    pub finding: Result<Finding, SheetFault>,
     pub gathered: Gathered,
 }
 
@@ -235,18 +227,18 @@ pub fn judge(rest: &[u8], gathered: Gathered) -> Judged
 {
     if rest.len() == 0 {
         return Judged {
-            finding: Finding::Faulty(SheetFault::Cut),
+            finding: Err(SheetFault::Cut),
             gathered,
         };
     }
     let b = rest[0];
     let left = rest.len() - 1;
     match kinds::opening(b, left, gathered) {
-        Head::Shut(f) => Judged {
-            finding: Finding::Faulty(f),
+        Err(f) => Judged {
+            finding: Err(f),
             gathered,
         },
-        Head::Open => {
+        Ok(()) => {
             let q = kinds::kind_of(b);
             let e = 1 + kinds::body_length(q);
             records::judge_body(q, &rest[1..e], gathered)

@@ -34,10 +34,10 @@ pub fn read_from(s: &[u8], from: usize, before: Gathered) -> Reading
         let f = j.finding;
         let k = j.gathered;
         match f {
-            Finding::Faulty(fault) => {
+            Err(fault) => {
                 return crate::refuse(fault, at);
             }
-            Finding::Ended => {
+            Ok(Finding::Ended) => {
                 if at + 1 < s.len() {
                     return crate::refuse(SheetFault::Tail, at + 1);
                 }
@@ -49,7 +49,7 @@ pub fn read_from(s: &[u8], from: usize, before: Gathered) -> Reading
                     keys,
                 };
             }
-            Finding::Taken(n) => {
+            Ok(Finding::Taken(n)) => {
                 at += n;
                 gathered = k;
             }

@@ -20,12 +20,12 @@ fn feature_record(b: &[u8], gathered: Gathered) -> Judged
         let mut t = gathered.terms;
         t.features = f;
         return Judged {
-            finding: Finding::Taken(FEATURE_RECORD),
+            finding: Ok(Finding::Taken(FEATURE_RECORD)),
             gathered: Gathered { marks: m, terms: t },
         };
     }
     Judged {
-        finding: Finding::Faulty(SheetFault::Value),
+        finding: Err(SheetFault::Value),
         gathered,
     }
 }
@@ -41,12 +41,12 @@ fn size_record(b: &[u8], gathered: Gathered) -> Judged
         let mut t = gathered.terms;
         t.sizes = z;
         return Judged {
-            finding: Finding::Taken(SIZE_RECORD),
+            finding: Ok(Finding::Taken(SIZE_RECORD)),
             gathered: Gathered { marks: m, terms: t },
         };
     }
     Judged {
-        finding: Finding::Faulty(SheetFault::Value),
+        finding: Err(SheetFault::Value),
         gathered,
     }
 }
@@ -63,12 +63,12 @@ fn key_record(b: &[u8], gathered: Gathered) -> Judged
         m.id = b[0] as u16 + 1;
         let terms = gathered.terms;
         return Judged {
-            finding: Finding::Taken(KEY_RECORD),
+            finding: Ok(Finding::Taken(KEY_RECORD)),
             gathered: Gathered { marks: m, terms },
         };
     }
     Judged {
-        finding: Finding::Faulty(SheetFault::Value),
+        finding: Err(SheetFault::Value),
         gathered,
     }
 }
@@ -90,12 +90,12 @@ fn profile_record(b: &[u8], gathered: Gathered) -> Judged
         let at = i as usize;
         t.profiles[at] = p;
         return Judged {
-            finding: Finding::Taken(PROFILE_RECORD),
+            finding: Ok(Finding::Taken(PROFILE_RECORD)),
             gathered: Gathered { marks: m, terms: t },
         };
     }
     Judged {
-        finding: Finding::Faulty(SheetFault::Value),
+        finding: Err(SheetFault::Value),
         gathered,
     }
 }
@@ -120,12 +120,12 @@ fn lock_record(b: &[u8], gathered: Gathered) -> Judged
         let mut t = gathered.terms;
         t.locks = ls;
         return Judged {
-            finding: Finding::Taken(LOCK_RECORD),
+            finding: Ok(Finding::Taken(LOCK_RECORD)),
             gathered: Gathered { marks: m, terms: t },
         };
     }
     Judged {
-        finding: Finding::Faulty(SheetFault::Value),
+        finding: Err(SheetFault::Value),
         gathered,
     }
 }
@@ -142,11 +142,11 @@ pub(crate) fn judge_body(q: Kind, b: &[u8], gathered: Gathered) -> Judged
         Kind::ProfileRecord => profile_record(b, gathered),
         Kind::LockRecord => lock_record(b, gathered),
         Kind::EndRecord => Judged {
-            finding: Finding::Ended,
+            finding: Ok(Finding::Ended),
             gathered,
         },
         Kind::NoRecord => Judged {
-            finding: Finding::Faulty(SheetFault::Unknown),
+            finding: Err(SheetFault::Unknown),
             gathered,
         },
     }

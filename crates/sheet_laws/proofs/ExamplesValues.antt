@@ -1,5 +1,6 @@
 -- Examples of the scope paper, by number and place: 01 or 02 again, values of keys against their rule, and the order of
 -- locks, whatever follows.
+use Rattle.std.specs.Prelude.{Err}
 use mathlib.Core.Path.{◌≡◌, refl, ap, ◌∙◌}
 use mathlib.Core.Bool.{true, false}
 use mathlib.Core.List.{List, [], ◌∷◌, ◌++◌}
@@ -20,7 +21,6 @@ use Rattle.sheet.specs.Sheet.{walk, read_of, RefusedBy, Accepted}
 use Rattle.sheet.specs.Writer.{features_body, sizes_body}
 use Rattle.sheet.specs.declared.Kind.TheVariants.{FeatureRecord, KeyRecord, LockRecord}
 use Rattle.sheet.specs.declared.SheetFault.TheVariants.{Order, Value}
-use Rattle.sheet.specs.declared.Finding.TheVariants.{Faulty}
 use Rattle.sheet.specs.declared.Sizes.{Sizes}
 use Rattle.sheet.specs.declared.Gathered.{Gathered}
 use Rattle.sheet.specs.declared.Reading.{Reading}
@@ -56,7 +56,7 @@ again_at_once limit t =
     ∙ walk_faulty limit 3 k (1 ∷ t) Order refl)
 
 -- 32: 01 or 02 again behind both
-out_of_order : (limit b : ℕ) (t : List ℕ) → (judged_of limit (b ∷ t) begun).finding ≡ Faulty Order
+out_of_order : (limit b : ℕ) (t : List ℕ) → (judged_of limit (b ∷ t) begun).finding ≡ Err Order
     → RefusedBy limit (opening (b ∷ t)) 32 8
 out_of_order limit b t e =
     refused_told limit (opening (b ∷ t)) Order 8

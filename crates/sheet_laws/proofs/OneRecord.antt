@@ -1,4 +1,5 @@
 -- One record in front of the bytes behind it: one too many, refused for its values, or taken; and the end record.
+use Rattle.std.specs.Prelude.{Err}
 use mathlib.Core.Path.{◌≡◌, ap, ◌∙◌}
 use mathlib.Core.Bool.{true, false}
 use mathlib.Core.List.{List, [], ◌∷◌, ◌++◌}
@@ -12,7 +13,6 @@ use Rattle.sheet.specs.Judgement.{too_many, opened_of, taken, record_of, judged_
 use Rattle.sheet.specs.Sheet.{ends, after, walk, refused_at}
 use Rattle.sheet.specs.declared.Kind.{Kind}
 use Rattle.sheet.specs.declared.SheetFault.TheVariants.{Value, Many}
-use Rattle.sheet.specs.declared.Finding.TheVariants.{Faulty}
 use Rattle.sheet.specs.declared.Gathered.{Gathered}
 use Rattle.sheet.specs.declared.Judged.{Judged}
 use Rattle.sheet.proofs.Walks.{pass, walk_faulty}
@@ -37,7 +37,7 @@ module _ (limit b : ℕ) (q : Kind) (c r : List ℕ) (k : Gathered) (eq : kind_o
       rw (eq, known, order, few, le-ltb (length (c ++ r)) (body_length q) fits, take_at c r (body_length q) long)
 
   -- it is refused for its values
-  pub stop_at : (at : ℕ) → (record_of q c k).finding ≡ Faulty Value
+  pub stop_at : (at : ℕ) → (record_of q c k).finding ≡ Err Value
       → walk limit (b ∷ c ++ r) 0 at k ≡ refused_at Value at
   stop_at at e = walk_faulty limit at k (b ∷ c ++ r) Value (ap (λ (j : Judged). j.finding) judged ∙ e)
 

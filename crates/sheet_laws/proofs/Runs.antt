@@ -1,4 +1,6 @@
 -- Every accepted sheet is a run of records that are taken, and then the end record.
+use Rattle.std.specs.Prelude.{Ok}
+use Rattle.sheet.specs.declared.Finding.TheVariants.{Taken, Ended}
 use mathlib.Core.Path.{◌≡◌, refl, sym, ap, subst, ◌∙◌}
 use mathlib.Core.Bool.{true}
 use mathlib.Core.List.{List, [], ◌∷◌, ◌++◌}
@@ -11,7 +13,6 @@ use Rattle.sheet.specs.Setups.{nothing_gathered}
 use Rattle.sheet.specs.Judgement.{judged_of}
 use Rattle.sheet.specs.Sheet.{read_of, ends, Accepted}
 use Rattle.sheet.specs.Refusals.{InTurn, begins, goes_on}
-use Rattle.sheet.specs.declared.Finding.TheVariants.{Taken, Ended}
 use Rattle.sheet.specs.declared.Gathered.{Gathered}
 use Rattle.sheet.specs.declared.Judged.{Judged}
 use Rattle.sheet.specs.declared.Reading.{Reading}
@@ -20,7 +21,7 @@ use Rattle.sheet.proofs.Ends.{end}
 use Rattle.sheet.proofs.Refusals.{sheet_whole, sheet_says}
 
 -- an end record that is the last byte
-only_six : (limit : ℕ) (r : List ℕ) (k : Gathered) → length r ≡ 1 → (judged_of limit r k).finding ≡ Ended
+only_six : (limit : ℕ) (r : List ℕ) (k : Gathered) → length r ≡ 1 → (judged_of limit r k).finding ≡ (Ok Ended)
     → (r ≡ 6 ∷ []) × (in_order k.marks.last 6 ≡ true)
 only_six limit [] k l e = absurd (omega arith)
 only_six limit (b ∷ []) k l e =
@@ -43,7 +44,7 @@ module _ (limit : ℕ) (s : List ℕ) (P : List ℕ → Gathered → Type 0)
 
   -- one record, with which the bytes r behind the place p start
   further : (p n : ℕ) (k k' : Gathered) (r : List ℕ) → drop p s ≡ r
-      → judged_of limit r k ≡ record { finding = Taken n; gathered = k' } → P (take p s) k → P (take (p + n) s) k'
+      → judged_of limit r k ≡ record { finding = Ok (Taken n); gathered = k' } → P (take p s) k → P (take (p + n) s) k'
   further p n k k' [] e j h =
       let c = nothing_there limit k in
       let f = ap (λ (x : Judged). x.finding) j in

@@ -1,12 +1,14 @@
 -- Two sheets that are alike are read alike, from the first byte to the end or to the first refusal.
+use Rattle.std.specs.Prelude.{Result, Ok, Err}
+use Rattle.sheet.specs.declared.Finding.TheVariants.{Taken, Ended}
+use Rattle.sheet.specs.declared.Finding.{Finding}
+use Rattle.sheet.specs.declared.SheetFault.{SheetFault}
 use mathlib.Core.Path.{◌≡◌, refl, sym, ap, ◌∙◌, subst}
 use mathlib.Core.Bool.{Bool}
 use mathlib.Core.List.{List, [], ◌∷◌}
 use Prim.Native.Nat.{ℕ, zero, suc, ◌+◌}
 use lib.ListN.{length, take}
 use Rattle.ground.specs.Bytes.{Bytes}
-use Rattle.sheet.specs.declared.Finding.{Finding}
-use Rattle.sheet.specs.declared.Finding.TheVariants.{Taken, Ended, Faulty}
 use Rattle.sheet.specs.declared.Judged.{Judged}
 use Rattle.sheet.specs.declared.Gathered.{Gathered}
 use Rattle.sheet.specs.declared.Key.{Key}
@@ -38,15 +40,15 @@ module _ (named : ℕ → Bool) where
   alike_length (b ∷ u) (c ∷ v) zero h = ap suc (alike_length u v (body_length (kind_of b)) h.2)
 
   -- whether bytes follow the end record
-  after_alike : (u v : List ℕ) (body at : ℕ) (k : Gathered) (r : Reading) → AlikeFrom named u v body → (f : Finding)
+  after_alike : (u v : List ℕ) (body at : ℕ) (k : Gathered) (r : Reading) → AlikeFrom named u v body → (f : Result Finding SheetFault)
       → after f k at u r ≡ after f k at v r
   unfolding after AlikeFrom
-  after_alike u v body at k r h (Taken n) = refl
-  after_alike [] [] body at k r h Ended = refl
-  after_alike [] (c ∷ v) body at k r h Ended = absurd h
-  after_alike (b ∷ u) [] body at k r h Ended = absurd h
-  after_alike (b ∷ u) (c ∷ v) body at k r h Ended = refl
-  after_alike u v body at k r h (Faulty f) = refl
+  after_alike u v body at k r h (Ok (Taken n)) = refl
+  after_alike [] [] body at k r h (Ok Ended) = refl
+  after_alike [] (c ∷ v) body at k r h (Ok Ended) = absurd h
+  after_alike (b ∷ u) [] body at k r h (Ok Ended) = absurd h
+  after_alike (b ∷ u) (c ∷ v) body at k r h (Ok Ended) = refl
+  after_alike u v body at k r h (Err f) = refl
 
   walk_alike : (u v : List ℕ) (body at : ℕ) (k : Gathered) → AlikeFrom named u v body
       → walk key_limit u body at k ≡ walk key_limit v body at k
@@ -85,11 +87,11 @@ module _ (named : ℕ → Bool) where
       subst (λ (z : ℕ). Met (met_from key_limit (z ∷ v) zero k)) e
       (subst Onwards judged (met_in_lem i.finding _ _ _ _ (said_alike named (kind_of b) (take n u) (take n v) h) rest))
     where
-      met_in_lem : (f : Finding) (s t ks ls : List Key) → RecordsAlike named s t → RecordsAlike named ks ls
+      met_in_lem : (f : Result Finding SheetFault) (s t ks ls : List Key) → RecordsAlike named s t → RecordsAlike named ks ls
           → RecordsAlike named (met_in f s ks) (met_in f t ls)
-      met_in_lem (Taken n) s t ks ls p q = joined_alike named s t ks ls p q
-      met_in_lem Ended s t ks ls p q = none_alike named
-      met_in_lem (Faulty f) s t ks ls p q = none_alike named
+      met_in_lem (Ok (Taken n)) s t ks ls p q = joined_alike named s t ks ls p q
+      met_in_lem (Ok Ended) s t ks ls p q = none_alike named
+      met_in_lem (Err f) s t ks ls p q = none_alike named
 
   module _ (u v : List ℕ) (y : Bytes u) (z : Bytes v) (h : SheetsAlike named u v) where
     same : read_of key_limit u ≡ read_of key_limit v

@@ -1,5 +1,7 @@
 -- Demand 3 is no empty promise: a bench with two clients' records, of which only the first is named. Whatever the keys
 -- of the second are, and whatever its word holds, the tags are alike; and they answer.
+use Rattle.std.specs.Prelude.{Ok}
+use Rattle.offer.specs.declared.Answer.TheVariants.{Replied}
 use mathlib.Core.Path.{◌≡◌, refl, sym, ap, ◌∙◌, subst}
 use mathlib.Core.Bool.{Bool, true, false, false≢true}
 use mathlib.Core.List.{List, [], ◌∷◌}
@@ -20,7 +22,6 @@ use Rattle.sheet.specs.Setups.{no_slot, no_lock}
 use Rattle.frames.specs.Kinds.{kind_of, iam_kind}
 use Rattle.frames.specs.Lengths.{length_fits}
 use Rattle.frames.specs.Messages.{iam1_of}
-use Rattle.offer.specs.declared.Outcome.TheVariants.{Replied}
 use Rattle.entry.specs.declared.State.TheVariants.{IamInit}
 use Rattle.ground.specs.Checks.{judged_to}
 use Rattle.entry.specs.Sessions.{cleared}
@@ -161,7 +162,7 @@ not_named = refl
 
 pub answered : (enc : List ℕ) (l : Key) (a b : ℕ) → answers (carrying (ours enc) l) (keeping a b) asked
     ≡ record {
-      outcome = Replied 10;
+      outcome = Ok (Replied 10);
       tag = holding (carrying (ours enc) l)
           (record { state = IamInit; keyid = 1; tchallenge = ten; ichallenge = replicate 4 0 });
       reply = ten;

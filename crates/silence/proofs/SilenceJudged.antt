@@ -1,4 +1,5 @@
 -- Two setups that are alike judge a message alike; where a key is asked for its proof, the record must be named.
+use Rattle.std.specs.Prelude.{Ok}
 use mathlib.Core.Path.{◌≡◌, refl, ap}
 use mathlib.Core.Bool.{Bool, true, false, not}
 use mathlib.Core.List.{List, [], ◌∷◌}
@@ -35,7 +36,6 @@ use Rattle.offer.specs.declared.TagFault.TheVariants.{
   BenchFault,
 }
 use Rattle.entry.specs.declared.Session.{Session}
-use Rattle.offer.specs.declared.Checked.TheVariants.{Fine}
 use Rattle.ground.specs.Checks.{◌else◌}
 use Rattle.offer.specs.Checks.{judged}
 use Rattle.keytable.specs.Named.{has_key, key_with}
@@ -159,7 +159,7 @@ permitted_present keyid p (k ∷ ks) h = tested (eqb k.id keyid) h (λ g. permit
     tested true g more = refl
     tested false g more = more g
 
-module _ (setup : Setup) (m : List ℕ) (h : judged (tam2_checks setup m) ≡ Fine) where
+module _ (setup : Setup) (m : List ℕ) (h : judged (tam2_checks setup m) ≡ Ok tt) where
   pub tam2_slot : (slot_named setup.profiles (tam2_of m).custom.profile).present ≡ true
   unfolding tam2_checks
   tam2_slot =
@@ -172,7 +172,7 @@ module _ (setup : Setup) (m : List ℕ) (h : judged (tam2_checks setup m) ≡ Fi
       let k = others_hold _ _ (others_hold _ _ (others_hold _ _ (others_hold _ _ h))) in
       first_holds _ _ (others_hold _ _ (others_hold _ _ k))
 
-module _ (setup : Setup) (held : Session) (m : List ℕ) (h : judged (iam3_checks setup held m) ≡ Fine) where
+module _ (setup : Setup) (held : Session) (m : List ℕ) (h : judged (iam3_checks setup held m) ≡ Ok tt) where
   pub iam3_slot : (slot_named setup.profiles (iam3_of m).custom.profile).present ≡ true
   unfolding iam3_checks
   iam3_slot = first_holds _ _ (others_hold _ _ (others_hold _ _ (others_hold _ _ h)))

@@ -1,6 +1,8 @@
 -- What demand 3 lets differ is all that may: with another key in a record that is named, or another word that is open,
 -- the replies differ. The tag is the one of SilenceExamples, with the two ENC_keys of Annex F; the message, the draws
 -- and the first reply are those of Tables F.3 and F.4.
+use Rattle.std.specs.Prelude.{Ok}
+use Rattle.offer.specs.declared.Answer.TheVariants.{Replied}
 use mathlib.Core.Path.{◌≡◌, refl, sym, ap, ◌∙◌}
 use mathlib.Core.List.{List, [], ◌∷◌, ◌++◌, append_cancel_left, append_cancel_right}
 use Prim.Native.Nat.{ℕ, zero, suc, ◌/◌, ◌%◌}
@@ -29,7 +31,6 @@ use Rattle.frames.specs.Modes.{encrypts, has_mac, prot_mode_of}
 use Rattle.frames.specs.Messages.{tam1_of, tam2_of}
 use Rattle.payload.specs.Data.{filled, carried_data}
 use Rattle.payload.specs.Protected.{with_mac}
-use Rattle.offer.specs.declared.Outcome.TheVariants.{Replied}
 use Rattle.ground.specs.Checks.{judged_to}
 use Rattle.entry.specs.Sessions.{cleared}
 use Rattle.tag.specs.States.{holding, in_turn, powered_up}
@@ -144,7 +145,7 @@ asked = Message (record {
 
 answered : (enc : List ℕ) (l : Key) (a b : ℕ) → answers (carrying (ours enc) l) (keeping a b) asked
     ≡ record {
-      outcome = Replied (length (aes_enc enc block));
+      outcome = Ok (Replied (length (aes_enc enc block)));
       tag = holding (carrying (ours enc) l) cleared;
       reply = aes_enc enc block;
       identity =
@@ -201,7 +202,7 @@ shown enc a b = (authentication enc ++ clear a b) ++ []
 
 word_answered : (enc : List ℕ) (l : Key) (a b : ℕ) → answers (carrying (ours enc) l) (showing a b) read
     ≡ record {
-      outcome = Replied (length (shown enc a b));
+      outcome = Ok (Replied (length (shown enc a b)));
       tag = holding (carrying (ours enc) l) cleared;
       reply = shown enc a b;
       identity =

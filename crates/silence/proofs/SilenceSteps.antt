@@ -1,5 +1,7 @@
 -- One message to two tags that are alike and hold the same: the same answer, and the same is held, of a record that is
 -- named.
+use Rattle.std.specs.Prelude.{Result, Ok, Err}
+use Rattle.offer.specs.declared.Answer.TheVariants.{Replied, Entered}
 use mathlib.Core.Path.{◌≡◌, refl, sym, ap, ◌∙◌, subst}
 use mathlib.Core.Bool.{Bool, true, false, false≢true}
 use mathlib.Core.List.{List, [], ◌∷◌}
@@ -21,12 +23,9 @@ use Rattle.frames.specs.Lengths.{length_fits}
 use Rattle.frames.specs.Messages.{tam1_of, tam2_of, iam1_of, iam2_of, iam3_of, mam1_of, mam2_of}
 use Rattle.offer.specs.declared.TagFault.{TagFault}
 use Rattle.offer.specs.declared.TagFault.TheVariants.{OtherError, NotSupported, OutOfTurn}
-use Rattle.offer.specs.declared.Outcome.TheVariants.{Replied, Entered}
 use Rattle.entry.specs.declared.Session.{Session}
 use Rattle.entry.specs.declared.State.{State}
 use Rattle.entry.specs.declared.State.TheVariants.{Initial, IamInit, MamInit, IaOk}
-use Rattle.offer.specs.declared.Checked.{Checked}
-use Rattle.offer.specs.declared.Checked.TheVariants.{Fine, Wrong}
 use Rattle.offer.specs.Checks.{judged}
 use Rattle.entry.specs.Sessions.{cleared, entered}
 use Rattle.tag.specs.States.{holding, at_rest, after_iam1, after_mam1, in_turn}
@@ -168,7 +167,7 @@ module _ (named : ℕ → Bool) (s t : Setup) (alike : SetupsAlike named s t) (x
   unfolding replied
   reply_alike r q held e h = record {
     same = record {
-      outcome = λ j. Replied (length (e j));
+      outcome = λ j. Ok (Replied (length (e j)));
       reply = e;
       session = refl;
       identity = unchanged x.identity y.identity;
@@ -182,18 +181,18 @@ module _ (named : ℕ → Bool) (s t : Setup) (alike : SetupsAlike named s t) (x
   unfolding let_in
   entry_alike p q i u j v e f g = record {
     same =
-        record { outcome = ap Entered e; reply = refl; session = refl; identity = f; user = g };
+        record { outcome = ap (λ n. Ok (Entered n)) e; reply = refl; session = refl; identity = f; user = g };
     holds =
         entered_named named;
   }
 
-  fine_alike : (v w : Checked) (a b : Effect) → v ≡ w → (v ≡ Fine → Step a b) → Step (if_fine c v a) (if_fine d w b)
+  fine_alike : (v w : Result Unit TagFault) (a b : Effect) → v ≡ w → (v ≡ Ok tt → Step a b) → Step (if_fine c v a) (if_fine d w b)
   unfolding if_fine
-  fine_alike v w a b e h = subst (λ (z : Checked). Step (if_fine c v a) (if_fine d z b)) e (as_judged v h)
+  fine_alike v w a b e h = subst (λ (z : Result Unit TagFault). Step (if_fine c v a) (if_fine d z b)) e (as_judged v h)
     where
-      as_judged : (z : Checked) → (z ≡ Fine → Step a b) → Step (if_fine c z a) (if_fine d z b)
-      as_judged Fine k = k refl
-      as_judged (Wrong f) k = to_initial f
+      as_judged : (z : Result Unit TagFault) → (z ≡ Ok tt → Step a b) → Step (if_fine c z a) (if_fine d z b)
+      as_judged (Ok tt) k = k refl
+      as_judged (Err f) k = to_initial f
 
   pick_alike : (b e : Bool) (p q p' q' : Effect) → b ≡ e → (b ≡ true → Step p p') → Step q q'
       → Step (pick b p q) (pick e p' q')
@@ -278,7 +277,7 @@ module _ (named : ℕ → Bool) (s t : Setup) (alike : SetupsAlike named s t) (x
         fine_alike _ _ _ _ (opening_alike named s t alike m Iam1 (iam1_of m).rfu (byte_at m 1))
         (λ h. reply_alike _ _ _ refl (λ z. second_named Iam1 f refl (opening_length Iam1 _ _ s.keys m h)))
 
-    tam2_named : kind_of first ≡ Tam2 → judged (tam2_checks s m) ≡ Fine → named (tam2_of m).keyid ≡ true
+    tam2_named : kind_of first ≡ Tam2 → judged (tam2_checks s m) ≡ Ok tt → named (tam2_of m).keyid ≡ true
     unfolding tam2_of carries_keyid length_fits
     tam2_named f h = second_named Tam2 f refl (eq-eqb (length m) 15 (tam2_length_lem s m h))
 
@@ -322,15 +321,15 @@ module _ (named : ℕ → Bool) (s t : Setup) (alike : SetupsAlike named s t) (x
       → Step (effect_of c (holding s held)) (effect_of d (holding t held))
   unfolding effect_of
   step_alike held h =
-      subst (λ (w : Checked). Step (of_lending c s held v) (of_lending d t held w))
+      subst (λ (w : Result Unit TagFault). Step (of_lending c s held v) (of_lending d t held w))
       (lending_alike named s t alike (length sent.draws) sent.room _ _ _ _ mem.identity_length
       mem.user_length)
       (judged_alike v)
     where
-      v : Checked
+      v : Result Unit TagFault
       v = judged (lending_checks s.sizes (length sent.draws) sent.room (length x.identity)
           (length x.user))
 
-      judged_alike : (z : Checked) → Step (of_lending c s held z) (of_lending d t held z)
-      judged_alike Fine = message_step held h m refl
-      judged_alike (Wrong f) = refusal f held h
+      judged_alike : (z : Result Unit TagFault) → Step (of_lending c s held z) (of_lending d t held z)
+      judged_alike (Ok tt) = message_step held h m refl
+      judged_alike (Err f) = refusal f held h

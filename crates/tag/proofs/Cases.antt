@@ -1,5 +1,6 @@
 -- What holds of every refusal, and of what each kind of message comes to where it is offered and in its turn, holds of
 -- what any message does.
+use Rattle.std.specs.Prelude.{Result, Ok, Err}
 use mathlib.Core.Path.{◌≡◌, refl}
 use mathlib.Core.Bool.{Bool, true, false}
 use mathlib.Core.List.{List, [], ◌∷◌}
@@ -10,8 +11,6 @@ use Rattle.frames.specs.Kinds.{kind_of}
 use Rattle.offer.specs.declared.TagFault.{TagFault}
 use Rattle.offer.specs.declared.TagFault.TheVariants.{OtherError, NotSupported, OutOfTurn}
 use Rattle.tag.specs.States.{KeyedTag}
-use Rattle.offer.specs.declared.Checked.{Checked}
-use Rattle.offer.specs.declared.Checked.TheVariants.{Fine, Wrong}
 use Rattle.entry.specs.Sessions.{cleared}
 use Rattle.tag.specs.States.{in_turn}
 use Rattle.offer.specs.Checks.{judged}
@@ -20,15 +19,15 @@ use Rattle.offer.specs.Judged.{lending_checks}
 use Rattle.tag.specs.Answers.{Effect, Call, refused, if_fine, by_kind, in_order, of_message, of_lending, effect_of}
 
 module _ (c : Call) (P : Effect → Type 0) (initial : (f : TagFault) → P (refused c f cleared)) where
-  pub fine_case : (v : Checked) (e : Effect) → P e → P (if_fine c v e)
+  pub fine_case : (v : Result Unit TagFault) (e : Effect) → P e → P (if_fine c v e)
   unfolding if_fine
-  fine_case Fine e h = h
-  fine_case (Wrong f) e h = initial f
+  fine_case (Ok tt) e h = h
+  fine_case (Err f) e h = initial f
 
-  pub fine_known : (v : Checked) (e : Effect) → (v ≡ Fine → P e) → P (if_fine c v e)
+  pub fine_known : (v : Result Unit TagFault) (e : Effect) → (v ≡ Ok tt → P e) → P (if_fine c v e)
   unfolding if_fine
-  fine_known Fine e h = h refl
-  fine_known (Wrong f) e h = initial f
+  fine_known (Ok tt) e h = h refl
+  fine_known (Err f) e h = initial f
 
   picked : (b : Bool) (x y : Effect) → (b ≡ true → P x) → P y → P (pick b x y)
   picked true x y h k = h refl
@@ -49,9 +48,9 @@ module _ (c : Call) (P : Effect → Type 0) (initial : (f : TagFault) → P (ref
           (refused c OutOfTurn cleared) (λ t. kinds first rest e o t) (initial OutOfTurn))
           (initial NotSupported)
 
-      of_bench : (v : Checked) → P (of_lending c tag.setup tag.session v)
-      of_bench Fine = of_message_lem c.message refl
-      of_bench (Wrong f) = as_it_was f
+      of_bench : (v : Result Unit TagFault) → P (of_lending c tag.setup tag.session v)
+      of_bench (Ok tt) = of_message_lem c.message refl
+      of_bench (Err f) = as_it_was f
 
       pub effect_case : P (effect_of c tag)
       unfolding effect_of

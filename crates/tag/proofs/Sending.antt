@@ -1,4 +1,6 @@
 -- A reply that is given with zeros behind it: as much of it as the outcome says goes into the room.
+use Rattle.std.specs.Prelude.{Result, Ok, Err}
+use Rattle.offer.specs.declared.TagFault.{TagFault}
 use mathlib.Core.Path.{◌≡◌, refl, sym, ◌∙◌}
 use mathlib.Core.List.{List}
 use Prim.Native.Nat.{ℕ, ◌≤◌}
@@ -6,8 +8,6 @@ use native.Mathlib.Omega.{arith}
 use lib.ListN.{length, take}
 use Rattle.modes.specs.Room.{over}
 use Rattle.frames.specs.Lengths.{reply_room}
-use Rattle.offer.specs.declared.Checked.{Checked}
-use Rattle.offer.specs.declared.Checked.TheVariants.{Fine, Wrong}
 use Rattle.offer.specs.Outcomes.{reply_length, settled}
 use Rattle.tam.specs.declared.Given.{Given}
 use Rattle.tam.specs.Given.{Gives}
@@ -29,15 +29,15 @@ abbrev pub Sends : ℕ → List ℕ → List ℕ → List ℕ → Type 0
 Sends n reply room after = after ≡ over (take n reply) room
 
 -- TAM
-module _ (v : Checked) (bytes : List ℕ) (g : Given) (h : Gives v bytes g) (long : length g.reply ≡ reply_room) where
+module _ (v : Result Unit TagFault) (bytes : List ℕ) (g : Given) (h : Gives v bytes g) (long : length g.reply ≡ reply_room) where
   pub given_fits : (room : List ℕ) → reply_room ≤ length room → Fits (reply_length g.outcome) g.reply room
   given_fits room e =
       (told_fits v bytes g.reply reply_room long g.outcome h.outcome h.reply, omega (arith, long, e))
 
   -- nothing is held either way
-  nothing : (w : Checked) → settled w cleared (λ f. cleared) ≡ cleared
-  nothing Fine = refl
-  nothing (Wrong f) = refl
+  nothing : (w : Result Unit TagFault) → settled w cleared (λ f. cleared) ≡ cleared
+  nothing (Ok tt) = refl
+  nothing (Err f) = refl
 
   pub given_reacts : (c : Call) (room : List ℕ) (r : Reacted) (after : List ℕ) → r.outcome ≡ g.outcome
       → r.session ≡ cleared → Sends (reply_length g.outcome) g.reply room after
@@ -47,7 +47,7 @@ module _ (v : Checked) (bytes : List ℕ) (g : Given) (h : Gives v bytes g) (lon
       (e ∙ (λ j. over (told_sent v bytes g.reply reply_room long g.outcome h.outcome h.reply j) room))
 
 -- IAM1, MAM1
-module _ (v : Checked) (bytes : List ℕ) (next : Session) (g : Challenged) (h : Challenges v bytes next g)
+module _ (v : Result Unit TagFault) (bytes : List ℕ) (next : Session) (g : Challenged) (h : Challenges v bytes next g)
     (long : length g.reply ≡ challenge_room)
   where
     pub challenged_fits : (room : List ℕ) → reply_room ≤ length room → Fits (reply_length g.outcome) g.reply room

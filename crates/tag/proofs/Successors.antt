@@ -1,5 +1,7 @@
 -- Annex A: a message that is accepted was in its turn, and each leads to the state that Table A.1 names. And what is
 -- held there: nothing in Initial and in IA-OK.
+use Rattle.std.specs.Prelude.{Err}
+use Rattle.offer.specs.Outcomes.{Outcome}
 use mathlib.Core.Path.{◌≡◌, refl, sym, ap, ◌∙◌}
 use mathlib.Core.Bool.{Bool, true, false, false≢true}
 use mathlib.Core.List.{List, [], ◌∷◌}
@@ -14,8 +16,6 @@ use Rattle.entry.specs.declared.State.TheVariants.{Initial, IamInit, MamInit, Ia
 use Rattle.offer.specs.declared.TagFault.{TagFault}
 use Rattle.offer.specs.declared.TagFault.TheVariants.{NotSupported}
 use Rattle.entry.specs.declared.Session.{Session}
-use Rattle.offer.specs.declared.Outcome.{Outcome}
-use Rattle.offer.specs.declared.Outcome.TheVariants.{Refused}
 use Rattle.tag.specs.States.{KeyedTag}
 use Rattle.entry.specs.Sessions.{cleared, entered}
 use Rattle.tag.specs.States.{powered_up, at_rest, after_iam1, after_mam1, in_turn, table_a1}
@@ -112,7 +112,7 @@ row MamInit Unsupported e = absurd (false≢true e)
 row IaOk Unsupported e = absurd (false≢true e)
 
 abbrev pub Accepted : Outcome → Type 0
-Accepted o = (f : TagFault) → o ≡ Refused f → ⊥
+Accepted o = (f : TagFault) → o ≡ Err f → ⊥
 
 -- What is known of an accepted message: the tag offers it, and Table A.1 has a row for it, whose next state is the
 -- tag's.

@@ -1,4 +1,5 @@
 -- From what a kind comes to, to what a message and a call come to.
+use Rattle.std.specs.Prelude.{Result, Ok, Err}
 use mathlib.Core.Path.{◌≡◌, refl, sym, ap, ◌∙◌, subst}
 use mathlib.Core.Bool.{Bool, true, false}
 use mathlib.Core.List.{List, [], ◌∷◌}
@@ -12,13 +13,10 @@ use Rattle.frames.specs.declared.Kind.TheVariants.{Tam1, Tam2, Iam1, Iam2, Iam3,
 use Rattle.frames.specs.Kinds.{kind_of}
 use Rattle.offer.specs.declared.TagFault.{TagFault}
 use Rattle.offer.specs.declared.TagFault.TheVariants.{OtherError, NotSupported, OutOfTurn}
-use Rattle.offer.specs.declared.Outcome.TheVariants.{Refused}
 use Rattle.entry.specs.declared.Reacted.{Reacted}
 use Rattle.entry.specs.declared.Session.{Session}
 use Rattle.tag.specs.declared.Tag.{Tag}
 use Rattle.tag.specs.States.{keyed}
-use Rattle.offer.specs.declared.Checked.{Checked}
-use Rattle.offer.specs.declared.Checked.TheVariants.{Fine, Wrong}
 use Rattle.entry.specs.Sessions.{cleared}
 use Rattle.tag.specs.States.{in_turn}
 use Rattle.offer.specs.Outcomes.{number_given}
@@ -137,7 +135,7 @@ module _ (c : Call) (setup : Setup) (held : Session) (room : List ℕ) (r : Reac
       subst (λ (y : Kind). ReactsIn (in_order c setup held y) room r after i u) e h
 
 -- The whole call.
-module _ (tag : Tag) (keys m draws room i u : List ℕ) (v : Checked)
+module _ (tag : Tag) (keys m draws room i u : List ℕ) (v : Result Unit TagFault)
     (w : v ≡ judged (lending_checks tag.terms.sizes (length draws) (length room) (length i) (length u))) where
   abbrev call : Call
   call = lent m draws room i u
@@ -145,15 +143,15 @@ module _ (tag : Tag) (keys m draws room i u : List ℕ) (v : Checked)
   abbrev setup : Setup
   setup = setup_of tag.terms keys
 
-  pub bench_wrong : (f : TagFault) → v ≡ Wrong f
-      → Steps (answer_of call (keyed tag keys)) room (record { outcome = Refused f; tag = tag }) room i u
+  pub bench_wrong : (f : TagFault) → v ≡ Err f
+      → Steps (answer_of call (keyed tag keys)) room (record { outcome = Err f; tag = tag }) room i u
   unfolding effect_of refused
   bench_wrong f x =
-      subst (λ (y : Checked). Steps (answer_with setup (of_lending call setup tag.session y)) room
-      (record { outcome = Refused f; tag = tag }) room i u) (sym x ∙ w)
+      subst (λ (y : Result Unit TagFault). Steps (answer_with setup (of_lending call setup tag.session y)) room
+      (record { outcome = Err f; tag = tag }) room i u) (sym x ∙ w)
       (record { outcome = refl; number = refl; next = refl; reply = refl; identity = refl; user = refl })
 
-  pub bench_fine : (q : Reacted) (d after i' u' : List ℕ) → v ≡ Fine → d ≡ draws
+  pub bench_fine : (q : Reacted) (d after i' u' : List ℕ) → v ≡ Ok tt → d ≡ draws
       → ReactsIn (of_message (lent m d room i u) setup tag.session m) room q after i' u'
       → Steps (answer_of call (keyed tag keys)) room
       (record { outcome = q.outcome; tag = record { terms = tag.terms; session = q.session } }) after i' u'
@@ -161,7 +159,7 @@ module _ (tag : Tag) (keys m draws room i u : List ℕ) (v : Checked)
   bench_fine q d after i' u' x e h =
       let k = subst (λ (l : List ℕ). ReactsIn (of_message (lent m l room i u) setup tag.session m) room q after
       i' u') e h in
-      subst (λ (y : Checked). Steps (answer_with setup (of_lending call setup tag.session y)) room
+      subst (λ (y : Result Unit TagFault). Steps (answer_with setup (of_lending call setup tag.session y)) room
       (record { outcome = q.outcome; tag = record { terms = tag.terms; session = q.session } }) after i' u')
       (sym x ∙ w)
       (record {

@@ -1,5 +1,6 @@
 -- Every refusal keeps everything: it sends nothing, changes no byte of either area and nothing of the setup, and leaves
 -- the tag in Initial with nothing held (1 to 6) or as it was (7).
+use Rattle.std.specs.Prelude.{Result, Ok, Err}
 use mathlib.Core.Path.{◌≡◌, refl, sym, ap, ◌∙◌, subst}
 use mathlib.Core.Bool.{Bool, true, false}
 use mathlib.Core.List.{List, [], ◌∷◌}
@@ -12,11 +13,8 @@ use Rattle.frames.specs.declared.Kind.TheVariants.{Tam1, Tam2, Iam1, Iam2, Iam3,
 use Rattle.frames.specs.Kinds.{kind_of}
 use Rattle.offer.specs.declared.TagFault.{TagFault}
 use Rattle.offer.specs.declared.TagFault.TheVariants.{OtherError, NotSupported, OutOfTurn}
-use Rattle.offer.specs.declared.Outcome.TheVariants.{Refused}
 use Rattle.entry.specs.declared.Session.{Session}
 use Rattle.tag.specs.States.{KeyedTag, holding}
-use Rattle.offer.specs.declared.Checked.{Checked}
-use Rattle.offer.specs.declared.Checked.TheVariants.{Fine, Wrong}
 use Rattle.entry.specs.Sessions.{cleared}
 use Rattle.tag.specs.States.{in_turn, session_after}
 use Rattle.ground.specs.Checks.{Check, judged_to}
@@ -43,12 +41,12 @@ module _ (P : TagFault → Type 0) where
   Each [] = Unit
   Each (k ∷ ks) = P k.otherwise × Each ks
 
-  after_fault : (b : Bool) (g f : TagFault) (v : Checked) → P g → (v ≡ Wrong f → P f) → pick b v (Wrong g) ≡ Wrong f
+  after_fault : (b : Bool) (g f : TagFault) (v : Result Unit TagFault) → P g → (v ≡ Err f → P f) → pick b v (Err g) ≡ Err f
       → P f
   after_fault true g f v p h e = h e
   after_fault false g f v p h e = let q : g ≡ f = cc in subst (λ (x : TagFault). P x) q p
 
-  fault_of : (ks : List (Check TagFault)) → Each ks → (f : TagFault) → judged ks ≡ Wrong f → P f
+  fault_of : (ks : List (Check TagFault)) → Each ks → (f : TagFault) → judged ks ≡ Err f → P f
   unfolding judged_to
   fault_of [] h f e = let z : ◌≡◌ {A = ℕ} 0 1 = cc in absurd (omega arith)
   fault_of (k ∷ ks) (p, h) f e = after_fault k.holds k.otherwise f (judged ks) p (fault_of ks h f) e
@@ -61,7 +59,7 @@ ToInitial f = (held : Session) → session_after f held ≡ cleared
 
 module _ (c : Call) (setup : Setup) where
   abbrev UnchangedInitial : Effect → Type 0
-  UnchangedInitial e = (f : TagFault) → e.outcome ≡ Refused f → Unchanged c (holding setup cleared)
+  UnchangedInitial e = (f : TagFault) → e.outcome ≡ Err f → Unchanged c (holding setup cleared)
       (answer_with setup e)
       × ToInitial f
 
@@ -81,11 +79,11 @@ module _ (c : Call) (setup : Setup) where
   unfolding let_in
   entry_keeps purpose identity user f e = let z : ◌≡◌ {A = ℕ} 0 1 = cc in absurd (omega arith)
 
-  verdict_keeps : (v : Checked) (e : Effect) → ((f : TagFault) → v ≡ Wrong f → ToInitial f) → UnchangedInitial e
+  verdict_keeps : (v : Result Unit TagFault) (e : Effect) → ((f : TagFault) → v ≡ Err f → ToInitial f) → UnchangedInitial e
       → UnchangedInitial (if_fine c v e)
   unfolding if_fine
-  verdict_keeps Fine e g k = k
-  verdict_keeps (Wrong f) e g k = refusal_keeps f (g f refl)
+  verdict_keeps (Ok tt) e g k = k
+  verdict_keeps (Err f) e g k = refusal_keeps f (g f refl)
 
   fine_keeps : (ks : List (Check TagFault)) (e : Effect) → Each ToInitial ks → UnchangedInitial e
       → UnchangedInitial (if_fine c (judged ks) e)
@@ -134,11 +132,11 @@ module _ (c : Call) (setup : Setup) where
     message_keeps [] = refusal_keeps OtherError (λ h. refl)
     message_keeps (b ∷ m) = order_keeps (kind_of b)
 
-    bench_keeps : (v : Checked) → ((f : TagFault) → v ≡ Wrong f → session_after f held ≡ held) → (f : TagFault)
-        → (of_lending c setup held v).outcome ≡ Refused f
+    bench_keeps : (v : Result Unit TagFault) → ((f : TagFault) → v ≡ Err f → session_after f held ≡ held) → (f : TagFault)
+        → (of_lending c setup held v).outcome ≡ Err f
         → Unchanged c (holding setup (session_after f held)) (answer_with setup (of_lending c setup held v))
     unfolding refused
-    bench_keeps Fine h f e =
+    bench_keeps (Ok tt) h f e =
         let k = message_keeps c.message f e in
         record {
           silent = k.0.silent;
@@ -146,7 +144,7 @@ module _ (c : Call) (setup : Setup) where
           user = k.0.user;
           tag = k.0.tag ∙ ap (holding setup) (sym (k.1 held));
         }
-    bench_keeps (Wrong g) h f e =
+    bench_keeps (Err g) h f e =
         let q : g ≡ f = cc in
         record {
           silent = refl;
@@ -156,7 +154,7 @@ module _ (c : Call) (setup : Setup) where
         }
 
 -- Every refusal keeps everything.
-pub refusal_unchanged : (c : Call) (tag : KeyedTag) (f : TagFault) → (answer_of c tag).outcome ≡ Refused f
+pub refusal_unchanged : (c : Call) (tag : KeyedTag) (f : TagFault) → (answer_of c tag).outcome ≡ Err f
     → Unchanged c (holding tag.setup (session_after f tag.session)) (answer_of c tag)
 unfolding effect_of lending_checks
 refusal_unchanged c tag f e =

@@ -1,7 +1,9 @@
 -- The tag: what one message comes to. Its entry is `answer_of`, the last definition; read from there upwards: the tag
 -- afterwards, number 7, the empty message, method, step or feature, the turn, and then by kind, as `tam` and `entry`
 -- say.
-use Rattle.std.specs.Prelude.{ℕ, List, [], ◌∷◌, length}
+use Rattle.std.specs.Prelude.{ℕ, List, [], ◌∷◌, length, Result, Ok, Err}
+use Rattle.offer.specs.Outcomes.{Outcome}
+use Rattle.offer.specs.declared.Answer.TheVariants.{Replied, Entered}
 use Rattle.ground.specs.Choice.{pick}
 use Rattle.memory.specs.declared.Area.TheVariants.{Identity, User}
 use Rattle.sheet.specs.declared.Key.{Key}
@@ -11,10 +13,6 @@ use Rattle.frames.specs.declared.Kind.TheVariants.{Tam1, Tam2, Iam1, Iam2, Iam3,
 use Rattle.frames.specs.Kinds.{kind_of}
 use Rattle.offer.specs.declared.TagFault.{TagFault}
 use Rattle.offer.specs.declared.TagFault.TheVariants.{OtherError, NotSupported, OutOfTurn}
-use Rattle.offer.specs.declared.Outcome.{Outcome}
-use Rattle.offer.specs.declared.Outcome.TheVariants.{Replied, Entered, Refused}
-use Rattle.offer.specs.declared.Checked.{Checked}
-use Rattle.offer.specs.declared.Checked.TheVariants.{Fine, Wrong}
 use Rattle.offer.specs.Checks.{judged}
 use Rattle.offer.specs.Records.{offered}
 use Rattle.offer.specs.Judged.{lending_checks}
@@ -63,11 +61,11 @@ pub record Call : Type 0 where
 module _ (c : Call) where
   -- A refusal sends nothing, writes no word, and leaves the tag in the session that is named.
   unfoldable pub refused : TagFault → Session → Effect
-  refused f s = record { outcome = Refused f; session = s; reply = []; identity = c.identity; user = c.user }
+  refused f s = record { outcome = Err f; session = s; reply = []; identity = c.identity; user = c.user }
 
   unfoldable pub replied : List ℕ → Session → Effect
   replied reply s = record {
-    outcome = Replied (length reply);
+    outcome = Ok (Replied (length reply));
     session = s;
     reply = reply;
     identity = c.identity;
@@ -77,7 +75,7 @@ module _ (c : Call) where
   -- The reader is let in: an empty reply, and its Purpose for the host.
   unfoldable pub let_in : ℕ → List ℕ → List ℕ → Effect
   let_in purpose identity user = record {
-    outcome = Entered purpose;
+    outcome = Ok (Entered purpose);
     session = entered;
     reply = [];
     identity = identity;
@@ -85,9 +83,9 @@ module _ (c : Call) where
   }
 
   -- Numbers 1 to 6 end in Initial.
-  unfoldable pub if_fine : Checked → Effect → Effect
-  if_fine Fine e = e
-  if_fine (Wrong f) e = refused f cleared
+  unfoldable pub if_fine : Result Unit TagFault → Effect → Effect
+  if_fine (Ok tt) e = e
+  if_fine (Err f) e = refused f cleared
 
   module _ (keys : List Key) where
     -- TAM ends in Initial, whatever was held.
@@ -150,9 +148,9 @@ module _ (c : Call) where
       of_message (first ∷ rest) = in_order (kind_of first)
 
       -- Number 7 changes nothing at all.
-      abbrev pub of_lending : Checked → Effect
-      of_lending Fine = of_message c.message
-      of_lending (Wrong f) = refused f held
+      abbrev pub of_lending : Result Unit TagFault → Effect
+      of_lending (Ok tt) = of_message c.message
+      of_lending (Err f) = refused f held
 
   unfoldable pub effect_of : KeyedTag → Effect
   effect_of tag =

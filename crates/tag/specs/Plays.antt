@@ -1,8 +1,8 @@
 -- A run of the code: each call is given the tag and the areas that the last one left, and leaves what its contract
 -- says. First of any code, whatever it keeps a tag in; then of `step` and `power_up`, to which the key table is lent.
-use Rattle.std.specs.Prelude.{◌≡◌, List, [], ◌∷◌, ℕ, length}
+use Rattle.std.specs.Prelude.{◌≡◌, List, [], ◌∷◌, ℕ, length, Ok}
+use Rattle.offer.specs.declared.Answer.TheVariants.{Replied}
 use Rattle.modes.specs.Room.{over}
-use Rattle.offer.specs.declared.Outcome.TheVariants.{Replied}
 use Rattle.tag.specs.declared.Stepped.{Stepped}
 use Rattle.tag.specs.declared.Tag.{Tag}
 use Rattle.tag.specs.States.{keyed, awake}
@@ -86,7 +86,7 @@ Called keys tag identity user b x =
 -- `power_up` has no room and is lent no area: it leaves its tag.
 abbrev pub woken : Tag → List ℕ → List ℕ → Left
 woken tag identity user = record {
-  stepped = record { outcome = Replied 0; tag = awake tag.terms };
+  stepped = record { outcome = Ok (Replied 0); tag = awake tag.terms };
   room = [];
   identity = identity;
   user = user;

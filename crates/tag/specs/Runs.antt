@@ -1,6 +1,6 @@
 -- A run of what reaches a tag: each event finds the tag and the areas as the last one left them.
-use Rattle.std.specs.Prelude.{ℕ, List, [], ◌∷◌}
-use Rattle.offer.specs.declared.Outcome.TheVariants.{Replied}
+use Rattle.std.specs.Prelude.{ℕ, List, [], ◌∷◌, Ok}
+use Rattle.offer.specs.declared.Answer.TheVariants.{Replied}
 use Rattle.tag.specs.States.{KeyedTag, powered_up}
 use Rattle.tag.specs.Answers.{Answer, Call, answer_of}
 
@@ -28,7 +28,7 @@ pub data Event : Type 0 where
 unfoldable pub answer_to : KeyedTag → List ℕ → List ℕ → Event → Answer
 answer_to tag identity user (Message s) = answer_of (call_of s identity user) tag
 answer_to tag identity user PowerUp =
-    record { outcome = Replied 0; tag = powered_up tag.setup; reply = []; identity = identity; user = user }
+    record { outcome = Ok (Replied 0); tag = powered_up tag.setup; reply = []; identity = identity; user = user }
 
 -- The answers to a run of events.
 unfoldable pub run : KeyedTag → List ℕ → List ℕ → List Event → List Answer

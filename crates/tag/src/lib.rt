@@ -9,7 +9,7 @@ ghost use Rattle.tag.specs.Answers.{answer_of};
 ghost use Rattle.tag.specs.Reactions.{lent, Steps};
 
 use entry::{Session, State};
-use offer::{Checked, Outcome};
+use offer::{Outcome};
 use sheet::Terms;
 
 mod kinds; // kinds.rt: what each kind that is answered comes to, in the room
@@ -110,9 +110,9 @@ pub fn step(
         identity.len(),
         user.len(),
     );
-    if let Checked::Wrong(fault) = verdict {
+    if let Err(fault) = verdict {
         return Stepped {
-            outcome: Outcome::Refused(fault),
+            outcome: Err(fault),
             tag,
         };
     }

@@ -1,4 +1,5 @@
 -- What is known of a TAM2 that passed its checks: the length, the record, the block, the ProtMode.
+use Rattle.std.specs.Prelude.{Ok}
 use Prim.Native.Nat.{ℕ}
 use mathlib.Core.Path.{◌≡◌}
 use mathlib.Core.Bool.{true, false}
@@ -9,14 +10,13 @@ use Rattle.memory.specs.Address.{overruns}
 use Rattle.sheet.specs.Setups.{Setup}
 use Rattle.frames.specs.Messages.{tam2_of}
 use Rattle.frames.specs.Lengths.{tam2_length, length_fits}
-use Rattle.offer.specs.declared.Checked.TheVariants.{Fine}
 use Rattle.offer.specs.Checks.{judged}
 use Rattle.keytable.specs.Named.{has_key, key_with}
 use Rattle.offer.specs.Records.{mode_supported, slot_named, block_asked}
 use Rattle.offer.proofs.Lines.{first_holds, others_hold}
 use Rattle.tam.specs.Judged.{tam2_checks}
 
-module _ (setup : Setup) (m : List ℕ) (h : judged (tam2_checks setup m) ≡ Fine) where
+module _ (setup : Setup) (m : List ℕ) (h : judged (tam2_checks setup m) ≡ Ok tt) where
   pub tam2_length_lem : length m ≡ tam2_length
   unfolding tam2_checks length_fits
   tam2_length_lem = eqb-true _ _ (first_holds _ _ h)

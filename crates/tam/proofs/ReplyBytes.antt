@@ -1,4 +1,5 @@
 -- The replies are bytes, where the keys, the draws, the challenge and the words are.
+use Rattle.std.specs.Prelude.{Option, Some, None}
 use mathlib.Core.Path.{◌≡◌}
 use mathlib.Core.Bool.{Bool, true, false}
 use mathlib.Core.List.{List, [], ◌++◌}
@@ -23,8 +24,6 @@ use Rattle.frames.specs.Constants.{c_tam1, c_tam2_0, c_tam2_1, c_tam2_2, c_tam2_
 use Rattle.frames.specs.Fields.{custom_fits}
 use Rattle.frames.specs.Header.{header_start, header_of}
 use Rattle.frames.specs.declared.ProtMode.{ProtMode}
-use Rattle.frames.specs.declared.ProtModeField.{ProtModeField}
-use Rattle.frames.specs.declared.ProtModeField.TheVariants.{Mode, NoMode}
 use Rattle.frames.specs.Modes.{encrypts, has_mac, in_mode, prot_mode_of}
 use Rattle.frames.proofs.Bounds.{by_mode_le}
 use Rattle.frames.proofs.Range.{custom_range, size_bit_lt}
@@ -101,6 +100,6 @@ module _ (draws : List ℕ) (d : Ten draws) where
     unfolding tam2_reply
     tam2_bytes m words mac t fit h = by (prot_mode_of m.protmode)
       where
-        by : (x : ProtModeField) → Bytes (in_mode x (tam2_in_mode key m words draws) [])
-        by (Mode mode) = in_mode_bytes m words mode mac t fit h
-        by NoMode = none_bytes
+        by : (x : Option ProtMode) → Bytes (in_mode x (tam2_in_mode key m words draws) [])
+        by (Some mode) = in_mode_bytes m words mode mac t fit h
+        by None = none_bytes

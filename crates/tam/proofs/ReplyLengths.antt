@@ -1,4 +1,5 @@
 -- The lengths of the replies.
+use Rattle.std.specs.Prelude.{Option, Some, None}
 use mathlib.Core.Path.{◌≡◌, refl}
 use mathlib.Core.Bool.{Bool, true, false}
 use mathlib.Core.List.{List, [], ◌++◌}
@@ -17,8 +18,6 @@ use Rattle.frames.specs.Constants.{tam2_constant}
 use Rattle.frames.specs.Lengths.{mac_length, tam1_reply_length, tam2_mac_at, tam2_reply_length}
 use Rattle.payload.specs.Data.{carried_data}
 use Rattle.frames.specs.declared.ProtMode.{ProtMode}
-use Rattle.frames.specs.declared.ProtModeField.{ProtModeField}
-use Rattle.frames.specs.declared.ProtModeField.TheVariants.{Mode, NoMode}
 use Rattle.frames.specs.Modes.{encrypts, has_mac, in_mode, prot_mode_of}
 use Rattle.payload.specs.Protected.{with_mac}
 use Rattle.payload.proofs.Data.{carried_length}
@@ -69,12 +68,12 @@ module _ (key : Key) (m : Tam2) (words draws : List ℕ) (mode : ProtMode)
       (blocks_whole m.custom.blocksize m.rev m.custom.blockcount)
 
 -- the reply is that of its mode
-pub tam2_named : (key : Key) (m : Tam2) (words draws : List ℕ) (mode : ProtMode) → prot_mode_of m.protmode ≡ Mode mode
+pub tam2_named : (key : Key) (m : Tam2) (words draws : List ℕ) (mode : ProtMode) → prot_mode_of m.protmode ≡ Some mode
     → tam2_reply key m words draws ≡ tam2_in_mode key m words draws mode
 unfolding tam2_reply
 tam2_named key m words draws mode named = rw named
 
-pub tam2_nothing : (key : Key) (m : Tam2) (words draws : List ℕ) → prot_mode_of m.protmode ≡ NoMode
+pub tam2_nothing : (key : Key) (m : Tam2) (words draws : List ℕ) → prot_mode_of m.protmode ≡ None
     → tam2_reply key m words draws ≡ []
 unfolding tam2_reply
 tam2_nothing key m words draws none = rw none
@@ -87,7 +86,7 @@ pub tam2_length_lem : (key : Key) (m : Tam2) (words draws : List ℕ)
 unfolding tam2_reply
 tam2_length_lem key m words draws count = by (prot_mode_of m.protmode)
   where
-    by : (x : ProtModeField) → length (in_mode x (tam2_in_mode key m words draws) [])
+    by : (x : Option ProtMode) → length (in_mode x (tam2_in_mode key m words draws) [])
         ≡ in_mode x (tam2_reply_length m.custom.blocksize m.rev m.custom.blockcount) 0
-    by (Mode mode) = tam2_long key m words draws mode count
-    by NoMode = refl
+    by (Some mode) = tam2_long key m words draws mode count
+    by None = refl

@@ -1,4 +1,6 @@
 -- The reply to TAM2 from its parts, as they stand in the room.
+use Rattle.std.specs.Prelude.{Result}
+use Rattle.modes.specs.declared.ChainingFault.{ChainingFault}
 use mathlib.Core.Path.{◌≡◌, refl, sym, ap, ap₂, ◌∙◌}
 use mathlib.Core.Bool.{Bool, true, false}
 use mathlib.Core.List.{List, [], ◌++◌}
@@ -13,7 +15,6 @@ use Rattle.ground.specs.Choice.{pick, both}
 use Rattle.modes.specs.Cbc.{cbc_enc_aes}
 use Rattle.modes.specs.Cmac.{cmac96}
 use Rattle.modes.specs.Room.{Into, chains, over}
-use Rattle.modes.specs.declared.Chaining.{Chaining}
 use Rattle.modes.proofs.Rooms.{copied, enough}
 use Rattle.sheet.specs.declared.Key.{Key}
 use Rattle.frames.specs.declared.Custom.{Custom}
@@ -48,7 +49,7 @@ mac_of mode mackey s = pick (has_mac mode) (cmac96 mackey s) []
 -- ---- the data as they are sent, into a room
 
 module _ (mode : ProtMode) (b : Bool) (enc a p room : List ℕ) (told : b ≡ encrypts mode) where
-  pub body_chained : (after : List ℕ) (answer : Chaining) → b ≡ true → length p % 16 ≡ 0 → length p ≤ length room
+  pub body_chained : (after : List ℕ) (answer : Result Unit ChainingFault) → b ≡ true → length p % 16 ≡ 0 → length p ≤ length room
       → Into (chains (length p) (length room)) (cbc_enc_aes a enc p) room answer after
       → after ≡ over (pick (encrypts mode) (cbc_enc_aes a enc p) p) room
   body_chained after answer t w h i =

@@ -1,9 +1,10 @@
 -- No second answer fits the contract of an exported function.
+use Rattle.std.specs.Prelude.{Result}
+use Rattle.offer.specs.declared.TagFault.{TagFault}
 use mathlib.Core.Path.{◌≡◌, refl}
 use mathlib.Core.List.{List}
 use Prim.Native.Nat.{ℕ}
 use Rattle.ground.specs.OneAnswer.{OneAnswer, one}
-use Rattle.offer.specs.declared.Checked.{Checked}
 use Rattle.tam.specs.declared.Given.{Given}
 use Rattle.tam.specs.Given.{Gives}
 use Rattle.tam.proofs.tam1.Reads as tam1
@@ -11,7 +12,7 @@ use Rattle.tam.proofs.tam1.Kinds as tam1-kinds
 use Rattle.tam.proofs.tam2.Reads as tam2
 use Rattle.tam.proofs.tam2.Kinds as tam2-kinds
 
-given_one : (v : Checked) (reply : List ℕ) (x y : Given) → Gives v reply x → Gives v reply y → x ≡ y
+given_one : (v : Result Unit TagFault) (reply : List ℕ) (x y : Given) → Gives v reply x → Gives v reply y → x ≡ y
 given_one v reply x y p q = λ j. record {
   outcome = one p.outcome q.outcome j;
   reply = one p.reply q.reply j;

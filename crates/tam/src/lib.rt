@@ -11,7 +11,7 @@ ghost use Rattle.tam.specs.Given.{Gives, tam1_checked, tam1_sent, tam2_checked, 
 use frames::Kind;
 use frames::fields::{tam1_of, tam2_of};
 use frames::sizes::REPLY_ROOM;
-use offer::{Checked, Outcome, TagFault, records};
+use offer::{Answer, Outcome, TagFault, records};
 use sheet::Terms;
 
 mod judged; // judged.rt: the checks of TAM2, in their order
@@ -26,10 +26,10 @@ pub struct Given {
 
 // A refusal sends nothing.
 fn refused(fault: TagFault) -> Given
-    ensures { (result.outcome ≡ Outcome.Refused fault) × (result.reply ≡ replicate reply_room 0) }
+    ensures { (result.outcome ≡ Err fault) × (result.reply ≡ replicate reply_room 0) }
 {
     Given {
-        outcome: Outcome::Refused(fault),
+        outcome: Err(fault),
         reply: [0u8; REPLY_ROOM],
     }
 }
@@ -43,7 +43,7 @@ pub fn tam1(keys: &[u8], message: &[u8], draws: [u8; 10]) -> Given
 {
     let f = tam1_of(message);
     let verdict = offer::judged::opening(keys, Kind::Tam1, f.rfu, f.keyid, message);
-    if let Checked::Wrong(fault) = verdict {
+    if let Err(fault) = verdict {
         return refused(fault);
     }
     let found = keytable::find(keys, f.keyid);
@@ -52,7 +52,7 @@ pub fn tam1(keys: &[u8], message: &[u8], draws: [u8; 10]) -> Given
     let mut reply = [0u8; REPLY_ROOM];
     reply[..16].copy_from_slice(&block);
     Given {
-        outcome: Outcome::Replied(16),
+        outcome: Ok(Answer::Replied(16)),
         reply,
     }
 }
@@ -73,7 +73,7 @@ pub fn tam2<'a>(
         user.now) result }
 {
     let verdict = judged::tam2(terms, keys, message);
-    if let Checked::Wrong(fault) = verdict {
+    if let Err(fault) = verdict {
         return refused(fault);
     }
     let f = tam2_of(message);
@@ -85,7 +85,7 @@ pub fn tam2<'a>(
     let mut reply = [0u8; REPLY_ROOM];
     let n = replies::tam2_reply(key, f, words, draws, &mut reply);
     Given {
-        outcome: Outcome::Replied(n),
+        outcome: Ok(Answer::Replied(n)),
         reply,
     }
 }

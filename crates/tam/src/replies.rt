@@ -12,7 +12,7 @@ ghost use Rattle.tam.specs.Replies.{tam_block, tam1_reply, tam2_in_mode, tam2_re
 
 use frames::protection::{encrypts, prot_mode};
 use frames::sizes::{DATA_MOST, DATA_ROOM, data_length};
-use frames::{Custom, ProtMode, ProtModeField, Tam1, Tam2};
+use frames::{Custom, ProtMode, Tam1, Tam2};
 use sheet::Key;
 
 /// The authentication block (9.4.3, 9.4.6.1).
@@ -45,7 +45,7 @@ fn body(enc: [u8; 16], mode: ProtMode, a: [u8; 16], p: &[u8], room: &mut [u8])
         over (pick (encrypts mode) (cbc_enc_aes a enc p.now) p.now) room.old }
 {
     if encrypts(mode) {
-        modes::cbc_enc_aes(a, enc, p, room);
+        modes::cbc_enc_aes(a, enc, p, room).unwrap();
         return;
     }
     room[..p.len()].copy_from_slice(p);
@@ -116,7 +116,7 @@ pub fn tam2_reply(key: Key, m: Tam2, words: &[u8], draws: [u8; 10], room: &mut [
         × (room.new ≡ over (tam2_reply key m words.now draws) room.old) }
 {
     match prot_mode(m.protmode) {
-        ProtModeField::Mode(mode) => tam2_in_mode(key, m, words, draws, mode, room),
-        ProtModeField::NoMode => 0,
+        Some(mode) => tam2_in_mode(key, m, words, draws, mode, room),
+        None => 0,
     }
 }

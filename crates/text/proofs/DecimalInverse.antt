@@ -1,4 +1,6 @@
 -- Reading and writing decimal undo each other.
+use Rattle.std.specs.Prelude.{Result, Ok, ℕ}
+use Rattle.text.specs.declared.DecimalFault.{DecimalFault}
 use mathlib.Core.Path.{◌≡◌, refl, sym, ap, ap₂, ◌∙◌}
 use mathlib.Core.Bool.{true, not}
 use mathlib.Core.List.{List, [], ◌∷◌, ◌++◌, append-nil}
@@ -24,8 +26,6 @@ use Rattle.text.specs.Decimal.{
   decimal_word,
 }
 use Rattle.text.specs.Inverse.{DecimalBack, DecimalAgain}
-use Rattle.text.specs.declared.DecimalRead.{DecimalRead}
-use Rattle.text.specs.declared.DecimalRead.TheVariants.{Number}
 use Rattle.text.proofs.Choices.{picked, each, never}
 use Rattle.text.proofs.Values.{value_glyph, glyph_digit}
 use Rattle.text.proofs.Words.{all_digits}
@@ -81,7 +81,7 @@ unfolding digits value
 zero_word [] h = refl
 zero_word (c ∷ w) h = ap₂ both (le-leb 1 (length (c ∷ w)) (omega arith)) h
 
-read_written : (n : ℕ) → n ≤ largest → decimal_read (decimal_word n) ≡ Number n
+read_written : (n : ℕ) → n ≤ largest → decimal_read (decimal_word n) ≡ Ok n
 read_written n h =
     sym (number (decimal_word n)
     (zero_word (stripped (five_digits n)) (stripped_digits (five_digits n) (five_digits_lem n))) n
@@ -139,8 +139,8 @@ number_again (c ∷ w) p n h l e =
 
 -- a word that is read is digits, and their number is not too large
 module _ (w : List ℕ) (n : ℕ) where
-  abbrev Read : DecimalRead → Type 0
-  Read r = r ≡ Number n → decimal_word n ≡ trimmed w
+  abbrev Read : Result ℕ DecimalFault → Type 0
+  Read r = r ≡ Ok n → decimal_word n ≡ trimmed w
 
   written_read : Read (decimal_read w)
   unfolding decimal_read

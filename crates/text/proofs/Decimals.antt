@@ -1,4 +1,6 @@
 -- The number of a word, digit by digit, and the zeros in front of it.
+use Rattle.std.specs.Prelude.{Ok, Err}
+use Rattle.text.specs.declared.DecimalFault.TheVariants.{NotNumber, Over}
 use mathlib.Core.Path.{◌≡◌, refl, sym, ap, ◌∙◌}
 use mathlib.Core.Bool.{true, false}
 use mathlib.Core.List.{List, [], ◌∷◌}
@@ -24,7 +26,6 @@ use Rattle.text.specs.Decimal.{
   decimal_word,
 }
 use Rattle.text.proofs.Choices.{picked}
-use Rattle.text.specs.declared.DecimalRead.TheVariants.{Number, NotNumber, Over}
 
 -- more digits make no number smaller
 pub behind_grows : (n : ℕ) (w : List ℕ) → n ≤ behind n w
@@ -48,15 +49,15 @@ module _ (w : List ℕ) where
   unfolding behind
   none_behind n i h = rw (drop_of_length-le w {i = i} h)
 
-  pub not_number : is_word 10 w ≡ false → NotNumber ≡ decimal_read w
+  pub not_number : is_word 10 w ≡ false → (Err NotNumber) ≡ decimal_read w
   unfolding decimal_read
   not_number t = simp t
 
-  pub too_large : is_word 10 w ≡ true → largest < number_of w → Over ≡ decimal_read w
+  pub too_large : is_word 10 w ≡ true → largest < number_of w → (Err Over) ≡ decimal_read w
   unfolding decimal_read
   too_large t h = simp (t, lt-ltb _ _ h)
 
-  pub number : is_word 10 w ≡ true → (n : ℕ) → n ≤ largest → number_of w ≡ n → Number n ≡ decimal_read w
+  pub number : is_word 10 w ≡ true → (n : ℕ) → n ≤ largest → number_of w ≡ n → Ok n ≡ decimal_read w
   unfolding decimal_read
   number t n h e = simp (t, e, le-ltb _ _ h)
 

@@ -1,4 +1,6 @@
 -- Reading and writing hex undo each other.
+use Rattle.std.specs.Prelude.{Result, Ok, ℕ}
+use Rattle.text.specs.declared.HexFault.{HexFault}
 use mathlib.Core.Path.{◌≡◌, refl, sym, ap, ap₂, ◌∙◌}
 use mathlib.Core.Bool.{true, false, not, false≢true}
 use mathlib.Core.List.{List, [], ◌∷◌, ◌++◌, map}
@@ -12,8 +14,6 @@ use Rattle.ground.specs.Choice.{both}
 use Rattle.text.specs.Digits.{value, glyph, digits, is_word}
 use Rattle.text.specs.Hex.{dash, is_dash, bytes_of, hex_read, hex_room, ReadsHex, pairs, hex_word}
 use Rattle.text.specs.Inverse.{EachByte, lower, HexBack, HexAgain}
-use Rattle.text.specs.declared.HexRead.{HexRead}
-use Rattle.text.specs.declared.HexRead.TheVariants.{Bytes}
 use Rattle.text.proofs.Choices.{picked, each, never}
 use Rattle.text.proofs.Values.{value_glyph, glyph_value}
 use Rattle.text.proofs.Words.{all_digits}
@@ -49,7 +49,7 @@ unfolding is_dash pairs
 no_dash b bs = refl
 
 read_written : (bs room : List ℕ) → EachByte bs → length bs ≤ length room
-    → ReadsHex (hex_word bs) room (Bytes (length bs)) (bs ++ drop (length bs) room)
+    → ReadsHex (hex_word bs) room (Ok (length bs)) (bs ++ drop (length bs) room)
 unfolding hex_word is_dash
 read_written [] room h l = no_bytes (dash ∷ []) room refl
 read_written (b ∷ bs) room h l =
@@ -66,8 +66,8 @@ read_written (b ∷ bs) room h l =
 
 -- a word that is read is `-`, or an even number of digits
 module _ (w : List ℕ) (size n : ℕ) (G : Type 0) where
-  abbrev Read : HexRead → Type 0
-  Read r = r ≡ Bytes n → G
+  abbrev Read : Result ℕ HexFault → Type 0
+  Read r = r ≡ Ok n → G
 
   accepted : (is_dash w ≡ true → n ≡ 0 → G)
       → (is_word 16 w ≡ true → (length w % 2 ≡ 1 → ⊥) → n ≡ length (bytes_of w) → G)
@@ -100,11 +100,11 @@ pairs_again (c ∷ (d ∷ w)) h e =
     ap₂ ◌∷◌ (ap glyph high ∙ glyph_value c x) (ap₂ ◌∷◌ (ap glyph low ∙ glyph_value d y)
     (pairs_again w second.1 (λ o. e (omega arith))))
 
-written_read : (w room : List ℕ) (n : ℕ) (after : List ℕ) → ReadsHex w room (Bytes n) after
+written_read : (w room : List ℕ) (n : ℕ) (after : List ℕ) → ReadsHex w room (Ok n) after
     → hex_word (take n after) ≡ map lower w
 written_read w room n after h =
     let held : after ≡ bytes_of w ++ drop n room = h.holds
-    ∙ ap (λ (r : HexRead). hex_room r (bytes_of w) room) (sym h.says) in
+    ∙ ap (λ (r : Result ℕ HexFault). hex_room r (bytes_of w) room) (sym h.says) in
     accepted w (length room) n (hex_word (take n after) ≡ map lower w)
     (λ d z. rw z (dash_again w d))
     (λ t v e.

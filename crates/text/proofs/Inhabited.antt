@@ -1,5 +1,6 @@
 -- The premises of the inverse can be met: each theorem, applied to two calls. `AF` is 65, 70; `af` is 97, 102; `007` is
 -- 48, 48, 55.
+use Rattle.std.specs.Prelude.{Ok}
 use mathlib.Core.Path.{◌≡◌, refl}
 use mathlib.Core.List.{List, [], ◌∷◌, ◌++◌, map}
 use Prim.Native.Nat.{ℕ, zero, suc}
@@ -10,8 +11,6 @@ use Rattle.text.specs.Hex.{ReadsHex, is_dash, bytes_of, hex_read, pairs, hex_wor
 use Rattle.text.specs.Decimal.{behind, decimal_read, stripped, trimmed, five_digits, decimal_word}
 use Rattle.text.specs.Room.{Writes}
 use Rattle.text.specs.Inverse.{EachByte, lower}
-use Rattle.text.specs.declared.HexRead.TheVariants.{Bytes}
-use Rattle.text.specs.declared.DecimalRead.TheVariants.{Number}
 use Rattle.text.proofs.HexInverse.{hex_back, hex_again}
 use Rattle.text.proofs.DecimalInverse.{decimal_back, decimal_again}
 
@@ -40,18 +39,18 @@ writes : Writes (hex_word byte) room 2 text
 unfolding hex_word pairs glyph
 writes = record { says = refl; holds = refl }
 
-reads : ReadsHex (take 2 text) other (Bytes 1) after
+reads : ReadsHex (take 2 text) other (Ok 1) after
 unfolding hex_read is_dash digits bytes_of value
 reads = record { says = refl; holds = refl }
 
-byte_back : (Bytes 1 ≡ Bytes (length byte)) × (after ≡ byte ++ drop (length byte) other)
-byte_back = hex_back byte room other 2 text (Bytes 1) after is_byte writes (omega arith) (omega arith) reads
+byte_back : (Ok 1 ≡ Ok (length byte)) × (after ≡ byte ++ drop (length byte) other)
+byte_back = hex_back byte room other 2 text (Ok 1) after is_byte writes (omega arith) (omega arith) reads
 
 -- the same byte, from `AF`
 abbrev upper : List ℕ
 upper = 65 ∷ (70 ∷ [])
 
-reads_upper : ReadsHex upper other (Bytes 1) after
+reads_upper : ReadsHex upper other (Ok 1) after
 unfolding hex_read is_dash digits bytes_of value
 reads_upper = record { says = refl; holds = refl }
 
@@ -66,13 +65,13 @@ writes_seven : Writes (decimal_word 7) room 1 seven
 unfolding stripped five_digits glyph
 writes_seven = record { says = refl; holds = refl }
 
-seven_back : decimal_read (take 1 seven) ≡ Number 7
+seven_back : decimal_read (take 1 seven) ≡ Ok 7
 seven_back = decimal_back 7 room 1 seven (omega arith) writes_seven (omega arith)
 
 abbrev zeros : List ℕ
 zeros = 48 ∷ (48 ∷ (55 ∷ []))
 
-reads_zeros : decimal_read zeros ≡ Number 7
+reads_zeros : decimal_read zeros ≡ Ok 7
 unfolding decimal_read digits behind value
 reads_zeros = refl
 

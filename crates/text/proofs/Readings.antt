@@ -1,4 +1,7 @@
 -- The answers of `read_hex`, each test taken or left.
+use Rattle.std.specs.Prelude.{Result, Ok, Err, ℕ}
+use Rattle.text.specs.declared.HexFault.TheVariants.{NotHex, Odd, Over}
+use Rattle.text.specs.declared.HexFault.{HexFault}
 use mathlib.Core.Path.{◌≡◌, refl, sym, ap, ◌∙◌}
 use mathlib.Core.Bool.{true, false, false≢true}
 use mathlib.Core.List.{List, [], ◌∷◌, ◌++◌}
@@ -9,8 +12,6 @@ use lib.ListN.{length, drop, get_or}
 use borrow.Author.Tests.{eq-eqb, ne_eqb, lt-ltb, le-ltb}
 use Rattle.text.specs.Digits.{is_word}
 use Rattle.text.specs.Hex.{dash, is_dash, bytes_of, hex_read, hex_room, ReadsHex}
-use Rattle.text.specs.declared.HexRead.{HexRead}
-use Rattle.text.specs.declared.HexRead.TheVariants.{Bytes, NotHex, Odd, Over}
 use Rattle.text.proofs.Pairs.{bytes_long}
 
 -- the steps of `is_dash`
@@ -35,30 +36,30 @@ dash_bytes (c ∷ (d ∷ w)) h = absurd (false≢true h)
 
 -- an answer, and what it leaves in the room
 module _ (w room : List ℕ) where
-  answered : (r : HexRead) (after : List ℕ) → hex_read w (length room) ≡ r → after ≡ hex_room r (bytes_of w) room
+  answered : (r : Result ℕ HexFault) (after : List ℕ) → hex_read w (length room) ≡ r → after ≡ hex_room r (bytes_of w) room
       → ReadsHex w room r after
-  answered r after e f = record { says = sym e; holds = f ∙ ap (λ (a : HexRead). hex_room a (bytes_of w) room) (sym e) }
+  answered r after e f = record { says = sym e; holds = f ∙ ap (λ (a : Result ℕ HexFault). hex_room a (bytes_of w) room) (sym e) }
 
-  pub no_bytes : is_dash w ≡ true → ReadsHex w room (Bytes 0) room
+  pub no_bytes : is_dash w ≡ true → ReadsHex w room (Ok 0) room
   unfolding hex_read
-  no_bytes t = answered (Bytes 0) room (simp t) (simp (dash_bytes w t))
+  no_bytes t = answered (Ok 0) room (simp t) (simp (dash_bytes w t))
 
-  pub not_hex : is_dash w ≡ false → is_word 16 w ≡ false → ReadsHex w room NotHex room
+  pub not_hex : is_dash w ≡ false → is_word 16 w ≡ false → ReadsHex w room (Err NotHex) room
   unfolding hex_read
-  not_hex d t = answered NotHex room (simp (d, t)) refl
+  not_hex d t = answered (Err NotHex) room (simp (d, t)) refl
 
-  pub odd : is_dash w ≡ false → is_word 16 w ≡ true → length w % 2 ≡ 1 → ReadsHex w room Odd room
+  pub odd : is_dash w ≡ false → is_word 16 w ≡ true → length w % 2 ≡ 1 → ReadsHex w room (Err Odd) room
   unfolding hex_read
-  odd d t h = answered Odd room (simp (d, t, eq-eqb _ _ h)) refl
+  odd d t h = answered (Err Odd) room (simp (d, t, eq-eqb _ _ h)) refl
 
   pub over : is_dash w ≡ false → is_word 16 w ≡ true → (length w % 2 ≡ 1 → ⊥) → length room < length w / 2
-      → ReadsHex w room Over room
+      → ReadsHex w room (Err Over) room
   unfolding hex_read
-  over d t h l = answered Over room (simp (d, t, ne_eqb _ _ h, bytes_long, lt-ltb _ _ l)) refl
+  over d t h l = answered (Err Over) room (simp (d, t, ne_eqb _ _ h, bytes_long, lt-ltb _ _ l)) refl
 
   pub bytes : is_dash w ≡ false → is_word 16 w ≡ true → (length w % 2 ≡ 1 → ⊥) → length w / 2 ≤ length room
       → (after : List ℕ)
-      → after ≡ bytes_of w ++ drop (length (bytes_of w)) room → ReadsHex w room (Bytes (length w / 2)) after
+      → after ≡ bytes_of w ++ drop (length (bytes_of w)) room → ReadsHex w room (Ok (length w / 2)) after
   unfolding hex_read
-  bytes d t h l after e = answered (Bytes (length w / 2)) after (simp (d, t, ne_eqb _ _ h, bytes_long, le-ltb _ _ l))
+  bytes d t h l after e = answered (Ok (length w / 2)) after (simp (d, t, ne_eqb _ _ h, bytes_long, le-ltb _ _ l))
       (e ∙ simp bytes_long)

@@ -1,9 +1,9 @@
 -- Numbers up to 65,535 as decimal digits.
-use Rattle.std.specs.Prelude.{ℕ, ◌+◌, ◌*◌, ◌/◌, ◌%◌, not, List, [], ◌∷◌, eqb, ltb}
+use Rattle.std.specs.Prelude.{ℕ, ◌+◌, ◌*◌, ◌/◌, ◌%◌, not, List, [], ◌∷◌, eqb, ltb, Result, Ok, Err}
+use Rattle.text.specs.declared.DecimalFault.TheVariants.{NotNumber, Over}
+use Rattle.text.specs.declared.DecimalFault.{DecimalFault}
 use Rattle.ground.specs.Choice.{pick}
 use Rattle.text.specs.Digits.{value, glyph, is_word}
-use Rattle.text.specs.declared.DecimalRead.{DecimalRead}
-use Rattle.text.specs.declared.DecimalRead.TheVariants.{Number, NotNumber, Over}
 
 -- n, and the digits of a word behind it.
 unfoldable pub behind : ℕ → List ℕ → ℕ
@@ -18,11 +18,11 @@ abbrev pub largest : ℕ
 largest = 65535
 
 -- What is read of a word.
-unfoldable pub decimal_read : List ℕ → DecimalRead
+unfoldable pub decimal_read : List ℕ → Result ℕ DecimalFault
 decimal_read w =
-    pick (not (is_word 10 w)) NotNumber
-    (pick (ltb largest (number_of w)) Over
-    (Number (number_of w)))
+    pick (not (is_word 10 w)) (Err NotNumber)
+    (pick (ltb largest (number_of w)) (Err Over)
+    (Ok (number_of w)))
 
 abbrev pub zero_digit : ℕ
 zero_digit = 48

@@ -1,9 +1,9 @@
 -- Bytes as hex digits, two to a byte, the high one first; `-` for no bytes.
-use Rattle.std.specs.Prelude.{ℕ, ◌+◌, ◌*◌, ◌/◌, ◌%◌, ◌≡◌, Bool, false, not, List, [], ◌∷◌, ◌++◌, eqb, ltb, length, drop}
+use Rattle.std.specs.Prelude.{ℕ, ◌+◌, ◌*◌, ◌/◌, ◌%◌, ◌≡◌, Bool, false, not, List, [], ◌∷◌, ◌++◌, eqb, ltb, length, drop, Result, Ok, Err}
+use Rattle.text.specs.declared.HexFault.TheVariants.{NotHex, Odd, Over}
+use Rattle.text.specs.declared.HexFault.{HexFault}
 use Rattle.ground.specs.Choice.{pick}
 use Rattle.text.specs.Digits.{value, glyph, is_word}
-use Rattle.text.specs.declared.HexRead.{HexRead}
-use Rattle.text.specs.declared.HexRead.TheVariants.{Bytes, NotHex, Odd, Over}
 
 abbrev pub dash : ℕ
 dash = 45
@@ -21,23 +21,23 @@ bytes_of (c ∷ []) = []
 bytes_of (c ∷ (d ∷ w)) = (value c * 16 + value d) ∷ bytes_of w
 
 -- What is read of a word, into a room of so many bytes.
-unfoldable pub hex_read : List ℕ → ℕ → HexRead
+unfoldable pub hex_read : List ℕ → ℕ → Result ℕ HexFault
 hex_read w size =
-    pick (is_dash w) (Bytes 0)
-    (pick (not (is_word 16 w)) NotHex
-    (pick (eqb (length w % 2) 1) Odd
-    (pick (ltb size (length (bytes_of w))) Over
-    (Bytes (length (bytes_of w))))))
+    pick (is_dash w) (Ok 0)
+    (pick (not (is_word 16 w)) (Err NotHex)
+    (pick (eqb (length w % 2) 1) (Err Odd)
+    (pick (ltb size (length (bytes_of w))) (Err Over)
+    (Ok (length (bytes_of w))))))
 
 -- What the room holds afterwards: the bytes over its first, where they were read; else what it held.
-abbrev pub hex_room : HexRead → List ℕ → List ℕ → List ℕ
-hex_room (Bytes n) bytes room = bytes ++ drop n room
-hex_room NotHex bytes room = room
-hex_room Odd bytes room = room
-hex_room Over bytes room = room
+abbrev pub hex_room : Result ℕ HexFault → List ℕ → List ℕ → List ℕ
+hex_room (Ok n) bytes room = bytes ++ drop n room
+hex_room (Err NotHex) bytes room = room
+hex_room (Err Odd) bytes room = room
+hex_room (Err Over) bytes room = room
 
 -- What `read_hex` answers, and leaves in the room.
-pub record ReadsHex (word room : List ℕ) (answer : HexRead) (after : List ℕ) : Type 0 where
+pub record ReadsHex (word room : List ℕ) (answer : Result ℕ HexFault) (after : List ℕ) : Type 0 where
   pub says : answer ≡ hex_read word (length room)
   pub holds : after ≡ hex_room (hex_read word (length room)) (bytes_of word) room
 

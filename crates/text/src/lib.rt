@@ -10,19 +10,17 @@ ghost use Rattle.text.specs.Decimal.{decimal_read, decimal_word};
 ghost use Rattle.text.specs.Hex.{ReadsHex, hex_word};
 ghost use Rattle.text.specs.Room.{Writes};
 
-/// What was read of a word of hex digits.
-#[derive(Clone, Copy)]
-pub enum HexRead {
-    Bytes(usize),
+/// Why a word is not read as bytes: it is none of hex digits, their number is odd, or the room has fewer bytes.
+#[derive(Clone, Copy, Debug, PartialEq, Eq)]
+pub enum HexFault {
     NotHex,
     Odd,
     Over,
 }
 
-/// What was read of a word of decimal digits.
-#[derive(Clone, Copy)]
-pub enum DecimalRead {
-    Number(u16),
+/// Why a word is not read as a number: it is none of decimal digits, or the number is over 65,535.
+#[derive(Clone, Copy, Debug, PartialEq, Eq)]
+pub enum DecimalFault {
     NotNumber,
     Over,
 }
@@ -31,24 +29,24 @@ pub enum DecimalRead {
 /// bytes. Where the word is refused, no byte of the room changes.
 ///
 /// Ruled out: `A` read as another value than `a`; a word of which the first digits are read and the rest is left.
-pub fn read_hex(word: &[u8], room: &mut [u8]) -> HexRead
+pub fn read_hex(word: &[u8], room: &mut [u8]) -> Result<usize, HexFault>
     ensures { ReadsHex word.now room.old result room.new }
 {
     if hex::is_dash(word) {
-        return HexRead::Bytes(0);
+        return Ok(0);
     }
     if !digits::is_word(word, 16) {
-        return HexRead::NotHex;
+        return Err(HexFault::NotHex);
     }
     if word.len() % 2 == 1 {
-        return HexRead::Odd;
+        return Err(HexFault::Odd);
     }
     let n = word.len() / 2;
     if room.len() < n {
-        return HexRead::Over;
+        return Err(HexFault::Over);
     }
     hex::read_pairs(word, room);
-    HexRead::Bytes(n)
+    Ok(n)
 }
 
 /// Writes bytes as hex digits in lower case over the first characters of a room, `-` for no bytes, and answers how many
@@ -72,22 +70,22 @@ pub fn write_hex(bytes: &[u8], room: &mut [u8]) -> usize
 /// Reads a word of decimal digits, with or without zeros in front.
 ///
 /// Ruled out: a number over 65,535 cut to 16 bits; the empty word read as 0.
-pub fn read_decimal(word: &[u8]) -> DecimalRead
+pub fn read_decimal(word: &[u8]) -> Result<u16, DecimalFault>
     ensures { result ≡ decimal_read word.now }
 {
     if !digits::is_word(word, 10) {
-        return DecimalRead::NotNumber;
+        return Err(DecimalFault::NotNumber);
     }
     let mut n: u32 = 0;
     let mut i = 0;
     while i < word.len() {
         n = decimal::behind(n, word[i]);
         if 65535 < n {
-            return DecimalRead::Over;
+            return Err(DecimalFault::Over);
         }
         i += 1;
     }
-    DecimalRead::Number(n as u16)
+    Ok(n as u16)
 }
 
 /// Writes a number in the fewest decimal digits over the first characters of a room, and answers how many. Where the

@@ -2,6 +2,7 @@
 // keys, the draws and the challenges of Annex F, so that a trainee finds many of the bytes in its tables. What it
 // prints is examples/demo.out.
 
+use frames::ProtMode;
 // The script into the first bytes of a room; its length there, 0 where the room is too short.
 pub fn script(room: &mut [u8]) -> usize {
     put(

@@ -1,4 +1,5 @@
 // What each number means, the lines of docs/numbers.txt, and the commands, the line of docs/help.txt.
+use frames::ProtMode;
 use lines::print;
 use std::io;
 

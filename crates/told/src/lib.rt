@@ -5,23 +5,23 @@ use console::answer;
 use console::answer::within;
 use entry::State;
 use lines::print;
-use offer::Outcome;
+use offer::{Answer, Outcome};
 use std::io;
 
 pub fn outcome(rt: &impl Print, outcome: Outcome, state: State, room: &[u8]) -> io::Result<()> {
     match outcome {
-        Outcome::Replied(n) => {
+        Ok(Answer::Replied(n)) => {
             let e = within(n, room);
             replied(rt, &room[..e], state)?;
             print::text(rt, b" purpose -\n")
         }
-        Outcome::Entered(purpose) => {
+        Ok(Answer::Entered(purpose)) => {
             replied(rt, b"", state)?;
             print::text(rt, b" purpose ")?;
             answer::decimal(rt, purpose as u16)?;
             print::text(rt, b"\n")
         }
-        Outcome::Refused(_) => {
+        Err(_) => {
             print::text(rt, b"refused ")?;
             answer::decimal(rt, offer::number(outcome) as u16)?;
             state_told(rt, state)?;

@@ -1,4 +1,6 @@
 -- What the callees of a turn leave is what the definition of the turn says.
+use Rattle.std.specs.Prelude.{Result, Ok, Err, ℕ}
+use Rattle.reader.specs.declared.ReaderFault.{ReaderFault}
 use mathlib.Core.Path.{◌≡◌, refl, sym, ap, ap₂, subst, ◌∙◌}
 use mathlib.Core.Bool.{Bool, true, false}
 use mathlib.Core.List.{List}
@@ -7,8 +9,6 @@ use lib.ListN.{length}
 use Rattle.ground.specs.Choice.{pick}
 use Rattle.modes.specs.Room.{over}
 use Rattle.reader.specs.declared.ReaderFault.TheVariants.{OwnMessage}
-use Rattle.reader_build.specs.declared.Made.{Made}
-use Rattle.reader_build.specs.declared.Made.TheVariants.{Message, Refused}
 use Rattle.reader_build.specs.Makes.{Makes, taken}
 use Rattle.reader_judge.specs.declared.Judgement.{Judgement}
 use Rattle.reader_judge.specs.Findings.{Judges}
@@ -51,14 +51,14 @@ enough false = refl
 
 module _ (next : Next) (s : Standing) where
   picked : (b : Bool) (n : ℕ) (full zeros : List ℕ)
-      → sends_made next s (pick b (Message n) (Refused OwnMessage)) (pick b full zeros)
+      → sends_made next s (pick b (Ok n) (Err OwnMessage)) (pick b full zeros)
       ≡ pick b (sending next s full n) (turned (RefusedByReader OwnMessage) s)
   unfolding sends_made
   picked true n full zeros = refl
   picked false n full zeros = refl
 
   -- what a builder made is sent as its draft says
-  pub sends_made_lem : (d : Draft) (made : Made) (room : List ℕ)
+  pub sends_made_lem : (d : Draft) (made : Result ℕ ReaderFault) (room : List ℕ)
       → Makes d.fit d.message message_zeros made room → sends_made next s made room ≡ sends next s d
   unfolding sends
   sends_made_lem d made room h =
@@ -67,14 +67,14 @@ module _ (next : Next) (s : Standing) where
       ∙ ap (λ (b : Bool). pick b (sending next s (over d.message message_zeros) (length d.message))
       (turned (RefusedByReader OwnMessage) s)) (enough d.fit)
 
-  pub sends_by : (h : Standing) (d : Draft) (made : Made) (room : List ℕ) (r : Standing)
+  pub sends_by : (h : Standing) (d : Draft) (made : Result ℕ ReaderFault) (room : List ℕ) (r : Standing)
       → r ≡ sends_made next h made room → h ≡ s → Makes d.fit d.message message_zeros made room
       → r ≡ sends next s d
   sends_by h d made room r e q m =
       e ∙ ap (λ (x : Standing). sends_made next x made room) q ∙ sends_made_lem d made room m
 
   -- the standing with a message that was sent
-  pub sends_message : (room : List ℕ) (n l : ℕ) (made : Made) → made ≡ Message n → l ≡ s.left - 1
+  pub sends_message : (room : List ℕ) (n l : ℕ) (made : Result ℕ ReaderFault) → made ≡ Ok n → l ≡ s.left - 1
       → ◌≡◌ {A = Standing} (record {
         next = next;
         left = l;
@@ -86,7 +86,7 @@ module _ (next : Next) (s : Standing) where
   unfolding sends_made
   sends_message room n l made e q =
       built_anew next (record { bytes = room; count = n }) s.reply s.challenge s.found _ _ q
-      ∙ sym (ap (λ (m : Made). sends_made next s m room) e)
+      ∙ sym (ap (λ (m : Result ℕ ReaderFault). sends_made next s m room) e)
 
 -- ---- the reader's judgement
 

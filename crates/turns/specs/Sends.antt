@@ -1,10 +1,9 @@
 -- What becomes of a message that the reader would send.
-use Rattle.std.specs.Prelude.{ℕ, List, length}
+use Rattle.std.specs.Prelude.{ℕ, List, length, Result, Ok, Err}
+use Rattle.reader.specs.declared.ReaderFault.{ReaderFault}
 use Rattle.ground.specs.Choice.{pick}
 use Rattle.modes.specs.Room.{over}
 use Rattle.reader.specs.declared.ReaderFault.TheVariants.{OwnMessage}
-use Rattle.reader_build.specs.declared.Made.{Made}
-use Rattle.reader_build.specs.declared.Made.TheVariants.{Message, Refused}
 use Rattle.plan.specs.Drafts.{Draft}
 use Rattle.turns.specs.declared.Next.{Next}
 use Rattle.turns.specs.declared.Next.TheVariants.{RefusedByReader}
@@ -18,6 +17,6 @@ sends next s d =
     (turned (RefusedByReader OwnMessage) s)
 
 -- The same of what a builder answered, its message in a room.
-unfoldable pub sends_made : Next → Standing → Made → List ℕ → Standing
-sends_made next s (Message n) room = sending next s room n
-sends_made next s (Refused f) room = turned (RefusedByReader f) s
+unfoldable pub sends_made : Next → Standing → Result ℕ ReaderFault → List ℕ → Standing
+sends_made next s (Ok n) room = sending next s room n
+sends_made next s (Err f) room = turned (RefusedByReader f) s

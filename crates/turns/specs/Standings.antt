@@ -1,11 +1,10 @@
 -- What stands between two turns (M-100): whose turn is next, what it becomes in a turn, and its number.
-use Rattle.std.specs.Prelude.{ℕ, ◌-◌, Bool, true, false, List, eqb, leb, take, drop, replicate}
+use Rattle.std.specs.Prelude.{ℕ, ◌-◌, Bool, true, false, List, eqb, leb, take, drop, replicate, Result, Ok, Err}
+use Rattle.reader.specs.declared.ReaderFault.{ReaderFault}
 use Rattle.ground.specs.Choice.{pick}
 use Rattle.offer.specs.Outcomes.{number_of as tag_number}
 use Rattle.reader.specs.Numbers.{number_of as reader_number}
 use Rattle.reader_judge.specs.declared.Worth.TheVariants.{NoData}
-use Rattle.reader_judge.specs.declared.Verdict.{Verdict}
-use Rattle.reader_judge.specs.declared.Verdict.TheVariants.{Accepted, Refused}
 use Rattle.plan.specs.declared.Method.{Method}
 use Rattle.plan.specs.declared.Method.TheVariants.{Tam1, Tam2, Iam2, Iam3, Mam}
 use Rattle.turns.specs.declared.Next.{Next}
@@ -128,9 +127,9 @@ draws_of (RefusedByTag f) d = take 10 d
 draws_of (RefusedByReader f) d = take 10 d
 
 -- How a judged reply ends the exchange.
-unfoldable pub verdict_next : Verdict → Next
-verdict_next Accepted = Done
-verdict_next (Refused f) = RefusedByReader f
+unfoldable pub verdict_next : Result Unit ReaderFault → Next
+verdict_next (Ok tt) = Done
+verdict_next (Err f) = RefusedByReader f
 
 -- ---- the number
 

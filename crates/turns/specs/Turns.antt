@@ -1,13 +1,12 @@
 -- One turn of either half (M-100). Turn 1 builds; turn 2 answers, and in TAM the reply is judged in that same turn;
 -- turn 3 judges the challenge and builds; turn 4 answers and is judged. A refusal by either half ends the exchange.
 -- Nothing is said here of what a message comes to: that is the tag's answer and the reader's judgement.
-use Rattle.std.specs.Prelude.{ℕ, ◌≡◌, List, length}
+use Rattle.std.specs.Prelude.{ℕ, ◌≡◌, List, length, Result, Ok, Err}
+use Rattle.offer.specs.Outcomes.{Outcome}
+use Rattle.offer.specs.declared.Answer.TheVariants.{Replied, Entered}
+use Rattle.reader.specs.declared.ReaderFault.{ReaderFault}
 use Rattle.ground.specs.Choice.{pick}
 use Rattle.modes.specs.Room.{over}
-use Rattle.offer.specs.declared.Outcome.{Outcome}
-use Rattle.offer.specs.declared.Outcome.TheVariants.{Replied, Entered, Refused}
-use Rattle.reader_judge.specs.declared.Verdict.{Verdict}
-use Rattle.reader_judge.specs.declared.Verdict.TheVariants.{Accepted, Refused as Rejected}
 use Rattle.reader_judge.specs.Findings.{Finding}
 use Rattle.reader_judge.specs.Judged.{judgement_of}
 use Rattle.tag.specs.declared.Tag.{Tag}
@@ -35,9 +34,9 @@ opened p s = sends TagAnswers s (opening p p.method)
 unfoldable pub proves : Plan → List ℕ → List ℕ → Standing → Standing
 proves p words challenge s = sends TagEnds (challenged challenge s) (closing p words challenge p.method)
 
-unfoldable pub meets : Plan → List ℕ → List ℕ → Standing → Verdict → Standing
-meets p words challenge s Accepted = proves p words challenge s
-meets p words challenge s (Rejected f) = turned (RefusedByReader f) s
+unfoldable pub meets : Plan → List ℕ → List ℕ → Standing → Result Unit ReaderFault → Standing
+meets p words challenge s (Ok tt) = proves p words challenge s
+meets p words challenge s (Err f) = turned (RefusedByReader f) s
 
 -- The reader's finding in a reply to the message that stands there.
 unfoldable pub finding_in : Plan → Standing → Reply → Finding
@@ -75,9 +74,9 @@ received p s reply = pick (ends_with s.next p.method) (ended p s reply) (waits s
 
 -- What the tag's outcome makes of what stands, its reply over the first bytes of a room.
 unfoldable pub replied : Plan → Standing → List ℕ → Outcome → Standing
-replied p s room (Replied n) = received p s (record { bytes = room; count = n })
-replied p s room (Entered purpose) = received p s (record { bytes = room; count = 0 })
-replied p s room (Refused f) = turned (RefusedByTag f) s
+replied p s room (Ok (Replied n)) = received p s (record { bytes = room; count = n })
+replied p s room (Ok (Entered purpose)) = received p s (record { bytes = room; count = 0 })
+replied p s room (Err f) = turned (RefusedByTag f) s
 
 -- ---- both halves
 

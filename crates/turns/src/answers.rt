@@ -6,14 +6,14 @@ ghost use Rattle.tag.specs.Reactions.{lent, Steps};
 ghost use Rattle.turns.specs.Standings.{message_in, has_two, ends_with, draws_of, verdict_next};
 ghost use Rattle.turns.specs.Turns.{ended, received, replied, answered, table, Plays};
 
+use reader::ReaderFault;
 use super::judging::judged;
 use super::standings::{concludes, turned, waits};
 use super::{Found, Next, Played, Reply, Sent, Standing};
 use frames::sizes::{DATA_ROOM, REPLY_ROOM};
 use octets::{front, tail};
-use offer::Outcome;
+use offer::{Answer, Outcome};
 use plan::{Method, Plan};
-use reader_judge::Verdict;
 use tag::{Stepped, Tag};
 
 // Has the method two turns?
@@ -75,12 +75,12 @@ fn draws_of(next: Next, draws: &[u8]) -> &[u8]
 }
 
 // How a judged reply ends the exchange.
-fn verdict_next(verdict: Verdict) -> Next
+fn verdict_next(verdict: Result<(), ReaderFault>) -> Next
     ensures { result ≡ verdict_next verdict }
 {
     match verdict {
-        Verdict::Accepted => Next::Done,
-        Verdict::Refused(fault) => Next::RefusedByReader(fault),
+        Ok(()) => Next::Done,
+        Err(fault) => Next::RefusedByReader(fault),
     }
 }
 
@@ -119,7 +119,7 @@ fn reply_in(plan: Plan, standing: Standing, outcome: Outcome, room: [u8; REPLY_R
     ensures { result ≡ replied plan standing room outcome }
 {
     match outcome {
-        Outcome::Replied(n) => receive(
+        Ok(Answer::Replied(n)) => receive(
             plan,
             standing,
             Reply {
@@ -127,7 +127,7 @@ fn reply_in(plan: Plan, standing: Standing, outcome: Outcome, room: [u8; REPLY_R
                 count: n,
             },
         ),
-        Outcome::Entered(_) => receive(
+        Ok(Answer::Entered(_)) => receive(
             plan,
             standing,
             Reply {
@@ -135,7 +135,7 @@ fn reply_in(plan: Plan, standing: Standing, outcome: Outcome, room: [u8; REPLY_R
                 count: 0,
             },
         ),
-        Outcome::Refused(fault) => turned(Next::RefusedByTag(fault), standing),
+        Err(fault) => turned(Next::RefusedByTag(fault), standing),
     }
 }
 

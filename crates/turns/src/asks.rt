@@ -3,12 +3,12 @@
 ghost use Rattle.std.specs.Prelude.{◌≡◌};
 ghost use Rattle.turns.specs.Turns.{opened, proves, meets, closed, asked};
 
+use reader::ReaderFault;
 use super::judging::judged;
 use super::standings::{challenged, sends, turned};
 use super::{Next, Standing};
 use frames::sizes::{DATA_ROOM, MESSAGE_ROOM};
 use plan::Plan;
-use reader_judge::Verdict;
 
 // Turn 1.
 fn opens(plan: Plan, standing: Standing) -> Standing
@@ -33,15 +33,15 @@ fn prove(plan: Plan, words: &[u8], challenge: [u8; 10], standing: Standing) -> S
 fn meet(
     plan: Plan,
     words: &[u8],
-    verdict: Verdict,
+    verdict: Result<(), ReaderFault>,
     challenge: [u8; 10],
     standing: Standing,
 ) -> Standing
     ensures { result ≡ meets plan words.now challenge standing verdict }
 {
     match verdict {
-        Verdict::Accepted => prove(plan, words, challenge, standing),
-        Verdict::Refused(fault) => turned(Next::RefusedByReader(fault), standing),
+        Ok(()) => prove(plan, words, challenge, standing),
+        Err(fault) => turned(Next::RefusedByReader(fault), standing),
     }
 }
 

@@ -3,9 +3,9 @@ ghost use Rattle.std.specs.Prelude.{◌≡◌, ◌-◌};
 ghost use Rattle.turns.specs.Standings.{fresh, unbegun, turned, challenged, waits, concludes};
 ghost use Rattle.turns.specs.Sends.{sends_made};
 
+use reader::ReaderFault;
 use super::{Begun, Found, Next, Reply, Sent, Standing};
 use frames::sizes::{DATA_ROOM, MESSAGE_ROOM, REPLY_ROOM};
-use reader_build::Made;
 use reader_judge::Worth;
 
 /// Before the first turn. Ruled out: a limit that is not kept; bytes that stand there already.
@@ -91,11 +91,11 @@ pub fn challenged(challenge: [u8; 10], standing: Standing) -> Standing
 
 /// A message that was built is sent; one that was refused ends the exchange.
 /// Ruled out: a refused message sent; a turn that is not counted.
-pub fn sends(next: Next, standing: Standing, made: Made, room: [u8; MESSAGE_ROOM]) -> Standing
+pub fn sends(next: Next, standing: Standing, made: Result<usize, ReaderFault>, room: [u8; MESSAGE_ROOM]) -> Standing
     ensures { result ≡ sends_made next standing made room }
 {
     match made {
-        Made::Message(n) => {
+        Ok(n) => {
             let left = fewer(standing.left);
             let reply = standing.reply;
             let challenge = standing.challenge;
@@ -112,7 +112,7 @@ pub fn sends(next: Next, standing: Standing, made: Made, room: [u8; MESSAGE_ROOM
                 found,
             };
         }
-        Made::Refused(fault) => {
+        Err(fault) => {
             return turned(Next::RefusedByReader(fault), standing);
         }
     }

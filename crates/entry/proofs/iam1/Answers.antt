@@ -4,11 +4,11 @@ use Rattle.entry.proofs.Challenging.{iam1_wrong, iam1_fine}
 use Rattle.sheet.specs.KeyTable.{keys_in}
 use Rattle.entry.proofs.iam1.Goals as goal
 
-pub returns-in-Wrong : goal.returns-in-Wrong
-returns-in-Wrong c =
+pub returns-in-Err : goal.returns-in-Err
+returns-in-Err c =
     iam1_wrong (keys_in c.args.keys.now) c.args.message.now c.args.draws _ _ c.iam1_of-f.ensures
     c.opening-verdict.ensures _ _
-    c.in-Wrong.is c.unchallenged.ensures
+    c.in-Err.is c.unchallenged.ensures
 
 pub returns : goal.returns
 returns c =

@@ -3,11 +3,11 @@ use Rattle.entry.proofs.Giving.{iam3_refused, iam3_whole_lem, iam3_settled}
 use Rattle.sheet.specs.Setups.{setup_of}
 use Rattle.entry.proofs.iam3.Goals as goal
 
-pub returns-in-Wrong : goal.returns-in-Wrong
-returns-in-Wrong c =
+pub returns-in-Err : goal.returns-in-Err
+returns-in-Err c =
     iam3_refused (setup_of c.args.terms c.args.keys.now) c.args.held c.args.message.now _ c.find-found.ensures.1 _
     c.iam3_fields-verdict.ensures
-    c.args.identity.now c.args.user.now _ _ c.in-Wrong.is c.refused.ensures
+    c.args.identity.now c.args.user.now _ _ c.in-Err.is c.refused.ensures
 
 pub iam3-requires : goal.iam3-requires
 iam3-requires c =

@@ -4,12 +4,12 @@ use Rattle.entry.proofs.Challenging.{mam1_wrong, mam1_fine}
 use Rattle.sheet.specs.KeyTable.{keys_in}
 use Rattle.entry.proofs.mam1.Goals as goal
 
-pub returns-in-Wrong : goal.returns-in-Wrong
-returns-in-Wrong c =
+pub returns-in-Err : goal.returns-in-Err
+returns-in-Err c =
     mam1_wrong (keys_in c.args.keys.now) c.args.message.now c.args.draws _ _ c.mam1_of-f.ensures
     c.opening-verdict.ensures _
     _
-    c.in-Wrong.is c.unchallenged.ensures
+    c.in-Err.is c.unchallenged.ensures
 
 pub returns : goal.returns
 returns c =

@@ -15,15 +15,15 @@ returns-then-not-iam3_fits c = let a = c.args in
 pub iam3_in_mode-requires : goal.iam3_in_mode-requires
 iam3_in_mode-requires c = (
   c.if-room-lt-MESSAGE_ROOM.false,
-  sym c.prot_mode.ensures ∙ c.in-Mode.is,
+  sym c.prot_mode.ensures ∙ c.in-Some.is,
   said c.iam3_fits.ensures c.if-not-iam3_fits.false,
 )
 
-pub returns-in-Mode : goal.returns-in-Mode
-returns-in-Mode c = c.iam3_in_mode.ensures
+pub returns-in-Some : goal.returns-in-Some
+returns-in-Some c = c.iam3_in_mode.ensures
 
-pub returns-in-NoMode : goal.returns-in-NoMode
-returns-in-NoMode c = let a = c.args in
+pub returns-in-None : goal.returns-in-None
+returns-in-None c = let a = c.args in
     unfit _ _ _ (part_unfit a.keys a.custom a.protmode a.purpose _
     (sym (part_mode a.keys a.custom a.protmode a.purpose _
-    (no_mode a.keys a.protmode (sym c.prot_mode.ensures ∙ c.in-NoMode.is)))))
+    (no_mode a.keys a.protmode (sym c.prot_mode.ensures ∙ c.in-None.is)))))

@@ -32,11 +32,11 @@ judge_body-requires c =
           c.kind_of-q.ensures c.body_length-e.ensures,
     )
 
-pub returns-in-Shut : goal.returns-in-Shut
-returns-in-Shut c =
+pub returns-in-Err : goal.returns-in-Err
+returns-in-Err c =
     let told = judge_told key_limit c.args.rest.now c.args.gathered _
     (judged_shut key_limit c.args.rest.now c.args.gathered _ _ c.if-rest-eq0.false c.opening.ensures
-    c.in-Shut.is) in
+    c.in-Err.is) in
     record { value = told.0; finding_value = told.1 }
 
 pub returns-in-Open : goal.returns-in-Open

@@ -5,11 +5,11 @@ use Rattle.offer.proofs.Passed.{lending_draws, lending_room}
 use Rattle.tag.proofs.Turning.{bench_wrong, bench_fine}
 use Rattle.tag.proofs.step.Goals as goal
 
-pub returns-in-Wrong : goal.returns-in-Wrong
-returns-in-Wrong c =
+pub returns-in-Err : goal.returns-in-Err
+returns-in-Err c =
     bench_wrong c.args.tag c.args.keys.now c.args.message.now c.args.draws.now c.args.room.now c.args.identity.now
     c.args.user.now _
-    c.lending-verdict.ensures _ c.in-Wrong.is
+    c.lending-verdict.ensures _ c.in-Err.is
 
 pub take-reacted-requires : goal.take-reacted-requires
 take-reacted-requires c =

@@ -4,12 +4,12 @@ use Rattle.sheet.specs.KeyTable.{keys_in}
 use Rattle.field.proofs.Arrays.{array_length}
 use Rattle.tam.proofs.tam1.Goals as goal
 
-pub returns-in-Wrong : goal.returns-in-Wrong
-returns-in-Wrong c =
+pub returns-in-Err : goal.returns-in-Err
+returns-in-Err c =
     tam1_wrong (keys_in c.args.keys.now) c.args.message.now c.args.draws _ _ c.tam1_of-f.ensures
     c.opening-verdict.ensures _
     _
-    c.in-Wrong.is c.refused.ensures
+    c.in-Err.is c.refused.ensures
 
 pub returns : goal.returns
 returns c =

@@ -10,12 +10,12 @@ use Rattle.tam.proofs.Giving.{tam2_wrong, tam2_fine}
 use Rattle.sheet.specs.Setups.{setup_of}
 use Rattle.tam.proofs.tam2.Goals as goal
 
-pub returns-in-Wrong : goal.returns-in-Wrong
-returns-in-Wrong c =
+pub returns-in-Err : goal.returns-in-Err
+returns-in-Err c =
     tam2_wrong (setup_of c.args.terms c.args.keys.now) c.args.message.now c.args.draws _ c.args.identity.now
     c.args.user.now
     c.tam2-verdict.ensures _ _
-    c.in-Wrong.is c.refused.ensures
+    c.in-Err.is c.refused.ensures
 
 pub tam2_reply-n-requires : goal.tam2_reply-n-requires
 tam2_reply-n-requires c =

@@ -1,4 +1,6 @@
 -- `entry::opened::iam3_in_mode` meets its contract.
+use Rattle.std.specs.Prelude.{Ok}
+use Rattle.offer.specs.declared.Answer.TheVariants.{Entered}
 use mathlib.Core.Path.{◌≡◌, refl, sym, ap, ◌∙◌}
 use mathlib.Core.Bool.{true, false}
 use mathlib.Core.List.{List}
@@ -9,7 +11,6 @@ use lib.Seq.{length-take-le}
 use Rattle.memory.specs.declared.Area.{Area}
 use Rattle.memory.specs.declared.Area.TheVariants.{Identity, User}
 use Rattle.memory.specs.Areas.{stored_in}
-use Rattle.offer.specs.declared.Outcome.TheVariants.{Entered}
 use Rattle.entry.specs.Opened.{purpose_in, words_in, iam3_proof}
 use Rattle.entry.proofs.Sent.{data_most, opened_front, opened_named, proof_named}
 use Rattle.entry.proofs.opened.iam3_in_mode.Goals as goal
@@ -87,7 +88,7 @@ returns c =
     let there : Area → List ℕ → List ℕ → List ℕ =
     λ area l z. stored_in area c.args.block (words_in c.args.f.custom l) z in
     record {
-      outcome = rw e (c.let_in.ensures.0 ∙ ap Entered x);
+      outcome = rw e (c.let_in.ensures.0 ∙ ap (λ n. Ok (Entered n)) x);
       session = rw e c.let_in.ensures.1;
       in_identity = rw e (w.0 ∙ ap (λ (l : List ℕ). there Identity l c.args.identity.now) p);
       in_user = rw e (w.1 ∙ ap (λ (l : List ℕ). there User l c.args.user.now) p);

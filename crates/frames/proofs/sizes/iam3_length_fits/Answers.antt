@@ -7,21 +7,21 @@ pub returns-then-m-lt4 : goal.returns-then-m-lt4
 unfolding iam3_length_fits
 returns-then-m-lt4 c = simp (lt-leb _ _ c.if-m-lt4.true)
 
-pub returns-in-Mode : goal.returns-in-Mode
+pub returns-in-Some : goal.returns-in-Some
 unfolding iam3_length_fits
-returns-in-Mode c = simp (
+returns-in-Some c = simp (
   le-leb _ _ c.if-m-lt4.false,
   ← c.iam3_of-f.ensures,
   ← c.prot_mode.ensures,
-  c.in-Mode.is,
+  c.in-Some.is,
   c.iam3_length.ensures,
 )
 
-pub returns-in-NoMode : goal.returns-in-NoMode
+pub returns-in-None : goal.returns-in-None
 unfolding iam3_length_fits
-returns-in-NoMode c = simp (
+returns-in-None c = simp (
   le-leb _ _ c.if-m-lt4.false,
   ← c.iam3_of-f.ensures,
   ← c.prot_mode.ensures,
-  c.in-NoMode.is,
+  c.in-None.is,
 )

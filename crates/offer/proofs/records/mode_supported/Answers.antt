@@ -2,10 +2,10 @@
 use Rattle.offer.specs.Records.{mode_supported}
 use Rattle.offer.proofs.records.mode_supported.Goals as goal
 
-pub returns-in-Mode : goal.returns-in-Mode
+pub returns-in-Some : goal.returns-in-Some
 unfolding mode_supported
-returns-in-Mode c = simp (← c.prot_mode.ensures, c.in-Mode.is, c.mode_served.ensures)
+returns-in-Some c = simp (← c.prot_mode.ensures, c.in-Some.is, c.mode_served.ensures)
 
-pub returns-in-NoMode : goal.returns-in-NoMode
+pub returns-in-None : goal.returns-in-None
 unfolding mode_supported
-returns-in-NoMode c = simp (← c.prot_mode.ensures, c.in-NoMode.is)
+returns-in-None c = simp (← c.prot_mode.ensures, c.in-None.is)

@@ -9,11 +9,11 @@ use Rattle.sheet.proofs.places.read_from.Goals as goal
 pub loop-at-init : goal.loop-at-init
 loop-at-init c = refl
 
-pub returns-in-Faulty : goal.returns-in-Faulty
-returns-in-Faulty c = let l = c.loop-at in
+pub returns-in-Err : goal.returns-in-Err
+returns-in-Err c = let l = c.loop-at in
     let t = le_of_lt c.loop-at-test.true in
     let j = c.judge_at-j.ensures.0 in
-    let h = read_faulty key_limit c.args.s.now l.at l.gathered _ t j _ c.in-Faulty.is in
+    let h = read_faulty key_limit c.args.s.now l.at l.gathered _ t j _ c.in-Err.is in
     read_as _ _ (c.refuse.ensures ∙ sym h ∙ l.invariant)
 
 pub returns-then-at-s : goal.returns-then-at-s

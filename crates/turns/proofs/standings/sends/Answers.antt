@@ -1,6 +1,7 @@
 -- `turns::standings::sends` meets its contract.
+use Rattle.std.specs.Prelude.{Result, ℕ}
+use Rattle.reader.specs.declared.ReaderFault.{ReaderFault}
 use mathlib.Core.Path.{sym, ap, ◌∙◌}
-use Rattle.reader_build.specs.declared.Made.{Made}
 use Rattle.turns.specs.Sends.{sends_made}
 use Rattle.turns.proofs.Turning.{sends_message}
 use Rattle.turns.proofs.standings.sends.Goals as goal
@@ -13,5 +14,5 @@ returns-in-Message c =
 pub returns-in-Refused : goal.returns-in-Refused
 unfolding sends_made
 returns-in-Refused c =
-    c.turned.ensures ∙ sym (ap (λ (m : Made). sends_made c.args.next c.args.standing m c.args.room)
+    c.turned.ensures ∙ sym (ap (λ (m : Result ℕ ReaderFault). sends_made c.args.next c.args.standing m c.args.room)
     c.in-Refused.is)
