@@ -2,7 +2,7 @@
 ghost use Rattle.std.specs.Prelude.{◌≡◌};
 ghost use Rattle.frames.specs.Modes.{prot_mode_of, encrypts, has_mac};
 
-use super::{ProtMode};
+use super::ProtMode;
 
 // The mode of a field ProtMode. Table 3 leaves 4 to 15 to later editions and to makers: no mode of this suite. Ruled out: 1 and 2 exchanged, and 4 taken for a mode.
 pub fn prot_mode(protmode: u8) -> Option<ProtMode>

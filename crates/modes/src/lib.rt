@@ -42,7 +42,12 @@ pub fn takes(input: usize, room: usize) -> bool
 
 // CBC_ENC_AES (IV, key, data) into the first bytes of the room. Refused where the input is no whole number of blocks,
 // or the room is shorter than it. Ruled out: the chain taken from the input block; a byte written past the output.
-pub fn cbc_enc_aes(iv: [u8; 16], key: [u8; 16], input: &[u8], room: &mut [u8]) -> Result<(), ChainingFault>
+pub fn cbc_enc_aes(
+    iv: [u8; 16],
+    key: [u8; 16],
+    input: &[u8],
+    room: &mut [u8],
+) -> Result<(), ChainingFault>
     ensures { Into (chains (length input.now) (length room.old))
         (cbc_enc_aes iv key input.now) room.old result room.new }
 {
@@ -55,7 +60,12 @@ pub fn cbc_enc_aes(iv: [u8; 16], key: [u8; 16], input: &[u8], room: &mut [u8]) -
 
 // CBC_DEC_AES (IV, key, data) into the first bytes of the room. Refused as cbc_enc_aes is.
 // Ruled out: the chain taken from the output block; AES-DEC in place of AES-ENC.
-pub fn cbc_dec_aes(iv: [u8; 16], key: [u8; 16], input: &[u8], room: &mut [u8]) -> Result<(), ChainingFault>
+pub fn cbc_dec_aes(
+    iv: [u8; 16],
+    key: [u8; 16],
+    input: &[u8],
+    room: &mut [u8],
+) -> Result<(), ChainingFault>
     ensures { Into (chains (length input.now) (length room.old))
         (cbc_dec_aes iv key input.now) room.old result room.new }
 {

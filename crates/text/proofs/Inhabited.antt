@@ -1,6 +1,7 @@
 -- The premises of the inverse can be met: each theorem, applied to two calls. `AF` is 65, 70; `af` is 97, 102; `007` is
 -- 48, 48, 55.
-use Rattle.std.specs.Prelude.{Ok}
+use Rattle.std.specs.Prelude.{Result, Ok}
+use Rattle.text.specs.declared.HexFault.{HexFault}
 use mathlib.Core.Path.{◌≡◌, refl}
 use mathlib.Core.List.{List, [], ◌∷◌, ◌++◌, map}
 use Prim.Native.Nat.{ℕ, zero, suc}
@@ -43,7 +44,7 @@ reads : ReadsHex (take 2 text) other (Ok 1) after
 unfolding hex_read is_dash digits bytes_of value
 reads = record { says = refl; holds = refl }
 
-byte_back : (Ok 1 ≡ Ok (length byte)) × (after ≡ byte ++ drop (length byte) other)
+byte_back : (◌≡◌ {A = Result ℕ HexFault} (Ok 1) (Ok (length byte))) × (after ≡ byte ++ drop (length byte) other)
 byte_back = hex_back byte room other 2 text (Ok 1) after is_byte writes (omega arith) (omega arith) reads
 
 -- the same byte, from `AF`

@@ -14,18 +14,18 @@ returns-then-rest-eq0 c =
 pub overflow_add-e : goal.overflow_add-e
 overflow_add-e c =
     let h = body_fits key_limit c.args.rest.now c.args.gathered _ _ _ c.if-rest-eq0.false c.opening.ensures
-    c.in-Open.is c.kind_of-q.ensures c.body_length-e.ensures in
+    c.in-Ok.is c.kind_of-q.ensures c.body_length-e.ensures in
     omega arith
 
 pub slice_bounds-judge_body-end : goal.slice_bounds-judge_body-end
 slice_bounds-judge_body-end c =
     let h = body_fits key_limit c.args.rest.now c.args.gathered _ _ _ c.if-rest-eq0.false c.opening.ensures
-    c.in-Open.is c.kind_of-q.ensures c.body_length-e.ensures in
+    c.in-Ok.is c.kind_of-q.ensures c.body_length-e.ensures in
     omega arith
 
 pub judge_body-requires : goal.judge_body-requires
 judge_body-requires c =
-    let opened = c.in-Open.is in (
+    let opened = c.in-Ok.is in (
       body_long key_limit c.args.rest.now c.args.gathered _ _ _ c.if-rest-eq0.false c.opening.ensures opened
           c.kind_of-q.ensures c.body_length-e.ensures,
       body_few key_limit c.args.rest.now c.args.gathered _ _ _ c.if-rest-eq0.false c.opening.ensures opened
@@ -39,10 +39,10 @@ returns-in-Err c =
     c.in-Err.is) in
     record { value = told.0; finding_value = told.1 }
 
-pub returns-in-Open : goal.returns-in-Open
-returns-in-Open c =
+pub returns-in-Ok : goal.returns-in-Ok
+returns-in-Ok c =
     let told = judge_told key_limit c.args.rest.now c.args.gathered _
     (judged_open key_limit c.args.rest.now c.args.gathered _ _ _ _ c.if-rest-eq0.false c.opening.ensures
-    c.in-Open.is c.kind_of-q.ensures c.body_length-e.ensures
+    c.in-Ok.is c.kind_of-q.ensures c.body_length-e.ensures
     c.judge_body.ensures) in
     record { value = told.0; finding_value = told.1 }
