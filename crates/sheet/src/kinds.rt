@@ -4,7 +4,10 @@ ghost use Rattle.sheet.specs.Limits.{key_limit};
 ghost use Rattle.sheet.specs.Kinds.{kind_of, is_unknown, body_length, in_order};
 ghost use Rattle.sheet.specs.Judgement.{too_many, opened_of};
 
-use crate::{FEATURE_BODY, Gathered, KEY_BODY, KEY_LIMIT, Kind, LOCK_BODY, LOCK_LIMIT, PROFILE_BODY, PROFILE_LIMIT, SIZE_BODY, SheetFault};
+use crate::{
+    FEATURE_BODY, Gathered, KEY_BODY, KEY_LIMIT, Kind, LOCK_BODY, LOCK_LIMIT, PROFILE_BODY,
+    PROFILE_LIMIT, SIZE_BODY, SheetFault,
+};
 
 pub(crate) fn kind_of(b: u8) -> Kind
     ensures { result ≡ kind_of b }

@@ -31,27 +31,26 @@ pub fn read_from(s: &[u8], from: usize, before: Gathered) -> Reading
     let mut gathered = before;
     while at < s.len() {
         let j = judge_at(s, at, gathered);
-        let f = j.finding;
-        let k = j.gathered;
-        match f {
+        let found = match j.finding {
             Err(fault) => {
                 return crate::refuse(fault, at);
             }
-            Ok(Finding::Ended) => {
+            Ok(found) => found,
+        };
+        match found {
+            Finding::Ended => {
                 if at + 1 < s.len() {
                     return crate::refuse(SheetFault::Tail, at + 1);
                 }
-                let terms = k.terms;
-                let keys = k.marks.keys;
                 return Reading {
                     verdict: SheetVerdict::Whole,
-                    terms,
-                    keys,
+                    terms: j.gathered.terms,
+                    keys: j.gathered.marks.keys,
                 };
             }
-            Ok(Finding::Taken(n)) => {
+            Finding::Taken(n) => {
                 at += n;
-                gathered = k;
+                gathered = j.gathered;
             }
         }
     }

@@ -1,4 +1,5 @@
-use mathlib.Core.Path.{refl, sym, ◌∙◌}
+use Rattle.std.specs.Prelude.{Ok}
+use mathlib.Core.Path.{refl, sym, ap, ◌∙◌}
 use native.Mathlib.Omega.{arith}
 use native.Mathlib.Nat.{le_of_lt}
 use Rattle.sheet.specs.Limits.{key_limit}
@@ -20,37 +21,37 @@ pub returns-then-at-s : goal.returns-then-at-s
 returns-then-at-s c = let l = c.loop-at in
     let t = le_of_lt c.loop-at-test.true in
     let j = c.judge_at-j.ensures.0 in
-    let e = c.in-Ok-Ended.is in
+    let e = c.in-Ok.is ∙ ap Ok c.in-Ended.is in
     let h = read_tail key_limit c.args.s.now l.at l.gathered _ t j e c.if-at-s.true in
     read_as _ _ (c.refuse-then-at-s.ensures ∙ sym h ∙ l.invariant)
 
-pub returns-in-Ok-Ended : goal.returns-in-Ok-Ended
-returns-in-Ok-Ended c = let l = c.loop-at in
+pub returns-in-Ended : goal.returns-in-Ended
+returns-in-Ended c = let l = c.loop-at in
     let t = le_of_lt c.loop-at-test.true in
     let j = c.judge_at-j.ensures.0 in
-    let e = c.in-Ok-Ended.is in
+    let e = c.in-Ok.is ∙ ap Ok c.in-Ended.is in
     let h = read_whole key_limit c.args.s.now l.at l.gathered _ t j e c.if-at-s.false in
     read_as _ _ (sym h ∙ l.invariant)
 
-pub overflow_add-at-in-Ok-Taken : goal.overflow_add-at-in-Ok-Taken
-overflow_add-at-in-Ok-Taken c = let l = c.loop-at in
+pub overflow_add-at-in-Taken : goal.overflow_add-at-in-Taken
+overflow_add-at-in-Taken c = let l = c.loop-at in
     let t = le_of_lt c.loop-at-test.true in
     let j = c.judge_at-j.ensures.0 in
-    let h = read_taken key_limit c.args.s.now l.at l.gathered _ t j _ c.in-Ok-Taken.is in
+    let h = read_taken key_limit c.args.s.now l.at l.gathered _ t j _ (c.in-Ok.is ∙ ap Ok c.in-Taken.is) in
     omega arith
 
 pub loop-at-smaller : goal.loop-at-smaller
 loop-at-smaller c = let l = c.loop-at in
     let t = le_of_lt c.loop-at-test.true in
     let j = c.judge_at-j.ensures.0 in
-    let h = read_taken key_limit c.args.s.now l.at l.gathered _ t j _ c.in-Ok-Taken.is in
+    let h = read_taken key_limit c.args.s.now l.at l.gathered _ t j _ (c.in-Ok.is ∙ ap Ok c.in-Taken.is) in
     omega arith
 
 pub loop-at-preserved : goal.loop-at-preserved
 loop-at-preserved c = let l = c.loop-at in
     let t = le_of_lt c.loop-at-test.true in
     let j = c.judge_at-j.ensures.0 in
-    let h = read_taken key_limit c.args.s.now l.at l.gathered _ t j _ c.in-Ok-Taken.is in
+    let h = read_taken key_limit c.args.s.now l.at l.gathered _ t j _ (c.in-Ok.is ∙ ap Ok c.in-Taken.is) in
     sym h.2 ∙ l.invariant
 
 pub returns : goal.returns
