@@ -73,7 +73,7 @@ pub fn xor(a: [u8; 16], b: [u8; 16]) -> [u8; 16]
 pub fn first_block(s: &[u8]) -> [u8; 16]
     ensures { result ≡ first_block s.now }
 {
-    octets::sixteen(s, 0)
+    octets::bytes_at(s, 0)
 }
 
 // The product of b by x (4.2): a shift, and 0x1B added where x^8 comes up.

@@ -5,7 +5,7 @@ ghost use Rattle.frames.specs.Messages.{tam1_of, tam2_of, iam1_of, iam2_of, iam3
 
 use super::{Custom, Iam1, Iam2, Iam3, Mam1, Mam2, Tam1, Tam2};
 use memory::{BlockSize, Offset};
-use octets::{byte, sixteen, ten};
+use octets::{byte, bytes_at};
 
 // BlockSize of its bit.
 fn size_of_bit(bit: u8) -> BlockSize
@@ -34,7 +34,7 @@ fn custom_of(blocksize: BlockSize, x: u8, y: u8, z: u8) -> Custom
 pub fn tam1_of(m: &[u8]) -> Tam1
     ensures { result ≡ tam1_of m.now }
 {
-    let ichallenge = ten(m, 2);
+    let ichallenge = bytes_at(m, 2);
     Tam1 {
         rfu: byte(m, 0) % 32,
         keyid: byte(m, 1),
@@ -50,7 +50,7 @@ pub fn tam2_of(m: &[u8]) -> Tam2
     let last = byte(m, 14);
     let blocksize = size_of_bit(head / 16 % 2);
     let custom = custom_of(blocksize, byte(m, 12), byte(m, 13), last);
-    let ichallenge = ten(m, 2);
+    let ichallenge = bytes_at(m, 2);
     Tam2 {
         rev: head / 8 % 2 == 1,
         rfu: head % 8,
@@ -75,7 +75,7 @@ pub fn iam1_of(m: &[u8]) -> Iam1
 pub fn iam2_of(m: &[u8]) -> Iam2
     ensures { result ≡ iam2_of m.now }
 {
-    let iresponse = sixteen(m, 1);
+    let iresponse = bytes_at(m, 1);
     Iam2 {
         rfu: byte(m, 0) % 8,
         iresponse,
@@ -91,7 +91,7 @@ pub fn iam3_of(m: &[u8]) -> Iam3
     let last = byte(m, 3);
     let blocksize = size_of_bit(head / 4 % 2);
     let custom = custom_of(blocksize, byte(m, 1), byte(m, 2), last);
-    let iresponse = sixteen(m, 4);
+    let iresponse = bytes_at(m, 4);
     Iam3 {
         rfu: head % 4,
         custom,
@@ -104,7 +104,7 @@ pub fn iam3_of(m: &[u8]) -> Iam3
 pub fn mam1_of(m: &[u8]) -> Mam1
     ensures { result ≡ mam1_of m.now }
 {
-    let ichallenge = ten(m, 2);
+    let ichallenge = bytes_at(m, 2);
     Mam1 {
         rfu: byte(m, 0) % 16,
         keyid: byte(m, 1),
@@ -117,7 +117,7 @@ pub fn mam1_of(m: &[u8]) -> Mam1
 pub fn mam2_of(m: &[u8]) -> Mam2
     ensures { result ≡ mam2_of m.now }
 {
-    let iresponse = sixteen(m, 1);
+    let iresponse = bytes_at(m, 1);
     Mam2 {
         rfu: byte(m, 0) % 16, // four bits, by Table 25
         iresponse,

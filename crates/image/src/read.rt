@@ -38,7 +38,7 @@ pub fn session(image: &[u8]) -> Session
     ensures { result ≡ session_in image.now }
 {
     let keyid = image[1];
-    let tchallenge = octets::ten(image, 2);
+    let tchallenge = octets::bytes_at(image, 2);
     let ichallenge = [image[12], image[13], image[14], image[15]];
     let state = state_of(image[0]);
     Session {

@@ -9,7 +9,7 @@ ghost use Rattle.sheet.specs.declared.Kind.TheVariants.{KeyRecord};
 ghost use Rattle.keytable.specs.Named.{no_key, has_key, key_with};
 ghost use Rattle.keytable.specs.Places.{place_of};
 
-use octets::{sixteen, word_at};
+use octets::{bytes_at, word_at};
 use sheet::{KEY_BODY, KEY_RECORD, Key};
 
 /// The record of a KeyID: whether there is one, and the record, all zero where there is none.
@@ -31,8 +31,8 @@ fn key_of(b: &[u8]) -> Key
     requires { length b.now ≡ body_length KeyRecord }
     ensures { result ≡ key_of b.now }
 {
-    let enc = sixteen(b, 4);
-    let mackey = sixteen(b, 20);
+    let enc = bytes_at(b, 4);
+    let mackey = bytes_at(b, 20);
     Key {
         id: b[0],
         mac: b[1] == 1,

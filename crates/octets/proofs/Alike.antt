@@ -1,14 +1,13 @@
 -- Two lists of bytes are the same exactly if they are equal, and how a walk along both decides it.
 use mathlib.Core.Path.{◌≡◌, refl, ap, ap₂, ◌∙◌}
-use mathlib.Core.Bool.{Bool, true, false}
+use mathlib.Core.Bool.{Bool, true, false, ◌&&◌}
 use mathlib.Core.List.{List, [], ◌∷◌}
-use Prim.Native.Nat.{ℕ, suc, ◌+◌, ◌<◌, ◌≤◌}
-use native.Mathlib.Numerals.{add-one}
+use Prim.Native.Nat.{ℕ, suc}
 use native.Mathlib.Omega.{arith}
-use borrow.Author.Tests.{eq-eqb, ne_eqb, eqb-true}
+use borrow.Author.Tests.{eq-eqb, eqb-true}
 use lib.Dec.{eqb}
-use lib.ListN.{length, get_or, drop, drop_of_length-le}
-use lib.Seq.{drop-cons}
+use lib.Pointwise.{pointwise}
+use lib.ListN.{length}
 use Rattle.ground.specs.Choice.{both}
 use Rattle.ground.proofs.Choice.{both_true}
 use Rattle.octets.specs.Alike.{same}
@@ -39,17 +38,15 @@ same_lengths (x ∷ xs) (y ∷ ys) h = ap (both (eqb x y)) (same_lengths xs ys (
     none true = refl
     none false = refl
 
--- a walk along two lists of one length, at place i
-module _ (a b : List ℕ) (i : ℕ) where
-  pub same_on : i < length a → i < length b → get_or a i 0 ≡ get_or b i 0
-      → same (drop i a) (drop i b) ≡ same (drop (i + 1) a) (drop (i + 1) b)
-  unfolding same
-  same_on h k e = rw (add-one, drop-cons a i 0 h, drop-cons b i 0 k, eq-eqb (get_or a i 0) (get_or b i 0) e)
+-- the logic's own `and` is this house's
+pub and_both : (a b : Bool) → (a && b) ≡ both a b
+and_both true b = refl
+and_both false b = refl
 
-  pub same_off : i < length a → i < length b → (get_or a i 0 ≡ get_or b i 0 → ⊥) → same (drop i a) (drop i b) ≡ false
-  unfolding same
-  same_off h k e = rw (drop-cons a i 0 h, drop-cons b i 0 k, ne_eqb (get_or a i 0) (get_or b i 0) e)
-
-  pub same_end : length a ≤ i → length b ≤ i → same (drop i a) (drop i b) ≡ true
-  unfolding same
-  same_end h k = rw (drop_of_length-le a h, drop_of_length-le b k)
+-- `==` on two slices compares them byte by byte: it says the same
+pub same_pointwise : (a b : List ℕ) → pointwise eqb a b ≡ same a b
+unfolding same
+same_pointwise [] [] = refl
+same_pointwise [] (y ∷ ys) = refl
+same_pointwise (x ∷ xs) [] = refl
+same_pointwise (x ∷ xs) (y ∷ ys) = and_both (eqb x y) (pointwise eqb xs ys) ∙ ap (both (eqb x y)) (same_pointwise xs ys)

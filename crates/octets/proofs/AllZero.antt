@@ -1,13 +1,16 @@
 -- A list is zeros exactly if it is that many of them, and how a walk along it decides it.
-use mathlib.Core.Path.{◌≡◌, refl, ap₂}
-use mathlib.Core.Bool.{true, false}
+use mathlib.Core.Path.{◌≡◌, refl, ap, ap₂, ◌∙◌}
+use mathlib.Core.Bool.{true}
 use mathlib.Core.List.{List, [], ◌∷◌}
-use Prim.Native.Nat.{ℕ, zero, suc, ◌≤◌}
-use borrow.Author.Tests.{eq-eqb, ne_eqb, eqb-true}
+use Prim.Native.Nat.{ℕ, zero, suc}
+use borrow.Author.Tests.{eqb-true}
 use lib.Dec.{eqb}
-use lib.ListN.{length, drop, get_or, replicate, drop_of_length-le}
+use lib.ListN.{length, replicate}
+use Rattle.std.specs.List.{list_all}
 use Rattle.ground.proofs.Choice.{both_true}
 use Rattle.octets.specs.Alike.{all_zero}
+use Rattle.ground.specs.Choice.{both}
+use Rattle.octets.proofs.Alike.{and_both}
 
 pub zeros_all : (n : ℕ) → all_zero (replicate n 0) ≡ true
 unfolding all_zero
@@ -21,21 +24,8 @@ zeros_only (x ∷ s) e =
     let h = both_true (eqb x 0) (all_zero s) e in
     ap₂ (λ (y : ℕ) (l : List ℕ). y ∷ l) (eqb-true x 0 h.0) (zeros_only s h.1)
 
--- a byte that is zero, and one that is not
-pub zero_more : (s : List ℕ) (i : ℕ) → get_or s i 0 ≡ 0 → all_zero (drop i s) ≡ all_zero (drop (suc i) s)
+-- the test of each byte says the same
+pub zero_each : (s : List ℕ) → list_all (λ b. eqb b 0) s ≡ all_zero s
 unfolding all_zero
-zero_more [] zero e = refl
-zero_more [] (suc i) e = refl
-zero_more (x ∷ s) zero e = rw (eq-eqb x 0 e)
-zero_more (x ∷ s) (suc i) e = zero_more s i e
-
-pub zero_not : (s : List ℕ) (i : ℕ) → (get_or s i 0 ≡ 0 → ⊥) → false ≡ all_zero (drop i s)
-unfolding all_zero
-zero_not [] zero e = absurd (e refl)
-zero_not [] (suc i) e = absurd (e refl)
-zero_not (x ∷ s) zero e = rw (ne_eqb x 0 e)
-zero_not (x ∷ s) (suc i) e = zero_not s i e
-
-pub zero_end : (s : List ℕ) (i : ℕ) → length s ≤ i → true ≡ all_zero (drop i s)
-unfolding all_zero
-zero_end s i h = rw (drop_of_length-le s {i = i} h)
+zero_each [] = refl
+zero_each (x ∷ s) = and_both (eqb x 0) (list_all (λ b. eqb b 0) s) ∙ ap (both (eqb x 0)) (zero_each s)

@@ -1,5 +1,6 @@
 -- No second answer fits the contract of an exported function, as the checker reads it from the source.
 use mathlib.Core.Path.{refl}
+use Prim.Native.Nat.{ℕ}
 use Rattle.ground.specs.OneAnswer.{OneAnswer, OneLent, one}
 use Rattle.octets.proofs.byte.Reads as byte
 use Rattle.octets.proofs.byte.Kinds as byte-kinds
@@ -7,10 +8,8 @@ use Rattle.octets.proofs.front.Reads as front
 use Rattle.octets.proofs.front.Kinds as front-kinds
 use Rattle.octets.proofs.tail.Reads as tail
 use Rattle.octets.proofs.tail.Kinds as tail-kinds
-use Rattle.octets.proofs.ten.Reads as ten
-use Rattle.octets.proofs.ten.Kinds as ten-kinds
-use Rattle.octets.proofs.sixteen.Reads as sixteen
-use Rattle.octets.proofs.sixteen.Kinds as sixteen-kinds
+use Rattle.octets.proofs.bytes_at.Reads as bytes_at
+use Rattle.octets.proofs.bytes_at.Kinds as bytes-at-kinds
 use Rattle.octets.proofs.word.Reads as word
 use Rattle.octets.proofs.word.Kinds as word-kinds
 use Rattle.octets.proofs.word_at.Reads as word_at
@@ -29,11 +28,9 @@ front_one κs a x y v w p q = (one p q, refl)
 pub tail_one : OneLent 1 tail-kinds.ps 0 tt tail.Post
 tail_one κs a x y v w p q = (one p q, refl)
 
-pub ten_one : OneAnswer 1 ten-kinds.ps ten-kinds.r ten.Post
-ten_one κs a x y v w p q = (one p q, refl)
-
-pub sixteen_one : OneAnswer 1 sixteen-kinds.ps sixteen-kinds.r sixteen.Post
-sixteen_one κs a x y v w p q = (one p q, refl)
+pub bytes_at_one : (N : ℕ) (fits : _)
+    → OneAnswer 2 (bytes-at-kinds.ps N fits) (bytes-at-kinds.r N fits) (bytes_at.Post N fits)
+bytes_at_one N fits κs a x y v w p q = (one p q, refl)
 
 pub word_one : OneAnswer 0 word-kinds.ps word-kinds.r word.Post
 word_one κs a x y v w p q = (one p q, refl)

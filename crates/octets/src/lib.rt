@@ -12,10 +12,7 @@ ghost use Rattle.octets.specs.Alike.{same, all_zero};
 pub fn byte(s: &[u8], i: usize) -> u8
     ensures { result ≡ byte_at s.now i }
 {
-    if i < s.len() {
-        return s[i];
-    }
-    0
+    s.get(i).copied().unwrap_or(0)
 }
 
 /// The first n bytes; all, where there are fewer.
@@ -24,10 +21,7 @@ pub fn byte(s: &[u8], i: usize) -> u8
 pub fn front(s: &[u8], n: usize) -> &[u8]
     ensures { result.now ≡ take n s.now }
 {
-    if s.len() < n {
-        return s;
-    }
-    &s[..n]
+    &s[..n.min(s.len())]
 }
 
 /// The bytes from a place on; past the end nothing.
@@ -36,10 +30,7 @@ pub fn front(s: &[u8], n: usize) -> &[u8]
 pub fn tail(s: &[u8], at: usize) -> &[u8]
     ensures { result.now ≡ drop at s.now }
 {
-    if s.len() < at {
-        return &s[0..0];
-    }
-    &s[at..]
+    &s[at.min(s.len())..]
 }
 
 // As much of src as a room holds into its first bytes. The room that src fills is a case of its own: its length is
@@ -56,24 +47,13 @@ fn fill(room: &mut [u8], src: &[u8])
     room.copy_from_slice(&src[..n]);
 }
 
-/// Ten bytes from a place on, zeros past the end: a challenge has 80 bits.
+/// The bytes of an array from a place on, zeros past the end: a challenge has ten bytes, a block and a key sixteen.
 ///
-/// Ruled out: ten bytes from place 0 on; the bytes in turned order.
-pub fn ten(s: &[u8], at: usize) -> [u8; 10]
-    ensures { result ≡ bytes_from s.now at 10 }
+/// Ruled out: the bytes from place 0 on; zeros alone where there are fewer than the array has.
+pub fn bytes_at<const N: usize>(s: &[u8], at: usize) -> [u8; N]
+    ensures { result ≡ bytes_from s.now at N }
 {
-    let mut t = [0u8; 10];
-    fill(&mut t, tail(s, at));
-    t
-}
-
-/// Sixteen bytes from a place on, zeros past the end: a block and a key have 128 bits.
-///
-/// Ruled out: zeros alone where there are fewer than sixteen; a byte left out.
-pub fn sixteen(s: &[u8], at: usize) -> [u8; 16]
-    ensures { result ≡ bytes_from s.now at 16 }
-{
-    let mut t = [0u8; 16];
+    let mut t = [0u8; N];
     fill(&mut t, tail(s, at));
     t
 }
@@ -84,7 +64,7 @@ pub fn sixteen(s: &[u8], at: usize) -> [u8; 16]
 pub fn word(high: u8, low: u8) -> u16
     ensures { result ≡ high * 256 + low }
 {
-    high as u16 * 256 + low as u16
+    u16::from_be_bytes([high, low])
 }
 
 /// The number that the two bytes at a place are; past the end stands 0.
@@ -105,17 +85,7 @@ pub fn word_at(s: &[u8], i: usize) -> u16
 pub fn same(a: &[u8], b: &[u8]) -> bool
     ensures { result ≡ same a.now b.now }
 {
-    if a.len() != b.len() {
-        return false;
-    }
-    let mut i = 0;
-    while i < a.len() {
-        if a[i] != b[i] {
-            return false;
-        }
-        i += 1;
-    }
-    true
+    a == b
 }
 
 /// Is every byte 0?
@@ -124,12 +94,5 @@ pub fn same(a: &[u8], b: &[u8]) -> bool
 pub fn zeros(s: &[u8]) -> bool
     ensures { result ≡ all_zero s.now }
 {
-    let mut i = 0;
-    while i < s.len() {
-        if s[i] != 0 {
-            return false;
-        }
-        i += 1;
-    }
-    true
+    s.iter().all(|b| *b == 0)
 }

@@ -31,7 +31,7 @@ pub fn iam1(reply: &[u8]) -> Judgement
     if reply.len() != 10 {
         return refused(ReaderFault::ReplyLength);
     }
-    issues(octets::ten(reply, 0))
+    issues(octets::bytes_at(reply, 0))
 }
 
 /// MAM1 (9.6.4): length, then constant and challenge. Ruled out: the challenge out of the clear part alone; another

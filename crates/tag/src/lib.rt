@@ -116,7 +116,7 @@ pub fn step(
             tag,
         };
     }
-    let drawn = octets::ten(draws, 0);
+    let drawn = octets::bytes_at(draws, 0);
     let reacted = turns::take(terms, keys, held, message, drawn, room, identity, user);
     let outcome = reacted.outcome;
     let session = reacted.session;

@@ -4,4 +4,4 @@ use Rattle.field.proofs.first_block.Goals as goal
 
 pub returns : goal.returns
 unfolding first_block bytes_from
-returns c = c.sixteen.ensures
+returns c = c.bytes_at.ensures

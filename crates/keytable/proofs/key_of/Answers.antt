@@ -8,6 +8,6 @@ use Rattle.keytable.proofs.key_of.Goals as goal
 pub returns : goal.returns
 unfolding key_of
 returns c = let b = c.args.b.now in
-    let enc = c.sixteen-enc.ensures ∙ bytes_within b 16 4 (omega arith) in
-    let mackey = c.sixteen-mackey.ensures ∙ bytes_within b 16 20 (omega arith) in
+    let enc = c.bytes_at-enc.ensures ∙ bytes_within b 16 4 (omega arith) in
+    let mackey = c.bytes_at-mackey.ensures ∙ bytes_within b 16 20 (omega arith) in
     rw (c.word_at.ensures, enc, mackey)

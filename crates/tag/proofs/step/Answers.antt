@@ -20,5 +20,5 @@ returns c =
     let draws = lending_draws c.args.tag.terms.sizes _ _ _ _ (sym c.lending-verdict.ensures ∙ c.in_default.is) in
     bench_fine c.args.tag c.args.keys.now c.args.message.now c.args.draws.now c.args.room.now c.args.identity.now
     c.args.user.now _
-    c.lending-verdict.ensures _ _ _ _ _ c.in_default.is (c.ten-drawn.ensures ∙ whole c.args.draws.now 10 draws)
+    c.lending-verdict.ensures _ _ _ _ _ c.in_default.is (c.bytes_at-drawn.ensures ∙ whole c.args.draws.now 10 draws)
     c.take-reacted.ensures

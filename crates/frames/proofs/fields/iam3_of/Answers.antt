@@ -15,5 +15,5 @@ returns c = let head = c.byte-head.ensures in
       custom = (c.custom_of-custom.ensures ∙ (λ j. select_custom (size j)
           (c.byte.ensures j) (c.byte-2.ensures j) (last j))) i;
       protmode = last i % 16;
-      iresponse = c.sixteen-iresponse.ensures i;
+      iresponse = c.bytes_at-iresponse.ensures i;
     }

@@ -5,4 +5,4 @@ use Rattle.frames.proofs.fields.mam2_of.Goals as goal
 
 pub returns : goal.returns
 unfolding mam2_of
-returns c = λ i. record { rfu = c.byte.ensures i % 16; iresponse = c.sixteen-iresponse.ensures i }
+returns c = λ i. record { rfu = c.byte.ensures i % 16; iresponse = c.bytes_at-iresponse.ensures i }

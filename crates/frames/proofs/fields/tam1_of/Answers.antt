@@ -9,5 +9,5 @@ returns c = λ i. record {
   rfu = c.byte.ensures i % 32;
   keyid = c.byte-2.ensures i;
   ichallenge =
-      c.ten-ichallenge.ensures i;
+      c.bytes_at-ichallenge.ensures i;
 }

@@ -16,7 +16,7 @@ returns c = let head = c.byte-head.ensures in
       rev = flag (head i / 8 % 2);
       rfu = head i % 8;
       keyid = c.byte-3.ensures i;
-      ichallenge = c.ten-ichallenge.ensures i;
+      ichallenge = c.bytes_at-ichallenge.ensures i;
       custom = (c.custom_of-custom.ensures
           ∙ (λ j. select_custom (size j) (c.byte.ensures j)
           (c.byte-2.ensures j) (last j))) i;

@@ -5,4 +5,4 @@ use Rattle.image.proofs.read.session.Goals as goal
 
 pub returns : goal.returns
 unfolding session_in bytes_from
-returns c = rw (c.state_of-state.ensures, c.ten-tchallenge.ensures)
+returns c = rw (c.state_of-state.ensures, c.bytes_at-tchallenge.ensures)

@@ -18,4 +18,4 @@ pub returns : goal.returns
 unfolding iam1_finding
 returns c = told (passes _ _ _ _ (eq-eqb _ _ c.if-reply-ne10.false) (ends _ _))
     (c.issues.ensures ∙ ap (λ (l : List ℕ). said_of (issues l))
-    (c.ten.ensures ∙ whole c.args.reply.now 10 c.if-reply-ne10.false))
+    (c.bytes_at.ensures ∙ whole c.args.reply.now 10 c.if-reply-ne10.false))
