@@ -99,7 +99,7 @@ pub fn made_number(made: Result<usize, ReaderFault>) -> u8
 {
     match made {
         Ok(_) => 0,
-        Err(fault) => reader::number(fault),
+        Err(fault) => u8::from(fault),
     }
 }
 
@@ -109,7 +109,7 @@ pub fn number_of(verdict: Result<(), ReaderFault>) -> u8
 {
     match verdict {
         Ok(()) => 0,
-        Err(fault) => reader::number(fault),
+        Err(fault) => u8::from(fault),
     }
 }
 

@@ -4,8 +4,8 @@ use Rattle.ground.specs.OneAnswer.{OneAnswer, one}
 use Rattle.reader.specs.declared.ReaderFault.TheVariants.{ReplyLength, ChallengeWrong, MacWrong, HeaderWrong}
 use Rattle.reader.specs.declared.ReaderFault.TheVariants.{OwnMessage}
 use Rattle.reader.specs.Numbers.{number_of}
-use Rattle.reader.proofs.number.Reads as number
-use Rattle.reader.proofs.number.Kinds as number-kinds
+use Rattle.reader.proofs.U8FromReaderFault.from.Reads as number
+use Rattle.reader.proofs.U8FromReaderFault.from.Kinds as number-kinds
 use Rattle.reader.proofs.own.mode_fits.Reads as mode_fits_lem
 use Rattle.reader.proofs.own.mode_fits.Kinds as mode-fits-kinds
 use Rattle.reader.proofs.own.own_fits.Reads as own-fits

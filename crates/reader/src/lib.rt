@@ -29,14 +29,16 @@ pub enum ReaderFault {
 /// The scope paper's number of a refusal.
 ///
 /// Ruled out: the MAC's number for a wrong challenge; the tag's numbers.
-pub fn number(fault: ReaderFault) -> u8
-    ensures { result ≡ number_of fault }
-{
-    match fault {
-        ReaderFault::ReplyLength => 20,
-        ReaderFault::ChallengeWrong => 21,
-        ReaderFault::MacWrong => 22,
-        ReaderFault::HeaderWrong => 23,
-        ReaderFault::OwnMessage => 24,
+impl From<ReaderFault> for u8 {
+    ghost from_gives = { λ fault n. n ≡ number_of fault };
+
+    fn from(fault: ReaderFault) -> u8 {
+        match fault {
+            ReaderFault::ReplyLength => 20,
+            ReaderFault::ChallengeWrong => 21,
+            ReaderFault::MacWrong => 22,
+            ReaderFault::HeaderWrong => 23,
+            ReaderFault::OwnMessage => 24,
+        }
     }
 }

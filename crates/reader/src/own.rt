@@ -11,85 +11,57 @@ use frames::sizes::{DATA_ROOM, length_fits};
 use frames::{Kind, ProtMode};
 
 // Where the mode has a MAC, is there a key for it?
+#[tactic(auto, unfolding(crate::specs::Own::mode_served))]
 fn mode_served(keys: Keys, mode: ProtMode) -> bool
     ensures { result ≡ mode_served keys mode }
 {
-    if has_mac(mode) {
-        return keys.mac;
-    }
-    true
+    !has_mac(mode) || keys.mac
 }
 
 /// Is the ProtMode one that the reader can judge? Ruled out: ProtMode 4 taken; ProtMode 2 taken without a key for the
 /// MAC.
+#[tactic(auto, unfolding(crate::specs::Own::mode_fits))]
 pub fn mode_fits(keys: Keys, protmode: u8) -> bool
     ensures { result ≡ mode_fits keys protmode }
 {
-    match prot_mode(protmode) {
-        Some(mode) => mode_served(keys, mode),
-        None => false,
-    }
+    prot_mode(protmode).is_some_and(|mode| mode_served(keys, mode))
 }
 
 // RFU and ProtMode of TAM2 and IAM3.
 fn select_fits(keys: Keys, rfu: u8, protmode: u8) -> bool
     ensures { result ≡ both (rfu_fits rfu) (mode_fits keys protmode) }
 {
-    if rfu != 0 {
-        return false;
-    }
-    mode_fits(keys, protmode)
+    rfu == 0 && mode_fits(keys, protmode)
 }
 
 // The fields that a judge asks for.
+#[tactic(auto, unfolding(crate::specs::Own::fields_fit))]
 fn fields_fit(keys: Keys, kind: Kind, m: &[u8]) -> bool
     ensures { result ≡ fields_fit keys kind m.now }
 {
     match kind {
-        Kind::Tam1 => {
-            let f = tam1_of(m);
-            return f.rfu == 0;
-        }
+        Kind::Tam1 => tam1_of(m).rfu == 0,
         Kind::Tam2 => {
             let f = tam2_of(m);
-            return select_fits(keys, f.rfu, f.protmode);
+            select_fits(keys, f.rfu, f.protmode)
         }
-        Kind::Iam1 => {
-            let f = iam1_of(m);
-            return f.rfu == 0;
-        }
-        Kind::Iam2 => {
-            let f = iam2_of(m);
-            return f.rfu == 0;
-        }
+        Kind::Iam1 => iam1_of(m).rfu == 0,
+        Kind::Iam2 => iam2_of(m).rfu == 0,
         Kind::Iam3 => {
             let f = iam3_of(m);
-            return select_fits(keys, f.rfu, f.protmode);
+            select_fits(keys, f.rfu, f.protmode)
         }
-        Kind::Mam1 => {
-            let f = mam1_of(m);
-            return f.rfu == 0;
-        }
-        Kind::Mam2 => {
-            let f = mam2_of(m);
-            return f.rfu == 0;
-        }
-        Kind::Unsupported => {
-            return false;
-        }
+        Kind::Mam1 => mam1_of(m).rfu == 0,
+        Kind::Mam2 => mam2_of(m).rfu == 0,
+        Kind::Unsupported => false,
     }
 }
 
 /// The data room has room, and the message is one of the table. Ruled out: a room of exactly 144 bytes refused; RFU
 /// bits that are not looked at.
+#[tactic(auto, unfolding(crate::specs::Own::own_fits))]
 pub fn own_fits(keys: Keys, kind: Kind, m: &[u8], room: usize) -> bool
     ensures { result ≡ own_fits keys kind m.now room }
 {
-    if room < DATA_ROOM {
-        return false;
-    }
-    if !length_fits(kind, m) {
-        return false;
-    }
-    fields_fit(keys, kind, m)
+    DATA_ROOM <= room && length_fits(kind, m) && fields_fit(keys, kind, m)
 }

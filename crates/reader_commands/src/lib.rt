@@ -87,7 +87,7 @@ fn built(rt: &impl Print, made: Result<usize, ReaderFault>, room: &[u8]) -> io::
             answer::hex(rt, &room[..e])?;
             print::text(rt, b"\n")
         }
-        Err(fault) => answer::refused(rt, reader::number(fault)),
+        Err(fault) => answer::refused(rt, u8::from(fault)),
     }
 }
 
@@ -111,7 +111,7 @@ pub fn judged(rt: &impl Print, k: Keyring, line: &[u8]) -> io::Result<()> {
 fn told(rt: &impl Print, j: Judgement, room: &[u8]) -> io::Result<()> {
     let verdict = j.verdict;
     match verdict {
-        Err(fault) => answer::refused(rt, reader::number(fault)),
+        Err(fault) => answer::refused(rt, u8::from(fault)),
         Ok(()) => accepted(rt, j, room),
     }
 }

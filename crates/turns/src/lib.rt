@@ -118,7 +118,7 @@ pub fn number(next: Next, left: u8) -> u8
         Next::TagEnds => number_waiting(left),
         Next::Done => 0,
         Next::RefusedByTag(fault) => offer::number(Err(fault)),
-        Next::RefusedByReader(fault) => reader::number(fault),
+        Next::RefusedByReader(fault) => u8::from(fault),
     }
 }
 
