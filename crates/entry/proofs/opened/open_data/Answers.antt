@@ -1,19 +1,34 @@
 -- `entry::opened::open_data` meets its contract.
+use Rattle.std.specs.Prelude.{Ok, Err, is_ok}
 use mathlib.Core.Path.{◌≡◌, sym, ap, ap₂, ◌∙◌}
 use mathlib.Core.List.{List}
 use Prim.Native.Nat.{ℕ, ◌+◌, ◌-◌}
 use native.Mathlib.Omega.{arith}
 use lib.ListN.{length, take, drop}
+use Rattle.ground.specs.Choice.{pick}
+use Rattle.modes.specs.declared.ChainingFault.TheVariants.{BlocksOrRoom}
 use Rattle.modes.specs.Cbc.{cbc_dec_aes}
 use Rattle.modes.specs.Room.{over}
 use Rattle.modes.proofs.Rooms.{enough, copied}
-use mathlib.Core.Bool.{true}
+use mathlib.Core.Bool.{Bool, true}
 use Rattle.frames.specs.Blocks.{blocks_length}
 use Rattle.payload.proofs.Lengths.{blocks_whole}
 use Rattle.payload.proofs.Macs.{into_taken}
 use Rattle.entry.specs.Opened.{sent_data, sent_block, opened_in}
 use Rattle.entry.proofs.Sent.{first_sent, data_sent_lem, data_long, opened_chained, opened_plain}
 use Rattle.entry.proofs.opened.open_data.Goals as goal
+
+pub unwrap-requires : goal.unwrap-requires
+unwrap-requires c =
+    let m = c.args.m.now in
+    let n = blocks_length c.args.f.custom.blocksize true c.args.f.custom.blockcount in
+    let part = take (20 + c.blocks_length-end.result - 20) (drop 20 m) in
+    let sent : part ≡ sent_data c.args.f.custom m =
+    data_sent_lem m c.blocks_length-end.result ∙ ap (λ (k : ℕ). take k (drop 20 m)) c.blocks_length-end.ensures in
+    let long : length part ≡ n = ap length sent ∙ data_long c.args.f.custom m c.requires.0 in
+    let fits = enough (length part) (length c.args.out.now)
+    (omega (arith, blocks_whole c.args.f.custom.blocksize true c.args.f.custom.blockcount)) (omega arith) in
+    ap is_ok c.cbc_dec_aes.ensures.says ∙ ap (λ (x : Bool). is_ok {T = Unit} (pick x (Ok tt) (Err BlocksOrRoom))) fits
 
 pub returns-then-encrypts : goal.returns-then-encrypts
 returns-then-encrypts c =
