@@ -17,7 +17,7 @@ use Rattle.sheet.specs.Setups.{nothing_gathered}
 use Rattle.sheet.specs.Judgement.{too_many, shut_if, opened_of, taken_if, record_of, only_if, judged_of}
 use Rattle.sheet.specs.Judgement.{with_features, with_sizes, with_key, with_profile, with_lock}
 use Rattle.sheet.specs.Judgement.{finding_number, judged_number}
-use Rattle.sheet.specs.Sheet.{read_of, verdict_number, verdict_place, read_number, read_place, RefusedBy}
+use Rattle.sheet.specs.Sheet.{read_of, verdict_of, verdict_number, verdict_place, read_number, read_place, RefusedBy}
 use Rattle.sheet.specs.Refusals.{InTurn, kinds_taken, FirstFault, there, behind}
 use Rattle.sheet.specs.PaperNumbers.{keeps_rule, paper_number, PaperSays, line, bytes_follow}
 use Rattle.sheet.specs.declared.Kind.{Kind}
@@ -25,8 +25,8 @@ use Rattle.sheet.specs.declared.Kind.TheVariants.{FeatureRecord, SizeRecord, Key
 use Rattle.sheet.specs.declared.Kind.TheVariants.{LockRecord, EndRecord, NoRecord}
 use Rattle.sheet.specs.declared.SheetFault.{SheetFault}
 use Rattle.sheet.specs.declared.SheetFault.TheVariants.{Cut, Unknown, Order, Value, Many, Tail}
-use Rattle.sheet.specs.declared.SheetVerdict.{SheetVerdict}
-use Rattle.sheet.specs.declared.SheetVerdict.TheVariants.{Whole, Refused}
+use Rattle.sheet.specs.declared.SheetRefusal.{SheetRefusal}
+use Rattle.sheet.specs.declared.Reading.{Reading}
 use Rattle.sheet.specs.declared.Gathered.{Gathered}
 use Rattle.sheet.specs.declared.Judged.{Judged}
 use Rattle.sheet.proofs.Verdicts.{refused_told}
@@ -113,11 +113,11 @@ module _ (limit : ℕ) (s : List ℕ) where
   listed_fault (line {p = p} {k = k} h l) = on_list p k h (judged_of limit (drop p s) k).finding refl l
   listed_fault (bytes_follow h e l) = (Tail, behind h e l, refl)
 
-  by_verdict : (n p : ℕ) (v : SheetVerdict) → (read_of limit s).verdict ≡ v → 0 < n → verdict_number v ≡ n
-      → verdict_place v ≡ p → PaperSays limit s n p
-  by_verdict n p Whole e i en ep = absurd (omega arith)
-  by_verdict n p (Refused f q) e i en ep =
-      subst₂ (PaperSays limit s) en ep (fault_listed ((sheet_refused limit s f q).0 e))
+  by_verdict : (n p : ℕ) (r : Result Reading SheetRefusal) → read_of limit s ≡ r → 0 < n
+      → verdict_number (verdict_of r) ≡ n → verdict_place (verdict_of r) ≡ p → PaperSays limit s n p
+  by_verdict n p (Ok r) e i en ep = absurd (omega arith)
+  by_verdict n p (Err x) e i en ep =
+      subst₂ (PaperSays limit s) en ep (fault_listed ((sheet_refused limit s x.fault x.at).0 e))
 
   listed_read : {n p : ℕ} → PaperSays limit s n p → RefusedBy limit s n p
   listed_read {p = p} h =
@@ -127,6 +127,6 @@ module _ (limit : ℕ) (s : List ℕ) where
   pub paper_exactly : (n p : ℕ) → 0 < n → RefusedBy limit s n p ↔ PaperSays limit s n p
   unfolding read_number read_place
   paper_exactly n p i = (
-    (λ e. by_verdict n p (read_of limit s).verdict refl i e.0 e.1),
+    (λ e. by_verdict n p (read_of limit s) refl i e.0 e.1),
     listed_read,
   )

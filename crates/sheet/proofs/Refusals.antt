@@ -4,7 +4,7 @@
 use Rattle.std.specs.Prelude.{Result, Ok, Err}
 use Rattle.sheet.specs.declared.Finding.TheVariants.{Taken, Ended}
 use Rattle.sheet.specs.declared.Finding.{Finding}
-use mathlib.Core.Path.{◌≡◌, refl, sym, ap, subst, subst₂, ◌∙◌}
+use mathlib.Core.Path.{◌≡◌, refl, sym, ap, subst, ◌∙◌}
 use mathlib.Core.Bool.{Bool, true, false}
 use mathlib.Core.Logic.{◌↔◌}
 use mathlib.Core.List.{List}
@@ -16,19 +16,15 @@ use lib.Dec.{ltb}
 use borrow.Author.Tests.{ltb-true, ltb-false}
 use Rattle.sheet.specs.Setups.{nothing_gathered}
 use Rattle.sheet.specs.Judgement.{judged_of}
-use Rattle.sheet.specs.Sheet.{refused_at, ends, walk, place_in, read_from, read_of, Accepted}
+use Rattle.sheet.specs.Sheet.{refused_at, ends, verdict_of, walk, place_in, read_from, read_of, Accepted}
 use Rattle.sheet.specs.Refusals.{InTurn, begins, goes_on, FirstFault, there, behind, Complete}
 use Rattle.sheet.specs.declared.SheetFault.{SheetFault}
 use Rattle.sheet.specs.declared.SheetFault.TheVariants.{Cut}
-use Rattle.sheet.specs.declared.SheetVerdict.{SheetVerdict}
-use Rattle.sheet.specs.declared.SheetVerdict.TheVariants.{Whole, Refused}
+use Rattle.sheet.specs.declared.SheetRefusal.{SheetRefusal}
 use Rattle.sheet.specs.declared.Gathered.{Gathered}
 use Rattle.sheet.specs.declared.Reading.{Reading}
 use Rattle.sheet.proofs.Walks.{nothing_there, from_start, read_faulty, read_tail, read_whole, read_taken}
 use Rattle.sheet.proofs.Ends.{ended_same}
-
-abbrev verdict_of : Reading → SheetVerdict
-verdict_of r = r.verdict
 
 -- From a place in the sheet on.
 module _ (limit : ℕ) (s : List ℕ) (from : ℕ) (before : Gathered) (start : from ≤ length s) where
@@ -67,7 +63,7 @@ module _ (limit : ℕ) (s : List ℕ) (from : ℕ) (before : Gathered) (start : 
   at_the_length (behind h e l) q = absurd (omega arith)
 
   -- the two ways in which a reading ends
-  data Ending : Reading → Type 0 where
+  data Ending : Result Reading SheetRefusal → Type 0 where
     refuses : {f : SheetFault} {p : ℕ} → FirstFault limit s from before f p → Ending (refused_at f p)
     completes : {k : Gathered} → Complete limit s from before k → Ending (ends k)
 
@@ -108,30 +104,29 @@ module _ (limit : ℕ) (s : List ℕ) (from : ℕ) (before : Gathered) (start : 
   every_reading : Ends
   every_reading = go (suc (length s)) from before (omega arith) begins
 
-  to_fault : {r : Reading} (f : SheetFault) (p : ℕ) → Ending r → r.verdict ≡ Refused f p
+  to_fault : {r : Result Reading SheetRefusal} (f : SheetFault) (p : ℕ) → Ending r → r ≡ refused_at f p
       → FirstFault limit s from before f p
   to_fault f p (refuses {f = g} {p = q} h) e =
-      let ef : g ≡ f = cc in
-      let ep : q ≡ p = cc in
-      subst₂ (FirstFault limit s from before) ef ep h
+      let x : ◌≡◌ {A = SheetRefusal} (record { fault = g; at = q }) (record { fault = f; at = p }) = cc in
+      subst (λ (y : SheetRefusal). FirstFault limit s from before y.fault y.at) x h
   to_fault f p (completes c) e = let z : ◌≡◌ {A = ℕ} 0 1 = cc in absurd (omega arith)
 
-  to_whole : {r : Reading} → Ending r → r.verdict ≡ Whole → (k : Gathered) × Complete limit s from before k
+  to_whole : {r : Result Reading SheetRefusal} → Ending r → verdict_of r ≡ Ok tt → (k : Gathered) × Complete limit s from before k
   to_whole (refuses h) e = let z : ◌≡◌ {A = ℕ} 0 1 = cc in absurd (omega arith)
   to_whole (completes {k = k} c) e = (k, c)
 
   pub refused_exactly : (f : SheetFault) (p : ℕ)
-      → ((read_from limit s from before).verdict ≡ Refused f p) ↔ FirstFault limit s from before f p
-  refused_exactly f p = (to_fault f p every_reading, (λ h. ap verdict_of (refused_there h).1))
+      → (read_from limit s from before ≡ refused_at f p) ↔ FirstFault limit s from before f p
+  refused_exactly f p = (to_fault f p every_reading, (λ h. (refused_there h).1))
 
-  pub whole_exactly : ((read_from limit s from before).verdict ≡ Whole)
+  pub whole_exactly : (verdict_of (read_from limit s from before) ≡ Ok tt)
       ↔ ((k : Gathered) × Complete limit s from before k)
   whole_exactly = (to_whole every_reading, (λ c. ap verdict_of (completed c.1)))
 
 -- A whole sheet.
 module _ (limit : ℕ) (s : List ℕ) where
   pub sheet_refused : (f : SheetFault) (p : ℕ)
-      → ((read_of limit s).verdict ≡ Refused f p) ↔ FirstFault limit s 0 nothing_gathered f p
+      → (read_of limit s ≡ refused_at f p) ↔ FirstFault limit s 0 nothing_gathered f p
   sheet_refused f p = rw (from_start limit s) at (refused_exactly limit s 0 nothing_gathered (omega arith) f p)
 
   -- all of the reading, not its verdict alone
@@ -147,11 +142,11 @@ module _ (limit : ℕ) (s : List ℕ) where
   sheet_says c = sym (from_start limit s) ∙ completed limit s 0 nothing_gathered (omega arith) c
 
   -- the place of a refusal is in the sheet, or just behind its last byte
-  pub place_inside : (f : SheetFault) (p : ℕ) → (read_of limit s).verdict ≡ Refused f p → p ≤ length s
+  pub place_inside : (f : SheetFault) (p : ℕ) → read_of limit s ≡ refused_at f p → p ≤ length s
   place_inside f p e = (refused_there limit s 0 nothing_gathered (omega arith) ((sheet_refused f p).0 e)).0
 
   -- just behind it only where a kind byte is missing, and by 30
-  pub length_is_cut : (f : SheetFault) → (read_of limit s).verdict ≡ Refused f (length s) → f ≡ Cut
+  pub length_is_cut : (f : SheetFault) → read_of limit s ≡ refused_at f (length s) → f ≡ Cut
   length_is_cut f e = at_the_length limit s 0 nothing_gathered (omega arith) ((sheet_refused f (length s)).0 e) refl
 
 -- The same from any place on, and from the sheet's end where the place lies behind it.
@@ -159,11 +154,11 @@ module _ (limit : ℕ) (s : List ℕ) (at : ℕ) (k : Gathered) (f : SheetFault)
   placed_again : read_from limit s (place_in s at) k ≡ read_from limit s at k
   placed_again = ap (λ (q : ℕ). walk limit (drop q s) 0 q k) (min-eq_left (min-le_right at (length s)))
 
-  pub from_refused : ((read_from limit s at k).verdict ≡ Refused f p) ↔ FirstFault limit s (place_in s at) k f p
+  pub from_refused : (read_from limit s at k ≡ refused_at f p) ↔ FirstFault limit s (place_in s at) k f p
   from_refused =
       let h = refused_exactly limit s (place_in s at) k (min-le_right at (length s)) f p in
-      let e = ap verdict_of placed_again in
+      let e = placed_again in
       ((λ i. h.0 (e ∙ i)), (λ i. sym e ∙ h.1 i))
 
-  pub from_inside : (read_from limit s at k).verdict ≡ Refused f p → p ≤ length s
+  pub from_inside : read_from limit s at k ≡ refused_at f p → p ≤ length s
   from_inside e = (refused_there limit s (place_in s at) k (min-le_right at (length s)) (from_refused.0 e)).0

@@ -1,8 +1,8 @@
 -- No second answer fits the contract of an exported function, as the checker reads it from the source.
 use mathlib.Core.Path.{refl}
 use Rattle.ground.specs.OneAnswer.{OneAnswer, OneLent, one}
-use Rattle.sheet.proofs.number.Reads as number
-use Rattle.sheet.proofs.number.Kinds as number-kinds
+use Rattle.sheet.proofs.U8FromSheetFault.from.Reads as number
+use Rattle.sheet.proofs.U8FromSheetFault.from.Kinds as number-kinds
 use Rattle.sheet.proofs.start.Reads as start
 use Rattle.sheet.proofs.start.Kinds as start-kinds
 use Rattle.sheet.proofs.judge.Reads as judge

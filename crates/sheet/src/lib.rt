@@ -13,7 +13,7 @@ ghost use Rattle.sheet.specs.Kinds.{number_of};
 ghost use Rattle.sheet.specs.KeyTable.{key_table};
 ghost use Rattle.sheet.specs.Setups.{nothing_gathered};
 ghost use Rattle.sheet.specs.Judgement.{judged_of, finding_number, judged_number};
-ghost use Rattle.sheet.specs.Sheet.{refused_at, read_of, verdict_number, verdict_place, read_number, read_place};
+ghost use Rattle.sheet.specs.Sheet.{read_of, verdict_of, verdict_number, verdict_place, read_number, read_place};
 
 use memory::{Lock, Profile};
 
@@ -165,17 +165,16 @@ pub struct Judged {
     pub gathered: Gathered,
 }
 
-// A whole sheet, or a refusal with its place.
-#[derive(Clone, Copy)]
-pub enum SheetVerdict {
-    Whole,
-    Refused(SheetFault, usize),
+// Why a sheet is refused, and at which of its places.
+#[derive(Clone, Copy, Debug, PartialEq, Eq)]
+pub struct SheetRefusal {
+    pub fault: SheetFault,
+    pub at: usize,
 }
 
-// The terms of a sheet and how many key records it has. A refused sheet has the empty terms, and none.
+// The terms of a sheet and how many key records it has.
 #[derive(Clone, Copy)]
 pub struct Reading {
-    pub verdict: SheetVerdict,
     pub terms: Terms,
     pub keys: usize,
 }
@@ -183,16 +182,18 @@ pub struct Reading {
 /// The paper's number of a refusal.
 ///
 /// Ruled out: one number for all refusals; 33 and 34 exchanged.
-pub fn number(f: SheetFault) -> u8
-    ensures { result ≡ number_of f }
-{
-    match f {
-        SheetFault::Cut => 30,
-        SheetFault::Unknown => 31,
-        SheetFault::Order => 32,
-        SheetFault::Value => 33,
-        SheetFault::Many => 34,
-        SheetFault::Tail => 35,
+impl From<SheetFault> for u8 {
+    ghost from_gives = { λ f n. n ≡ number_of f };
+
+    fn from(f: SheetFault) -> u8 {
+        match f {
+            SheetFault::Cut => 30,
+            SheetFault::Unknown => 31,
+            SheetFault::Order => 32,
+            SheetFault::Value => 33,
+            SheetFault::Many => 34,
+            SheetFault::Tail => 35,
+        }
     }
 }
 
@@ -246,24 +247,13 @@ pub fn judge(rest: &[u8], gathered: Gathered) -> Judged
     }
 }
 
-fn refuse(f: SheetFault, at: usize) -> Reading
-    ensures { result ≡ refused_at f at }
-{
-    let terms = blank::empty();
-    Reading {
-        verdict: SheetVerdict::Refused(f, at),
-        terms,
-        keys: 0,
-    }
-}
-
 /// A whole sheet, record by record: its terms and how many key records it has, or the first refusal with its place.
 ///
 /// Ruled out: a reader that takes every sheet; one that keeps part of a sheet it refuses.
-pub fn read(s: &[u8]) -> Reading
+pub fn read(s: &[u8]) -> Result<Reading, SheetRefusal>
     ensures value { result ≡ read_of key_limit s.now }
-    ensures verdict_value { (verdict_number result.verdict ≡ read_number key_limit s.now)
-        × (verdict_place result.verdict ≡ read_place key_limit s.now) }
+    ensures verdict_value { (verdict_number (verdict_of result) ≡ read_number key_limit s.now)
+        × (verdict_place (verdict_of result) ≡ read_place key_limit s.now) }
 {
     places::read_from(s, 0, start())
 }

@@ -4,7 +4,7 @@ ghost use Rattle.sheet.specs.Limits.{key_limit};
 ghost use Rattle.sheet.specs.Judgement.{judged_of, JudgedAs};
 ghost use Rattle.sheet.specs.Sheet.{read_from, ReadAs};
 
-use crate::{Finding, Gathered, Judged, Reading, SheetFault, SheetVerdict};
+use crate::{Finding, Gathered, Judged, Reading, SheetFault, SheetRefusal};
 
 /// The record at a place, judged against what was gathered of those before it. Behind the sheet's end there is none: it
 /// is cut short.
@@ -24,7 +24,7 @@ pub fn judge_at(s: &[u8], at: usize, gathered: Gathered) -> Judged
 /// with its place. From a place behind the end that is the sheet's length.
 ///
 /// Ruled out: a reader that counts its places from where it starts; one that refuses at a place past the sheet.
-pub fn read_from(s: &[u8], from: usize, before: Gathered) -> Reading
+pub fn read_from(s: &[u8], from: usize, before: Gathered) -> Result<Reading, SheetRefusal>
     ensures { ReadAs result (read_from key_limit s.now from before) }
 {
     let mut at = from;
@@ -32,21 +32,21 @@ pub fn read_from(s: &[u8], from: usize, before: Gathered) -> Reading
     while at < s.len() {
         let j = judge_at(s, at, gathered);
         let found = match j.finding {
-            Err(fault) => {
-                return crate::refuse(fault, at);
-            }
+            Err(fault) => return Err(SheetRefusal { fault, at }),
             Ok(found) => found,
         };
         match found {
             Finding::Ended => {
                 if at + 1 < s.len() {
-                    return crate::refuse(SheetFault::Tail, at + 1);
+                    return Err(SheetRefusal {
+                        fault: SheetFault::Tail,
+                        at: at + 1,
+                    });
                 }
-                return Reading {
-                    verdict: SheetVerdict::Whole,
+                return Ok(Reading {
                     terms: j.gathered.terms,
                     keys: j.gathered.marks.keys,
-                };
+                });
             }
             Finding::Taken(n) => {
                 at += n;
@@ -54,5 +54,8 @@ pub fn read_from(s: &[u8], from: usize, before: Gathered) -> Reading
             }
         }
     }
-    crate::refuse(SheetFault::Cut, s.len())
+    Err(SheetRefusal {
+        fault: SheetFault::Cut,
+        at: s.len(),
+    })
 }

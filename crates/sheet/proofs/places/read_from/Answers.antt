@@ -15,7 +15,7 @@ returns-in-Err c = let l = c.loop-at in
     let t = le_of_lt c.loop-at-test.true in
     let j = c.judge_at-j.ensures.0 in
     let h = read_faulty key_limit c.args.s.now l.at l.gathered _ t j _ c.in-Err.is in
-    read_as _ _ (c.refuse.ensures ∙ sym h ∙ l.invariant)
+    read_as _ _ (sym h ∙ l.invariant)
 
 pub returns-then-at-s : goal.returns-then-at-s
 returns-then-at-s c = let l = c.loop-at in
@@ -23,7 +23,7 @@ returns-then-at-s c = let l = c.loop-at in
     let j = c.judge_at-j.ensures.0 in
     let e = c.in-Ok.is ∙ ap Ok c.in-Ended.is in
     let h = read_tail key_limit c.args.s.now l.at l.gathered _ t j e c.if-at-s.true in
-    read_as _ _ (c.refuse-then-at-s.ensures ∙ sym h ∙ l.invariant)
+    read_as _ _ (sym h ∙ l.invariant)
 
 pub returns-in-Ended : goal.returns-in-Ended
 returns-in-Ended c = let l = c.loop-at in
@@ -58,4 +58,4 @@ pub returns : goal.returns
 returns c =
     let l = c.loop-at in
     let h = read_cut key_limit c.args.s.now l.at l.gathered c.loop-at-test.false in
-    read_as _ _ (c.refuse-2.ensures ∙ sym h ∙ l.invariant)
+    read_as _ _ (sym h ∙ l.invariant)
