@@ -4,7 +4,7 @@ ghost use Rattle.std.specs.Prelude.{◌≡◌};
 ghost use Rattle.sheet.specs.Limits.{key_limit};
 ghost use Rattle.sheet.specs.Sheet.{read_from, read_of, ReadAs};
 
-use sheet::{Gathered, Reading, places};
+use sheet::{Gathered, Reading, SheetRefusal, places};
 
 /// A lent sheet, and a place in it.
 #[derive(Clone, Copy)]
@@ -26,7 +26,7 @@ pub fn open<'a>(sheet: &'a [u8]) -> Cursor<'a>
 /// that is the sheet's length.
 ///
 /// Ruled out: a reader that starts again at the sheet's first byte; a refusal at a place past the sheet.
-pub fn rest<'a>(cursor: Cursor<'a>, gathered: Gathered) -> Reading
+pub fn rest<'a>(cursor: Cursor<'a>, gathered: Gathered) -> Result<Reading, SheetRefusal>
     ensures { ReadAs result (read_from key_limit cursor.entry.sheet.now cursor.entry.at gathered) }
 {
     places::read_from(cursor.sheet, cursor.at, gathered)
@@ -35,7 +35,7 @@ pub fn rest<'a>(cursor: Cursor<'a>, gathered: Gathered) -> Reading
 /// A whole sheet through a cursor: what it says, or the first refusal with its place.
 ///
 /// Ruled out: a reader that takes every sheet; one that keeps part of a sheet it refuses.
-pub fn read(sheet: &[u8]) -> Reading
+pub fn read(sheet: &[u8]) -> Result<Reading, SheetRefusal>
     ensures { ReadAs result (read_of key_limit sheet.now) }
 {
     rest(open(sheet), sheet::start())

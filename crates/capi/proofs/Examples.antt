@@ -6,10 +6,9 @@ use Prim.Native.Nat.{ℕ, ◌<◌}
 use native.Mathlib.Omega.{arith}
 use Rattle.ground.specs.Bytes.{Bytes}
 use Rattle.ground.proofs.Bytes.{bytes_none, bytes_cons}
-use Rattle.sheet.specs.declared.Reading.{Reading}
 use Rattle.sheet.specs.Limits.{key_limit}
 use Rattle.sheet.specs.Setups.{Setup, empty_setup}
-use Rattle.sheet.specs.Sheet.{Accepted}
+use Rattle.sheet.specs.Sheet.{Accepted, verdict_of}
 use Rattle.sheet_laws.proofs.Examples.{smallest, example_11, said_11}
 use Rattle.entry.specs.Sessions.{cleared}
 use Rattle.tag.specs.States.{powered_up}
@@ -21,7 +20,7 @@ use Rattle.capi.specs.Run.{Told, CallsAll, told_of}
 use Rattle.capi.proofs.Runs.{sheet_tag, sheet_run}
 
 smallest_accepted : Accepted key_limit smallest
-smallest_accepted = ap (λ (r : Reading). r.verdict) (example_11 key_limit)
+smallest_accepted = ap verdict_of (example_11 key_limit)
 
 abbrev EachSmall : List ℕ → Type 0
 EachSmall [] = Unit

@@ -1,15 +1,15 @@
 -- What the functions over a kept tag leave, by what they found.
+use Rattle.sheet.specs.declared.SheetRefusal.{SheetRefusal}
+use Rattle.std.specs.Prelude.{Result, Ok, Err}
 use mathlib.Core.Path.{◌≡◌, sym, ap, ◌∙◌, subst}
 use mathlib.Core.Bool.{true, false}
 use mathlib.Core.List.{List}
 use Prim.Native.Nat.{ℕ, ◌*◌}
 use Rattle.sheet.specs.declared.SheetFault.{SheetFault as SheetFault}
 use Rattle.sheet.specs.declared.Sizes.{Sizes}
-use Rattle.sheet.specs.declared.SheetVerdict.{SheetVerdict}
-use Rattle.sheet.specs.declared.SheetVerdict.TheVariants.{Whole, Refused}
 use Rattle.sheet.specs.Kinds.{number_of}
 use Rattle.sheet.specs.Limits.{key_limit}
-use Rattle.sheet.specs.Sheet.{read_of, read_number, read_place}
+use Rattle.sheet.specs.Sheet.{read_of, read_number, read_place, verdict_of}
 use Rattle.offer.specs.Outcomes.{number_given, reply_length}
 use Rattle.entry.specs.declared.Session.{Session}
 use Rattle.entry.specs.Sessions.{cleared}
@@ -24,17 +24,18 @@ use Rattle.capi.specs.Kept.{SetUp, PoweredUp, AreasOf, purpose_given, answer_in,
 
 -- ---- a sheet
 
-module _ (sheet image after : List ℕ) (q : SheetVerdict) (h : Laid sheet image q after) where
-  pub set_up_refused : (f : SheetFault) (at r : ℕ) → q ≡ Refused f at → r ≡ number_of f → SetUp sheet image r at after
+module _ (sheet image after : List ℕ) (q : Result Unit SheetRefusal) (h : Laid sheet image q after) where
+  pub set_up_refused : (f : SheetFault) (at r : ℕ) → q ≡ Err (record { fault = f; at = at }) → r ≡ number_of f
+      → SetUp sheet image r at after
   unfolding read_number read_place
   set_up_refused f at r e n =
-      let v : (read_of key_limit sheet).verdict ≡ Refused f at = sym h.verdict ∙ e in
+      let v : verdict_of (read_of key_limit sheet) ≡ Err (record { fault = f; at = at }) = sym h.verdict ∙ e in
       record { number = simp v n; place = simp v; holds = h.holds }
 
-  pub set_up_whole : q ≡ Whole → SetUp sheet image 0 0 after
+  pub set_up_whole : q ≡ Ok tt → SetUp sheet image 0 0 after
   unfolding read_number read_place
   set_up_whole e =
-      let v : (read_of key_limit sheet).verdict ≡ Whole = sym h.verdict ∙ e in
+      let v : verdict_of (read_of key_limit sheet) ≡ Ok tt = sym h.verdict ∙ e in
       record { number = simp v; place = simp v; holds = h.holds }
 
 -- ---- an image that is no tag's

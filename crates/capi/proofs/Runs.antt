@@ -10,7 +10,7 @@ use Rattle.modes.specs.Room.{over}
 use Rattle.sheet.specs.declared.Terms.{Terms}
 use Rattle.sheet.specs.KeyTable.{key_table}
 use Rattle.sheet.specs.Limits.{key_limit}
-use Rattle.sheet.specs.Sheet.{read_of, said_of, Accepted}
+use Rattle.sheet.specs.Sheet.{read_of, said_of, Accepted, terms_read, keys_read}
 use Rattle.offer.specs.Outcomes.{number_given, reply_length}
 use Rattle.entry.specs.declared.Session.{Session}
 use Rattle.entry.specs.Sessions.{cleared}
@@ -57,10 +57,10 @@ wake_is_power_up κs a r e = refl
 
 module _ (sheet : List ℕ) (y : Bytes sheet) (e : Accepted key_limit sheet) where
   abbrev terms : Terms
-  terms = (read_of key_limit sheet).terms
+  terms = terms_read (read_of key_limit sheet)
 
   abbrev table : List ℕ
-  table = key_table sheet (read_of key_limit sheet).keys
+  table = key_table sheet (keys_read (read_of key_limit sheet))
 
   abbrev pub tag_of : Session → KeyedTag
   tag_of s = holding (said_of key_limit sheet) s

@@ -6,7 +6,7 @@ use Rattle.ground.specs.Choice.{pick}
 use Rattle.memory.specs.Areas.{word_bytes}
 use Rattle.modes.specs.Room.{over}
 use Rattle.sheet.specs.Limits.{key_limit}
-use Rattle.sheet.specs.Sheet.{read_of, read_number, read_place}
+use Rattle.sheet.specs.Sheet.{read_of, read_number, read_place, verdict_of}
 use Rattle.offer.specs.declared.TagFault.TheVariants.{BenchFault}
 use Rattle.offer.specs.Outcomes.{number_given, reply_length}
 use Rattle.entry.specs.Sessions.{cleared}
@@ -18,7 +18,7 @@ use Rattle.image.specs.Kept.{accepts, sheet_image}
 pub record SetUp (sheet image : List ℕ) (r at : ℕ) (after : List ℕ) : Type 0 where
   pub number : r ≡ read_number key_limit sheet
   pub place : at ≡ read_place key_limit sheet
-  pub holds : after ≡ pick (accepts (read_of key_limit sheet).verdict) (sheet_image cleared sheet) image
+  pub holds : after ≡ pick (accepts (verdict_of (read_of key_limit sheet))) (sheet_image cleared sheet) image
 
 -- 7 for an image that is no tag's.
 abbrev pub if_tag : List ℕ → ℕ

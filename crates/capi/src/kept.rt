@@ -8,7 +8,7 @@ ghost use Rattle.capi.specs.Kept.{SetUp, PoweredUp, state_said, AreasOf, purpose
 use entry::cleared;
 use image::IMAGE;
 use offer::{Answer, Outcome};
-use sheet::SheetVerdict;
+use sheet::SheetRefusal;
 use tag::Tag;
 
 /// A sheet becomes a tag, powered up: 0, and the place is 0. A refused sheet: 30 to 35 with the place of its record,
@@ -18,10 +18,9 @@ use tag::Tag;
 pub fn roualint_sheet(sheet: &[u8], tag: &mut [u8; IMAGE], place: &mut usize) -> u8
     ensures { SetUp sheet.now tag.old result place.new tag.new }
 {
-    let verdict = image::lay(sheet, tag);
-    if let SheetVerdict::Refused(fault, at) = verdict {
+    if let Err(SheetRefusal { fault, at }) = image::lay(sheet, tag) {
         *place = at;
-        return sheet::number(fault);
+        return u8::from(fault);
     }
     *place = 0;
     0

@@ -1,4 +1,5 @@
 -- Demand 1 of the functions for programs in C, proved: by the cases of each answer.
+use Rattle.sheet.specs.declared.SheetRefusal.{SheetRefusal}
 use Rattle.std.specs.Prelude.{Result, Ok, Err}
 use Rattle.offer.specs.Outcomes.{Outcome}
 use Rattle.offer.specs.declared.Answer.TheVariants.{Replied, Entered}
@@ -14,10 +15,8 @@ use lib.ListN.{length}
 use Rattle.ground.specs.Bytes.{bit_of}
 use Rattle.ground.specs.Choice.{pick}
 use Rattle.modes.specs.Room.{over}
-use Rattle.sheet.specs.declared.SheetVerdict.{SheetVerdict}
-use Rattle.sheet.specs.declared.SheetVerdict.TheVariants.{Whole, Refused as NoSheet}
 use Rattle.sheet.specs.Limits.{key_limit}
-use Rattle.sheet.specs.Sheet.{read_of, read_number, verdict_number}
+use Rattle.sheet.specs.Sheet.{read_of, read_number, verdict_number, verdict_of}
 use Rattle.offer.specs.declared.TagFault.{TagFault}
 use Rattle.offer.specs.declared.TagFault.TheVariants.{
   OtherError,
@@ -104,12 +103,12 @@ chain_answers false out room r after h = inr (is_among (8 ∷ []) r 8 h.number r
 
 pub sheet_answers : SheetAnswers
 unfolding read_number
-sheet_answers sheet image r at after h = by (read_of key_limit sheet).verdict h.number h.holds
+sheet_answers sheet image r at after h = by (verdict_of (read_of key_limit sheet)) h.number h.holds
   where
-    by : (v : SheetVerdict) → r ≡ verdict_number v → after ≡ pick (accepts v) (sheet_image cleared sheet) image
-        → Answers sheet_numbers r (after ≡ image)
-    by Whole n e = inl n
-    by (NoSheet f p) n e = inr (is_among sheet_numbers r _ n (sheet_number f), e)
+    by : (v : Result Unit SheetRefusal) → r ≡ verdict_number v
+        → after ≡ pick (accepts v) (sheet_image cleared sheet) image → Answers sheet_numbers r (after ≡ image)
+    by (Ok tt) n e = inl n
+    by (Err x) n e = inr (is_among sheet_numbers r _ n (sheet_number x.fault), e)
 
 -- ---- a message
 

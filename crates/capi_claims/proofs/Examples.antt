@@ -1,12 +1,13 @@
 -- No premise is hollow: two sheets that differ in every key byte of a record that no message names, set up by
 -- `roualint_sheet`, and the tag that one of them says at its power-up.
+use Rattle.sheet.specs.declared.SheetRefusal.{SheetRefusal}
+use Rattle.std.specs.Prelude.{Result}
 use mathlib.Core.Path.{◌≡◌, refl, sym, ap}
 use mathlib.Core.Bool.{false}
 use mathlib.Core.List.{List, []}
 use Prim.Native.Nat.{ℕ}
 use Rattle.ground.specs.Bytes.{Bytes}
 use Rattle.ground.specs.Choice.{pick}
-use Rattle.sheet.specs.declared.SheetVerdict.{SheetVerdict}
 use Rattle.sheet.specs.Limits.{key_limit}
 use Rattle.sheet.specs.Sheet.{said_of, read_number, read_place, verdict_number, verdict_place}
 use Rattle.entry.specs.Sessions.{cleared}
@@ -45,7 +46,8 @@ unfolding read_number read_place
 set_up e m image = record {
   number = sym (ap verdict_number (taken e m));
   place = sym (ap verdict_place (taken e m));
-  holds = sym (ap (λ (v : SheetVerdict). pick (accepts v) (sheet_image cleared (sheet e m)) image) (taken e m));
+  holds = sym (ap (λ (v : Result Unit SheetRefusal). pick (accepts v) (sheet_image cleared (sheet e m)) image)
+      (taken e m));
 }
 
 -- the areas of the sheet have no words

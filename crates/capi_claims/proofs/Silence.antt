@@ -1,13 +1,14 @@
 -- Demand 3 of the functions for programs in C: a run of calls is the tag's own run, of which it is proved.
+use Rattle.sheet.specs.declared.SheetRefusal.{SheetRefusal}
+use Rattle.std.specs.Prelude.{Result, Ok, Err}
 use mathlib.Core.Path.{◌≡◌, refl, sym, ap, ◌∙◌, subst}
 use mathlib.Core.List.{List, [], ◌∷◌}
 use Prim.Native.Nat.{ℕ}
 use native.Mathlib.Omega.{arith}
 use Rattle.ground.specs.Bytes.{Bytes}
 use Rattle.modes.specs.Room.{over}
-use Rattle.sheet.specs.declared.SheetVerdict.{SheetVerdict}
-use Rattle.sheet.specs.declared.SheetVerdict.TheVariants.{Whole, Refused}
 use Rattle.sheet.specs.Limits.{key_limit}
+use Rattle.sheet.specs.Sheet.{verdict_of}
 use Rattle.sheet.specs.Sheet.{read_of, read_number, read_place, said_of, verdict_number, verdict_place, Accepted}
 use Rattle.offer.specs.Outcomes.{number_given, reply_length}
 use Rattle.entry.specs.declared.Session.{Session}
@@ -46,10 +47,10 @@ same_calls x y (d ∷ ds) (a ∷ more) (c ∷ cs) (e, h) = (
 )
 
 -- number 0 is that of a sheet that is taken
-whole_by : (v : SheetVerdict) → verdict_number v ≡ 0 → v ≡ Whole
-whole_by Whole e = refl
-whole_by (Refused f at) e =
-    let h = sym (ap (among sheet_numbers) e) ∙ sheet_number f in
+whole_by : (v : Result Unit SheetRefusal) → verdict_number v ≡ 0 → v ≡ Ok tt
+whole_by (Ok tt) e = refl
+whole_by (Err x) e =
+    let h = sym (ap (among sheet_numbers) e) ∙ sheet_number x.fault in
     let z : ◌≡◌ {A = ℕ} 0 1 = cc in
     absurd (omega arith)
 
@@ -69,7 +70,7 @@ silent_calls ds u v m n r s at place image image' x y p q alike hu hv =
       hu.number ∙ ap verdict_number read.verdict ∙ sym hv.number,
       hu.place ∙ ap verdict_place read.verdict ∙ sym hv.place,
       λ ls rs zero mem cu cv.
-          let e = whole_by (read_of key_limit u).verdict (sym hu.number ∙ zero) in
+          let e = whole_by (verdict_of (read_of key_limit u)) (sym hu.number ∙ zero) in
           let f = sym read.verdict ∙ e in
           let same = same_calls x y ds _ _ (silent_sheets (events_of ds) u v x y p q alike mem).1 in
           subst (λ (z : List (LeftWith Told)). SameCalls x y ls z) (sym (ran v q f n s place image' hv y ds rs cv))

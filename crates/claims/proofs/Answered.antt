@@ -1,4 +1,5 @@
 -- Demand 1, proved: by the cases of each list.
+use Rattle.sheet.specs.declared.SheetRefusal.{SheetRefusal}
 use Rattle.std.specs.Prelude.{Result, Ok, Err}
 use Rattle.sheet.specs.declared.Finding.TheVariants.{Taken, Ended}
 use Rattle.sheet.specs.declared.Finding.{Finding}
@@ -26,7 +27,6 @@ use Rattle.sheet.specs.declared.Kind.TheVariants.{
 }
 use Rattle.sheet.specs.declared.Judged.{Judged}
 use Rattle.sheet.specs.declared.Reading.{Reading}
-use Rattle.sheet.specs.declared.SheetVerdict.TheVariants.{Refused as NoSheet}
 use Rattle.sheet.specs.Kinds as sheet
 use Rattle.sheet.specs.Kinds.{kind_of, body_length}
 use Rattle.sheet.specs.Setups.{empty_terms}
@@ -45,7 +45,7 @@ use Rattle.sheet.specs.Judgement.{
   with_lock,
 }
 use Rattle.sheet.specs.Limits.{key_limit}
-use Rattle.sheet.specs.Sheet.{read_of, walk, after}
+use Rattle.sheet.specs.Sheet.{read_of, walk, after, verdict_of, terms_read, keys_read}
 use Rattle.offer.specs.declared.TagFault.{TagFault}
 use Rattle.offer.specs.declared.TagFault.TheVariants.{
   OtherError,
@@ -132,26 +132,13 @@ pub record_answers : RecordAnswers
 record_answers s k f e = (sheet_number f, judged_leaves s k f e)
 
 -- a sheet that is refused gives no tag
-abbrev Empty : Reading → Type 0
-Empty r = (f : SheetFault) (at : ℕ) → r.verdict ≡ NoSheet f at → (r.terms ≡ empty_terms) × (r.keys ≡ 0)
-
-after_empty : (g : Result Finding SheetFault) (s : Gathered) (at : ℕ) (t : List ℕ) (r : Reading) → Empty r → Empty (after g s at t r)
-unfolding after
-after_empty (Ok (Taken n)) s at t r h = h
-after_empty (Ok Ended) s at [] r h = λ f i e. let z : ◌≡◌ {A = ℕ} 0 1 = cc in absurd (omega arith)
-after_empty (Ok Ended) s at (x ∷ t) r h = λ f i e. (refl, refl)
-after_empty (Err g) s at t r h = λ f i e. (refl, refl)
-
-pub walk_empty : (s : List ℕ) (body at : ℕ) (k : Gathered) → Empty (walk key_limit s body at k)
-unfolding walk
-walk_empty [] body at k = λ f i e. (refl, refl)
-walk_empty (b ∷ t) (suc body) at k = walk_empty t body (at + 1) k
-walk_empty (b ∷ t) zero at k = after_empty _ _ at t _ (walk_empty t (body_length (kind_of b)) (at + 1)
-    (judged_of key_limit (b ∷ t) k).gathered)
+pub nothing_said : (r : Result Reading SheetRefusal) (x : SheetRefusal) → verdict_of r ≡ Err x
+    → (terms_read r ≡ empty_terms) × (keys_read r ≡ 0)
+nothing_said (Ok r) x e = let z : ◌≡◌ {A = ℕ} 0 1 = cc in absurd (omega arith)
+nothing_said (Err y) x e = (refl, refl)
 
 pub sheet_answers : SheetAnswers
-unfolding read_of
-sheet_answers s f at e = let h = walk_empty s _ _ _ f at e in (sheet_number f, h.0, h.1)
+sheet_answers s f at e = let h = nothing_said (read_of key_limit s) _ e in (sheet_number f, h.0, h.1)
 
 -- ---- chaining and MAC, and the parts of messages
 

@@ -1,6 +1,7 @@
 -- One tag for examples: the tag of a sheet with Rev 1, IAM1, IAM2, IAM3 and MAM, ProtMode 0, a user area of four words,
 -- a key record of KeyID 00 and one profile, which it may use.
-use Rattle.std.specs.Prelude.{Ok, Err}
+use Rattle.sheet.specs.declared.SheetRefusal.{SheetRefusal}
+use Rattle.std.specs.Prelude.{Ok, Err, Result}
 use Rattle.offer.specs.declared.Answer.TheVariants.{Replied}
 use mathlib.Core.Path.{◌≡◌, refl, ap, ◌∙◌}
 use mathlib.Core.Bool.{Bool, true, false}
@@ -27,7 +28,7 @@ use Rattle.sheet.specs.Records.{area_of, words_in, inside, features_rule, featur
 use Rattle.sheet.specs.Records.{key_rule, key_of, profile_rule, slot_of}
 use Rattle.sheet.specs.Judgement.{too_many, opened_of, with_features, with_sizes, with_key, with_profile, record_of}
 use Rattle.sheet.specs.Judgement.{judged_of}
-use Rattle.sheet.specs.Sheet.{after, walk, read_of, whole, said_of}
+use Rattle.sheet.specs.Sheet.{after, walk, read_of, whole, said_of, terms_read, keys_read}
 use Rattle.frames.proofs.Range.{both_left, both_right}
 use Rattle.offer.specs.declared.TagFault.TheVariants.{OtherError}
 use Rattle.entry.specs.declared.State.TheVariants.{IamInit}
@@ -92,7 +93,9 @@ sheet_read = refl
 
 pub said : said_of key_limit sheet ≡ setup
 unfolding said_of key_table
-said = ap (λ (r : Reading). setup_of r.terms (key_table sheet r.keys)) sheet_read ∙ its_setup
+said =
+    ap (λ (r : Result Reading SheetRefusal). setup_of (terms_read r) (key_table sheet (keys_read r))) sheet_read
+    ∙ its_setup
 
 unfoldable pub bench : Tag
 bench = awake terms

@@ -21,10 +21,10 @@ use Rattle.modes.specs.Cmac.{cmac96}
 use Rattle.modes.specs.Room as room
 use Rattle.modes_inverse.specs.CbcInv.{cbc_enc_aes_inv, cbc_dec_aes_inv}
 use Rattle.sheet.specs.declared.SheetFault.{SheetFault}
-use Rattle.sheet.specs.declared.SheetVerdict.TheVariants.{Refused as NoSheet}
 use Rattle.sheet.specs.Kinds as sheet
 use Rattle.sheet.specs.Limits.{key_limit}
 use Rattle.sheet.specs.Setups.{empty_terms}
+use Rattle.sheet.specs.Sheet.{verdict_of, terms_read, keys_read}
 use Rattle.sheet.specs.Sheet.{read_of, read_number, read_place, verdict_number, verdict_place}
 use Rattle.frames.specs.Fields.{custom_fits}
 use Rattle.frames.specs.Kinds.{kind_of}
@@ -131,13 +131,13 @@ step_in_place_refuses κs a r e h f v = tag_answers a.1.0.now _ _ _ _ _ f h v
 -- ---- the sheet
 
 pub read_said : Says 1 read-kinds.ps read-kinds.r read.Post
-    (λ κs a r e. ((r ≡ read_of key_limit a.0.now) × ((verdict_number r.verdict ≡ read_number key_limit
-    a.0.now) × (verdict_place r.verdict ≡ read_place key_limit a.0.now))))
+    (λ κs a r e. ((r ≡ read_of key_limit a.0.now) × ((verdict_number (verdict_of r) ≡ read_number key_limit
+    a.0.now) × (verdict_place (verdict_of r) ≡ read_place key_limit a.0.now))))
 read_said κs a r e = refl
 
 pub read_refuses : Gives 1 read-kinds.ps read-kinds.r read.Post
-    (λ κs a r e. (f : SheetFault) (at : ℕ) → r.verdict ≡ NoSheet f at → Among sheet_numbers (sheet.number_of f) ×
-    (r.terms ≡ empty_terms) × (r.keys ≡ 0))
+    (λ κs a r e. (f : SheetFault) (at : ℕ) → verdict_of r ≡ Err (record { fault = f; at = at })
+    → Among sheet_numbers (sheet.number_of f) × (terms_read r ≡ empty_terms) × (keys_read r ≡ 0))
 read_refuses κs a r e h f at v = rw h.0 (sheet_answers a.0.now f at (rw h.0 at v))
 
 -- ---- chaining and MAC

@@ -1,4 +1,6 @@
 -- The examples at the edges, proved: by computation, and the sheets by their own examples.
+use Rattle.sheet.specs.declared.SheetRefusal.{SheetRefusal}
+use Rattle.std.specs.Prelude.{Result}
 use mathlib.Core.Path.{◌≡◌, refl, ap}
 use mathlib.Core.List.{List, [], ◌∷◌}
 use Prim.Native.Nat.{ℕ}
@@ -10,7 +12,7 @@ use Rattle.aes_inverse.specs.InvSbox.{inv_sbox, inv_affine, inv_affine_bit}
 use Rattle.modes.specs.Cmac.{last_byte, shifted_left, doubled}
 use Rattle.memory.specs.Address.{address_of, step_of, last_word, profile_end, overruns}
 use Rattle.sheet.specs.Limits.{key_limit}
-use Rattle.sheet.specs.Sheet.{verdict_number, verdict_place, read_number, read_place}
+use Rattle.sheet.specs.Sheet.{verdict_number, verdict_place, read_number, read_place, verdict_of}
 use Rattle.sheet.specs.declared.Reading.{Reading}
 use Rattle.sheet_laws.proofs.Examples.{example_11, example_12, example_13}
 use Rattle.frames.specs.Fields.{size_of, select_custom}
@@ -62,8 +64,8 @@ unfolding size_of address_of step_of last_word profile_end overruns
 bits16_5 = refl
 
 -- (11) to (13)
-abbrev told : Reading → List ℕ
-told r = verdict_number r.verdict ∷ verdict_place r.verdict ∷ []
+abbrev told : Result Reading SheetRefusal → List ℕ
+told r = verdict_number (verdict_of r) ∷ verdict_place (verdict_of r) ∷ []
 
 sheet_11 : sheet_of (0x01 ∷ 0x00 ∷ 0x00 ∷ 0x02 ∷ 0x00 ∷ 0x00 ∷ 0x00 ∷ 0x00 ∷ 0x06 ∷ []) ≡ 0 ∷ 0 ∷ []
 unfolding read_number read_place

@@ -9,12 +9,11 @@ use mathlib.Core.List.{List, []}
 use Prim.Native.Nat.{ℕ}
 use Rattle.modes.specs.Room as room
 use Rattle.sheet.specs.declared.SheetFault.TheVariants.{Cut}
-use Rattle.sheet.specs.declared.Reading.{Reading}
 use Rattle.sheet.specs.Kinds as sheet
 use Rattle.sheet.specs.Setups.{nothing_gathered, empty_terms}
 use Rattle.sheet.specs.Judgement.{judged_of}
 use Rattle.sheet.specs.Limits.{key_limit}
-use Rattle.sheet.specs.Sheet.{read_of}
+use Rattle.sheet.specs.Sheet.{read_of, verdict_of, terms_read, keys_read}
 use Rattle.sheet_laws.proofs.Examples.{example_12}
 use Rattle.offer.specs.declared.TagFault.TheVariants.{OtherError}
 use Rattle.entry.specs.Sessions.{cleared}
@@ -48,9 +47,9 @@ pub builder_refused : (reader.number_of OwnMessage ≡ 24) × (◌≡◌ {A = Li
 builder_refused = builder_answers true [] [] (Err OwnMessage) [] OwnMessage
     (record { says = refl; number = refl; holds = refl }) refl
 
-pub sheet_refused : Among sheet_numbers (sheet.number_of Cut) × ((read_of key_limit []).terms ≡ empty_terms)
-    × ((read_of key_limit []).keys ≡ 0)
-sheet_refused = sheet_answers [] Cut 0 (ap (λ (r : Reading). r.verdict) (example_12 key_limit))
+pub sheet_refused : Among sheet_numbers (sheet.number_of Cut) × (terms_read (read_of key_limit []) ≡ empty_terms)
+    × (keys_read (read_of key_limit []) ≡ 0)
+sheet_refused = sheet_answers [] Cut 0 (ap verdict_of (example_12 key_limit))
 
 pub record_refused : Among sheet_numbers (sheet.number_of Cut) × ((judged_of key_limit [] nothing_gathered).gathered ≡
     nothing_gathered)

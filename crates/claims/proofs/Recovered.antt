@@ -1,5 +1,6 @@
 -- The premises of recovery and of Fixed hold: on the bench of examples an IAM1 is taken, and the reader recovers the
 -- challenge. No cipher is computed.
+use Rattle.sheet.specs.Sheet.{verdict_of}
 use Rattle.std.specs.Prelude.{Ok}
 use mathlib.Core.Path.{◌≡◌, sym, ap, refl, subst}
 use mathlib.Core.Bool.{false}
@@ -11,7 +12,6 @@ use lib.ListN.{length, take, replicate}
 use Rattle.modes.specs.Room.{over}
 use Rattle.sheet.specs.Limits.{key_limit, profile_limit}
 use Rattle.ground.specs.Bytes.{Bytes, byte_at}
-use Rattle.sheet.specs.declared.Reading.{Reading}
 use Rattle.sheet.specs.KeyTable.{keys_in, records_in}
 use Rattle.sheet.specs.Records.{key_of}
 use Rattle.sheet.specs.Within.{Within}
@@ -45,7 +45,7 @@ use Rattle.claims.proofs.RecoveryCode.{recovery_code}
 -- the setup is one that a sheet says
 within : Within key_limit setup
 within =
-    let taken = ap (λ (r : Reading). r.verdict) sheet_read in
+    let taken = ap verdict_of sheet_read in
     subst (Within key_limit) said (accepted key_limit sheet (are_bytes sheet refl) taken).0
 
 -- bytes

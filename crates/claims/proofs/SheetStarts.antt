@@ -10,7 +10,7 @@ use Rattle.modes.proofs.Whole.{bytes_take}
 use Rattle.sheet.specs.Kinds.{keys_at}
 use Rattle.sheet.specs.KeyTable.{key_record, key_table}
 use Rattle.sheet.specs.Limits.{key_limit}
-use Rattle.sheet.specs.Sheet.{read_of, said_of}
+use Rattle.sheet.specs.Sheet.{read_of, said_of, keys_read}
 use Rattle.sheet.specs.Within.{Within}
 use Rattle.sheet_laws.proofs.Sheets.{accepted}
 use Rattle.frames.proofs.Asked.{asked_some}
@@ -25,7 +25,7 @@ unfolding said_of key_table
 sheet_has_record sheet identity user session keyid v there = record {
   keyid = keyid;
   there = there;
-  bytes = bytes_take (key_record * (read_of key_limit sheet).keys) (drop keys_at sheet)
+  bytes = bytes_take (key_record * (keys_read (read_of key_limit sheet))) (drop keys_at sheet)
       (drop_bytes keys_at sheet v.bytes);
   identity = v.identity_length;
   user = v.user_length;

@@ -1,10 +1,10 @@
 -- No premise is hollow: the bench of examples takes every kind of message, also as its sheet has it, and on it none of
 -- the five programs of FalseTags is the standard's tag.
+use Rattle.sheet.specs.Sheet.{verdict_of}
 use mathlib.Core.Path.{◌≡◌, refl, sym, ap, subst}
 use mathlib.Core.Bool.{true}
 use mathlib.Core.List.{List, [], ◌∷◌}
 use Prim.Native.Nat.{ℕ, ◌*◌}
-use Rattle.sheet.specs.declared.Reading.{Reading}
 use Rattle.sheet.specs.Setups.{Setup}
 use Rattle.sheet.specs.Limits.{profile_limit, lock_limit}
 use Rattle.sheet.specs.KeyTable.{keys_in, records_in}
@@ -94,7 +94,7 @@ lent : SheetLent sheet [] user
 unfolding setup terms
 lent = record {
   bytes = are_bytes sheet refl;
-  taken = ap (λ (r : Reading). r.verdict) sheet_read;
+  taken = ap verdict_of sheet_read;
   identity_length = sym (ap (λ (s : Setup). s.sizes.identity * 2) said);
   user_length = sym (ap (λ (s : Setup). s.sizes.user * 2) said);
 }

@@ -7,12 +7,11 @@ use Rattle.ground.specs.Choice.{either}
 use Rattle.modes.specs.Room as room
 use Rattle.sheet.specs.declared.SheetFault.{SheetFault}
 use Rattle.sheet.specs.declared.Gathered.{Gathered}
-use Rattle.sheet.specs.declared.SheetVerdict.TheVariants.{Refused as NoSheet}
 use Rattle.sheet.specs.Kinds as sheet
 use Rattle.sheet.specs.Setups.{empty_terms}
 use Rattle.sheet.specs.Judgement.{judged_of}
 use Rattle.sheet.specs.Limits.{key_limit}
-use Rattle.sheet.specs.Sheet.{read_of}
+use Rattle.sheet.specs.Sheet.{read_of, verdict_of, terms_read, keys_read}
 use Rattle.frames.specs.Built.{Built}
 use Rattle.offer.specs.declared.TagFault.{TagFault}
 use Rattle.tag.specs.declared.Tag.{Tag}
@@ -98,9 +97,9 @@ BuilderAnswers =
 abbrev pub SheetAnswers : Type 0
 SheetAnswers =
     (s : List ℕ) (f : SheetFault) (at : ℕ)
-    → (read_of key_limit s).verdict ≡ NoSheet f at
-    → Among sheet_numbers (sheet.number_of f) × ((read_of key_limit s).terms ≡ empty_terms)
-    × ((read_of key_limit s).keys ≡ 0)
+    → verdict_of (read_of key_limit s) ≡ Err (record { fault = f; at = at })
+    → Among sheet_numbers (sheet.number_of f) × (terms_read (read_of key_limit s) ≡ empty_terms)
+    × (keys_read (read_of key_limit s) ≡ 0)
 
 -- `sheet::judge`: a record that is refused leaves what was gathered.
 abbrev pub RecordAnswers : Type 0

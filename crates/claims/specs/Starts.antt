@@ -6,7 +6,7 @@ use Rattle.sheet.specs.declared.Key.{Key}
 use Rattle.sheet.specs.KeyTable.{key_table}
 use Rattle.sheet.specs.Limits.{key_limit}
 use Rattle.sheet.specs.Setups.{Setup, setup_of}
-use Rattle.sheet.specs.Sheet.{Accepted, read_of, said_of}
+use Rattle.sheet.specs.Sheet.{Accepted, read_of, said_of, terms_read, keys_read}
 use Rattle.keytable.specs.Named.{has_key, key_with}
 use Rattle.frames.specs.declared.Custom.{Custom}
 use Rattle.frames.specs.declared.Kind.{Kind}
@@ -93,8 +93,8 @@ pub record SheetLent (sheet identity user : List ℕ) : Type 0 where
 -- The tag of a sheet, in whatever session.
 abbrev pub start_of : List ℕ → List ℕ → List ℕ → Session → Start
 start_of sheet identity user session = record {
-  table = key_table sheet (read_of key_limit sheet).keys;
-  tag = record { terms = (read_of key_limit sheet).terms; session = session };
+  table = key_table sheet (keys_read (read_of key_limit sheet));
+  tag = record { terms = (terms_read (read_of key_limit sheet)); session = session };
   identity = identity;
   user = user;
 }

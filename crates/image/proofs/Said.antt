@@ -1,4 +1,6 @@
 -- What an accepted sheet says fits an image.
+use Rattle.sheet.specs.declared.SheetRefusal.{SheetRefusal}
+use Rattle.std.specs.Prelude.{Result, Ok, Err}
 use mathlib.Core.Path.{◌≡◌, refl, sym, ap, subst, ◌∙◌}
 use mathlib.Core.Bool.{Bool}
 use mathlib.Core.List.{List}
@@ -10,10 +12,9 @@ use Rattle.ground.specs.Bytes.{Bytes}
 use Rattle.sheet.specs.declared.SheetFault.{SheetFault}
 use Rattle.sheet.specs.declared.Reading.{Reading}
 use Rattle.sheet.specs.declared.Terms.{Terms}
-use Rattle.sheet.specs.declared.SheetVerdict.TheVariants.{Whole, Refused}
 use Rattle.sheet.specs.Limits.{key_limit, profile_limit, lock_limit}
 use Rattle.sheet.specs.KeyTable.{record_count, records_in, keys_in, key_table}
-use Rattle.sheet.specs.Sheet.{read_of, said_of, Accepted}
+use Rattle.sheet.specs.Sheet.{read_of, said_of, Accepted, verdict_of, terms_read, keys_read}
 use Rattle.sheet.specs.Within.{Within}
 use Rattle.sheet.specs.Writer.{keys_written}
 use Rattle.sheet_laws.proofs.RoundTrip.{written_read, written_table}
@@ -46,7 +47,7 @@ module _ (sheet : List ℕ) (y : Bytes sheet) (e : Accepted key_limit sheet) whe
   within = (accepted key_limit sheet y e).0
 
   abbrev n : ℕ
-  n = (read_of key_limit sheet).keys
+  n = keys_read (read_of key_limit sheet)
 
   abbrev table : List ℕ
   table = key_table sheet n
@@ -54,8 +55,8 @@ module _ (sheet : List ℕ) (y : Bytes sheet) (e : Accepted key_limit sheet) whe
   -- as many records were counted as the sheet says keys, and as stand in the table
   keys_said : n ≡ length (said_of key_limit sheet).keys
   keys_said =
-      ap (λ (s : List ℕ). (read_of key_limit s).keys) (sym (accepted key_limit sheet y e).1)
-      ∙ ap (λ (r : Reading). r.keys) (written_read key_limit (said_of key_limit sheet) within)
+      ap (λ (s : List ℕ). keys_read (read_of key_limit s)) (sym (accepted key_limit sheet y e).1)
+      ∙ ap keys_read (written_read key_limit (said_of key_limit sheet) within)
 
   counted : n ≡ record_count table
   unfolding said_of
@@ -65,7 +66,7 @@ module _ (sheet : List ℕ) (y : Bytes sheet) (e : Accepted key_limit sheet) whe
   unfolding key_table
   no_longer = simp length-take (omega arith)
 
-  pub said_fits : Fitting (read_of key_limit sheet).terms table
+  pub said_fits : Fitting (terms_read (read_of key_limit sheet)) table
   unfolding said_of
   said_fits = record {
     profiles = within.slots;
@@ -87,34 +88,39 @@ module _ (sheet : List ℕ) (y : Bytes sheet) (e : Accepted key_limit sheet) whe
 
   pub said_image : (s : Session) → sheet_image s sheet ≡ tag_image (holding (said_of key_limit sheet) s)
   unfolding said_of
-  said_image s = ap (image_of s (read_of key_limit sheet).terms) table_written
+  said_image s = ap (image_of s (terms_read (read_of key_limit sheet))) table_written
 
 -- ---- what `lay` leaves
 
-module _ (sheet : List ℕ) (q : Reading) (e : q ≡ read_of key_limit sheet) where
-  pub laid_refused : (image : List ℕ) (f : SheetFault) (at : ℕ) → q.verdict ≡ Refused f at
-      → Laid sheet image (Refused f at) image
-  laid_refused image f at h =
-      let v : (read_of key_limit sheet).verdict ≡ Refused f at = sym (ap (λ (x : Reading). x.verdict) e) ∙ h in
+module _ (sheet : List ℕ) (q : Result Reading SheetRefusal) (e : q ≡ read_of key_limit sheet) where
+  pub laid_refused : (image : List ℕ) (x : SheetRefusal) → q ≡ Err x → Laid sheet image (Err x) image
+  laid_refused image x h =
+      let v : verdict_of (read_of key_limit sheet) ≡ Err x = ap verdict_of (sym e ∙ h) in
       record { verdict = sym v; holds = simp v }
 
-  module _ (h : q.verdict ≡ Whole) (t : List ℕ) (f : t ≡ key_table sheet q.keys) where
+  module _ (r : Reading) (h : q ≡ Ok r) (t : List ℕ) (f : t ≡ key_table sheet r.keys) where
+    said : Ok r ≡ read_of key_limit sheet
+    said = sym h ∙ e
+
     is_accepted : Accepted key_limit sheet
-    is_accepted = sym (ap (λ (x : Reading). x.verdict) e) ∙ h
+    is_accepted = ap verdict_of (sym said)
 
-    table_is : t ≡ key_table sheet (read_of key_limit sheet).keys
-    table_is = f ∙ ap (λ (x : Reading). key_table sheet x.keys) e
+    table_is : t ≡ key_table sheet (keys_read (read_of key_limit sheet))
+    table_is = f ∙ ap (λ (x : Result Reading SheetRefusal). key_table sheet (keys_read x)) said
 
-    pub laid_fits : Bytes sheet → (q.terms.locks.count ≤ lock_limit) × (length t ≤ 592)
+    pub laid_fits : Bytes sheet → (r.terms.locks.count ≤ lock_limit) × (length t ≤ 592)
     laid_fits y =
         let w = said_fits sheet y is_accepted in
-        (rw (ap (λ (x : Reading). x.terms.locks.count) e) w.count, rw table_is (said_room sheet y is_accepted))
+        let n = ap (λ (x : Result Reading SheetRefusal). (terms_read x).locks.count) said in
+        (rw n w.count, rw table_is (said_room sheet y is_accepted))
 
-    pub laid_whole : (image after : List ℕ) → after ≡ image_of cleared q.terms t → Laid sheet image q.verdict after
-    laid_whole image after g = record {
-      verdict = ap (λ (x : Reading). x.verdict) e;
-      holds = g
-          ∙ ap (λ (l : List ℕ). image_of cleared q.terms l) table_is
-          ∙ ap (λ (x : Reading). image_of cleared x.terms (key_table sheet (read_of key_limit sheet).keys)) e
-          ∙ sym (ap (λ (b : Bool). pick b (sheet_image cleared sheet) image) (ap accepts is_accepted));
-    }
+    pub laid_whole : (image after : List ℕ) → after ≡ image_of cleared r.terms t → Laid sheet image (Ok tt) after
+    laid_whole image after g =
+        let table = key_table sheet (keys_read (read_of key_limit sheet)) in
+        record {
+          verdict = ap verdict_of said;
+          holds = g
+              ∙ ap (λ (l : List ℕ). image_of cleared r.terms l) table_is
+              ∙ ap (λ (x : Result Reading SheetRefusal). image_of cleared (terms_read x) table) said
+              ∙ sym (ap (λ (b : Bool). pick b (sheet_image cleared sheet) image) (ap accepts is_accepted));
+        }

@@ -8,7 +8,7 @@ ghost use Rattle.image.specs.Kept.{Laid};
 use entry::Session;
 use sheet::{
     FEATURE_BODY, KEY_LIMIT, KEY_RECORD, LOCK_BODY, LOCK_LIMIT, PROFILE_BODY, PROFILE_LIMIT,
-    SIZE_BODY, SheetVerdict, Sizes, Terms,
+    SIZE_BODY, SheetRefusal, Sizes, Terms,
 };
 
 mod read; // read.rt: what an image says
@@ -89,16 +89,10 @@ pub fn keep(image: &mut [u8; IMAGE], session: Session)
 /// Lays the tag of a sheet into an image, powered up. One that is refused changes no byte.
 ///
 /// Ruled out: a tag made of a refused sheet; bytes of an older tag left behind a shorter key table.
-pub fn lay(sheet: &[u8], image: &mut [u8; IMAGE]) -> SheetVerdict
+pub fn lay(sheet: &[u8], image: &mut [u8; IMAGE]) -> Result<(), SheetRefusal>
     ensures { Laid sheet.now image.old result image.new }
 {
-    let reading = sheet::read(sheet);
-    let verdict = reading.verdict;
-    if let SheetVerdict::Refused(fault, at) = verdict {
-        return SheetVerdict::Refused(fault, at);
-    }
-    let terms = reading.terms;
-    let made = write::made(terms, sheet::key_table(sheet, reading.keys));
-    *image = made;
-    verdict
+    let reading = sheet::read(sheet)?;
+    *image = write::made(reading.terms, sheet::key_table(sheet, reading.keys));
+    Ok(())
 }

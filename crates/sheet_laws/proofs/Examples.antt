@@ -1,5 +1,7 @@
 -- Examples of the scope paper at the edges of a sheet, by computation; at any limit of key records where none stands in
 -- them.
+use Rattle.sheet.specs.declared.SheetRefusal.{SheetRefusal}
+use Rattle.std.specs.Prelude.{Result}
 use mathlib.Core.Path.{◌≡◌, refl, sym, ap, ◌∙◌}
 use mathlib.Core.Bool.{true, false}
 use mathlib.Core.List.{List, [], ◌∷◌, ◌++◌}
@@ -19,7 +21,7 @@ use Rattle.sheet.specs.Records.{area_of, words_in, inside, features_rule, featur
 use Rattle.sheet.specs.Records.{key_rule, key_of, profile_rule, slot_of, lock_rule, lock_of}
 use Rattle.sheet.specs.Judgement.{too_many, opened_of, record_of, judged_of}
 use Rattle.sheet.specs.Judgement.{with_features, with_sizes, with_key, with_profile, with_lock}
-use Rattle.sheet.specs.Sheet.{after, walk, read_of, said_of, whole, refused_at}
+use Rattle.sheet.specs.Sheet.{after, walk, read_of, said_of, whole, refused_at, verdict_of, terms_read, keys_read}
 use Rattle.sheet.specs.Sheet.{verdict_number, read_number, RefusedBy}
 use Rattle.sheet.specs.declared.SheetFault.TheVariants.{Cut, Unknown, Order, Value, Many, Tail}
 use Rattle.sheet.specs.declared.Key.{Key}
@@ -59,12 +61,14 @@ example_13 limit t = refl
 -- and what it says is the empty setup
 pub said_11 : (limit : ℕ) → said_of limit smallest ≡ empty_setup
 unfolding said_of key_table empty_setup
-said_11 limit = ap (λ (r : Reading). setup_of r.terms (key_table smallest r.keys)) (example_11 limit)
+said_11 limit =
+    ap (λ (r : Result Reading SheetRefusal). setup_of (terms_read r) (key_table smallest (keys_read r)))
+    (example_11 limit)
 
 -- the same three by number and place
 pub number_11 : (limit : ℕ) → read_number limit smallest ≡ 0
 unfolding read_number
-number_11 limit = ap (λ (r : Reading). verdict_number r.verdict) (example_11 limit)
+number_11 limit = ap (λ (r : Result Reading SheetRefusal). verdict_number (verdict_of r)) (example_11 limit)
 
 pub number_12 : (limit : ℕ) → RefusedBy limit [] 30 0
 number_12 limit = refused_told limit [] Cut 0 (example_12 limit)

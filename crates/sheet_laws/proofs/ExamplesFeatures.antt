@@ -1,5 +1,7 @@
 -- Examples of the scope paper, record 01: what each bit of it says, and which bits refuse it by 33 at place 0, whatever
 -- follows.
+use Rattle.sheet.specs.declared.SheetRefusal.{SheetRefusal}
+use Rattle.std.specs.Prelude.{Result}
 use mathlib.Core.Path.{◌≡◌, refl, ap, ◌∙◌}
 use mathlib.Core.Bool.{Bool, true, false}
 use mathlib.Core.List.{List, [], ◌∷◌}
@@ -41,7 +43,7 @@ abbrev pub small : ℕ → ℕ → List ℕ
 small f m = 0x01 ∷ f ∷ m ∷ 0x02 ∷ 0x00 ∷ 0x00 ∷ 0x00 ∷ 0x00 ∷ 0x06 ∷ []
 
 -- accepted, with just these features and two empty areas
-abbrev pub featured : Features → Reading
+abbrev pub featured : Features → Result Reading SheetRefusal
 featured x =
     whole
     (record {

@@ -17,13 +17,12 @@ use Rattle.sheet.specs.Kinds.{kind_of, in_order}
 use Rattle.sheet.specs.Setups.{no_features, no_marks, nothing_gathered}
 use Rattle.sheet.specs.Records.{words_in, inside, features_rule, key_rule, lock_rule}
 use Rattle.sheet.specs.Judgement.{too_many, opened_of, record_of, judged_of, with_features, with_lock}
-use Rattle.sheet.specs.Sheet.{walk, read_of, RefusedBy, Accepted}
+use Rattle.sheet.specs.Sheet.{walk, read_of, RefusedBy, Accepted, verdict_of}
 use Rattle.sheet.specs.Writer.{features_body, sizes_body}
 use Rattle.sheet.specs.declared.Kind.TheVariants.{FeatureRecord, KeyRecord, LockRecord}
 use Rattle.sheet.specs.declared.SheetFault.TheVariants.{Order, Value}
 use Rattle.sheet.specs.declared.Sizes.{Sizes}
 use Rattle.sheet.specs.declared.Gathered.{Gathered}
-use Rattle.sheet.specs.declared.Reading.{Reading}
 use Rattle.sheet.proofs.Verdicts.{refused_told}
 use Rattle.sheet.proofs.Walks.{walk_faulty}
 use Rattle.sheet_laws.proofs.States.{marks_of, state}
@@ -140,7 +139,7 @@ module _ (limit a f c a' f' c' : ℕ) (first : lock_rule 0 0 sixteen (lock_body_
   unfolding kind_of in_order too_many record_of lock_limit one_lock with_lock
   rises e =
       let k = with_lock one_lock (lock_body_lem a' f' c') in
-      ap (λ (r : Reading). r.verdict)
+      ap verdict_of
       (behind_opening limit (lock a f c (lock a' f' c' (0x06 ∷ [])))
       ∙ one_taken (lock a' f' c' (0x06 ∷ []))
       ∙ go_on limit 5 LockRecord (lock_body_lem a' f' c') (0x06 ∷ []) one_lock k refl refl refl refl refl (rw e) 14

@@ -1,4 +1,6 @@
 -- What is written of a setup within the rules reads back: the reader refuses no sheet that it should take.
+use Rattle.sheet.specs.declared.SheetRefusal.{SheetRefusal}
+use Rattle.std.specs.Prelude.{Result}
 use mathlib.Core.Path.{◌≡◌, refl, sym, ap, ◌∙◌}
 use mathlib.Core.Bool.{true}
 use mathlib.Core.Logic.{inl, inr}
@@ -16,7 +18,7 @@ use Rattle.sheet.specs.KeyTable.{key_record, key_table}
 use Rattle.sheet.specs.Setups.{Setup, setup_of, terms_of, no_slot, no_lock, empty_terms, no_marks, nothing_gathered}
 use Rattle.sheet.specs.Judgement.{too_many, record_of}
 use Rattle.sheet.specs.Judgement.{with_features, with_sizes, with_key, with_profile, with_lock}
-use Rattle.sheet.specs.Sheet.{whole, walk, read_of, refused_at, Accepted, said_of}
+use Rattle.sheet.specs.Sheet.{whole, walk, read_of, refused_at, Accepted, said_of, verdict_of, terms_read, keys_read}
 use Rattle.sheet.specs.Writer.{area_byte, features_body, sizes_body, key_body, profile_body, lock_body}
 use Rattle.sheet.specs.Writer.{keys_written, profiles_written, locks_written, written}
 use Rattle.sheet.specs.Within.{KeysRise, SlotFine, SlotsFine, LocksRise, Within}
@@ -49,7 +51,7 @@ shifted : {A : Type 0} (before xs all : List A) (x : A) → before ++ x ∷ xs �
 shifted before xs all x e = append_assoc before (x ∷ []) xs ∙ e
 
 -- Each kind's records in front of r: the walk behind them has the answer R, so it has it from the first of them on.
-module _ (limit : ℕ) (f : Features) (z : Sizes) (R : Reading) (r : List ℕ) where
+module _ (limit : ℕ) (f : Features) (z : Sizes) (R : Result Reading SheetRefusal) (r : List ℕ) where
   -- what is gathered where n keys have been read, and nothing behind them
   abbrev keyed : ℕ → ℕ → ℕ → Gathered
   keyed last n id = state f z (marks_of last n 0 id 0 0 0) [] []
@@ -228,8 +230,8 @@ module _ (limit : ℕ) (s : Setup) (w : Within limit s) where
   pub written_reads : Accepted limit (written s) × (said_of limit (written s) ≡ s)
   unfolding said_of
   written_reads = (
-    ap (λ (r : Reading). r.verdict) written_read,
-    ap (λ (r : Reading). setup_of r.terms (key_table (written s) r.keys)) written_read
+    ap verdict_of written_read,
+    ap (λ (r : Result Reading SheetRefusal). setup_of (terms_read r) (key_table (written s) (keys_read r))) written_read
         ∙ ap (setup_of (terms_of s)) written_table
         ∙ (λ i. record {
           features = s.features;

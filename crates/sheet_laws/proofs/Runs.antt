@@ -1,5 +1,6 @@
 -- Every accepted sheet is a run of records that are taken, and then the end record.
-use Rattle.std.specs.Prelude.{Ok}
+use Rattle.sheet.specs.declared.SheetRefusal.{SheetRefusal}
+use Rattle.std.specs.Prelude.{Ok, Result}
 use Rattle.sheet.specs.declared.Finding.TheVariants.{Taken, Ended}
 use mathlib.Core.Path.{◌≡◌, refl, sym, ap, subst, ◌∙◌}
 use mathlib.Core.Bool.{true}
@@ -34,7 +35,7 @@ only_six limit (b ∷ y ∷ t) k l e = absurd (omega arith)
 module _ (limit : ℕ) (s : List ℕ) (P : List ℕ → Gathered → Type 0)
     (more : (c : List ℕ) (b : ℕ) (t : List ℕ) (k k' : Gathered) (n : ℕ) → c ++ (b ∷ t) ≡ s → Step limit b t k k' n
     → P c k → P (c ++ take n (b ∷ t)) k') where
-  pub record Run (r : Reading) : Type 0 where
+  pub record Run (r : Result Reading SheetRefusal) : Type 0 where
     pub bytes : List ℕ
     pub gathered : Gathered
     pub holds : P bytes gathered

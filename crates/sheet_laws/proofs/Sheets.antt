@@ -1,5 +1,7 @@
 -- Accepted sheets and setups within the rules belong together one to one; and the keys of an accepted sheet, as the
 -- walk meets them, are its key table's.
+use Rattle.sheet.specs.declared.SheetRefusal.{SheetRefusal}
+use Rattle.std.specs.Prelude.{Result}
 use mathlib.Core.Path.{◌≡◌, refl, sym, ap, subst, ◌∙◌}
 use mathlib.Core.Bool.{true}
 use mathlib.Core.List.{List, [], ◌∷◌, ◌++◌, append_assoc, append-nil}
@@ -14,7 +16,7 @@ use Rattle.sheet.specs.Kinds.{kind_of, body_length, in_order}
 use Rattle.sheet.specs.KeyTable.{keys_in, key_table}
 use Rattle.sheet.specs.Setups.{Setup, no_slot, no_lock, no_marks, nothing_gathered}
 use Rattle.sheet.specs.Judgement.{judged_of, opened_of, too_many, record_of, with_features}
-use Rattle.sheet.specs.Sheet.{Accepted, read_of, said_of}
+use Rattle.sheet.specs.Sheet.{Accepted, read_of, said_of, keys_read, terms_read}
 use Rattle.sheet.specs.KeysMet.{key_said, met_from, keys_met}
 use Rattle.sheet.specs.Writer.{features_body, sizes_body, keys_written, profiles_written, locks_written, written}
 use Rattle.sheet.specs.Within.{Table, Within}
@@ -172,15 +174,15 @@ module _ (limit : ℕ) where
     abbrev keys_of : List Key
     keys_of = ran.holds.keys
 
-    table_keys : keys_in (key_table s (read_of limit s).keys) ≡ keys_of
+    table_keys : keys_in (key_table s (keys_read (read_of limit s))) ≡ keys_of
     table_keys =
-        ap (λ (r : Reading). keys_in (key_table s r.keys)) ran.says
+        ap (λ (r : Result Reading SheetRefusal). keys_in (key_table s (keys_read r))) ran.says
         ∙ ap (λ (l : List ℕ). keys_in (key_table l ran.gathered.marks.keys)) (sym ran.sheet)
         ∙ stand ran.bytes ran.gathered keys_of ran.holds.sound ran.ordered
 
     said : said_of limit s ≡ setup_with ran.gathered.terms keys_of
     unfolding said_of
-    said = λ i. setup_with (ran.says i).terms (table_keys i)
+    said = λ i. setup_with (terms_read (ran.says i)) (table_keys i)
 
     -- an accepted sheet says a setup within the rules, and is what is written of it
     pub accepted : Within limit (said_of limit s) × (written (said_of limit s) ≡ s)
@@ -190,7 +192,7 @@ module _ (limit : ℕ) where
 
     -- The key records stand together where `key_table` takes them: the keys that the walk meets one by one are its
     -- keys.
-    pub keys_stand : keys_met limit s ≡ keys_in (key_table s (read_of limit s).keys)
+    pub keys_stand : keys_met limit s ≡ keys_in (key_table s (keys_read (read_of limit s)))
     keys_stand =
         ran.holds.met (6 ∷ []) ran.sheet
         ∙ ap (λ (l : List Key). keys_of ++ l) (met_end ran.gathered ran.ordered)

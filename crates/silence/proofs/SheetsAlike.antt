@@ -1,5 +1,7 @@
 -- Two sheets that are alike but for key bytes of records that are not named: the reader finds the same in both, record
 -- by record, and keeps the same of it; the keys that it meets are alike.
+use Rattle.sheet.specs.declared.SheetRefusal.{SheetRefusal}
+use Rattle.std.specs.Prelude.{Result}
 use mathlib.Core.Path.{◌≡◌, refl, ap, ◌∙◌}
 use mathlib.Core.Bool.{Bool, true, false}
 use mathlib.Core.List.{List, [], ◌∷◌, ◌++◌}
@@ -21,7 +23,7 @@ use Rattle.octets.specs.Alike.{all_zero}
 use Rattle.sheet.specs.Records.{key_rule, key_of}
 use Rattle.sheet.specs.Judgement.{opened_of, taken_if, with_key, record_of, only_if, judged_of}
 use Rattle.sheet.specs.KeysMet.{key_said}
-use Rattle.sheet.specs.Sheet.{read_of, said_of}
+use Rattle.sheet.specs.Sheet.{read_of, said_of, terms_read}
 use Rattle.silence.specs.Silence.{RecordAlike, RecordsAlike, SetupsAlike}
 use Rattle.silence.specs.Sheets.{KeyBodiesAlike, BodiesAlike}
 
@@ -112,9 +114,9 @@ module _ (named : ℕ → Bool) where
       → SetupsAlike named (said_of key_limit u) (said_of key_limit v)
   unfolding said_of
   setup_alike u v r records = record {
-    features = ap (λ (q : Reading). q.terms.features) r;
-    sizes = ap (λ (q : Reading). q.terms.sizes) r;
+    features = ap (λ (q : Result Reading SheetRefusal). (terms_read q).features) r;
+    sizes = ap (λ (q : Result Reading SheetRefusal). (terms_read q).sizes) r;
     records = records;
-    profiles = ap (λ (q : Reading). q.terms.profiles) r;
-    locks = ap (λ (q : Reading). q.terms.locks) r;
+    profiles = ap (λ (q : Result Reading SheetRefusal). (terms_read q).profiles) r;
+    locks = ap (λ (q : Result Reading SheetRefusal). (terms_read q).locks) r;
   }

@@ -13,7 +13,7 @@ use Rattle.sheet.specs.declared.Kind.TheVariants.{
 use Rattle.sheet.specs.Kinds.{kind_of, body_length}
 use Rattle.ground.specs.Bytes.{byte_at, word_at, Bytes}
 use Rattle.sheet.specs.Limits.{key_limit}
-use Rattle.sheet.specs.Sheet.{read_of, said_of}
+use Rattle.sheet.specs.Sheet.{read_of, said_of, verdict_of}
 use Rattle.tag.specs.Runs.{Event}
 use Rattle.silence.specs.Names.{named_in}
 use Rattle.silence.specs.Silence.{SetupsAlike, Memory, MemoriesAlike, SameAnswers, answers}
@@ -54,7 +54,7 @@ SheetsAlike named u v = AlikeFrom named u v 0
 
 -- Both are taken, or both are refused with the same number at the same place; and what they say is alike.
 pub record ReadAlike (named : ℕ → Bool) (u v : List ℕ) : Type 0 where
-  pub verdict : (read_of key_limit u).verdict ≡ (read_of key_limit v).verdict
+  pub verdict : verdict_of (read_of key_limit u) ≡ verdict_of (read_of key_limit v)
   pub setup : SetupsAlike named (said_of key_limit u) (said_of key_limit v)
 
 -- A sheet is a string of bytes.
@@ -70,5 +70,5 @@ SilentSheets =
     → Bytes v
     → SheetsAlike (named_in es) u v
     → MemoriesAlike (named_in es) (said_of key_limit u) x y
-    → ((read_of key_limit u).verdict ≡ (read_of key_limit v).verdict)
+    → (verdict_of (read_of key_limit u) ≡ verdict_of (read_of key_limit v))
     × SameAnswers x y (answers (said_of key_limit u) x es) (answers (said_of key_limit v) y es)

@@ -8,7 +8,7 @@ use console::{answer, fields};
 use frames::sizes::REPLY_ROOM;
 use lines::numbers::{low_word, times};
 use lines::print;
-use sheet::{SheetVerdict, Terms};
+use sheet::{SheetRefusal, Terms};
 use std::io;
 use std::random::RandomSource;
 use tag::Tag;
@@ -32,11 +32,9 @@ pub struct Place {
     user: usize,
 }
 
-// Before the first command. The terms of an empty sheet, which is refused, are empty.
+// Before the first command: a tag of the terms before a sheet's first record, which are empty.
 pub fn empty() -> Place {
-    let reading = bench::cursor::read(b"");
-    let terms = reading.terms;
-    let tag = tag::power_up(terms);
+    let tag = tag::power_up(sheet::start().terms);
     Place {
         set: false,
         tag,
@@ -59,23 +57,20 @@ pub fn sheet(
     }
     let mut room = [0u8; 4096];
     let n = within(fields::bytes(line, 1, &mut room), &room);
-    let reading = bench::cursor::read(&room[..n]);
-    let verdict = reading.verdict;
-    let terms = reading.terms;
-    match verdict {
-        SheetVerdict::Refused(fault, at) => {
+    match bench::cursor::read(&room[..n]) {
+        Err(SheetRefusal { fault, at }) => {
             print::text(rt, b"refused ")?;
-            answer::decimal(rt, sheet::number(fault) as u16)?;
+            answer::decimal(rt, u8::from(fault) as u16)?;
             print::text(rt, b" at ")?;
             answer::decimal(rt, low_word(at))?;
             print::text(rt, b"\n")?;
             return Ok(p);
         }
-        SheetVerdict::Whole => {
+        Ok(reading) => {
             answer::ok(rt)?;
             clear(identity);
             clear(user);
-            return Ok(set_up(terms, taken(&room[..n], reading.keys, keys)));
+            return Ok(set_up(reading.terms, taken(&room[..n], reading.keys, keys)));
         }
     }
 }

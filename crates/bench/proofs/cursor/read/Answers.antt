@@ -1,4 +1,6 @@
 -- From the sheet's first byte on, with nothing gathered: the whole sheet.
+use Rattle.sheet.specs.declared.SheetRefusal.{SheetRefusal}
+use Rattle.std.specs.Prelude.{Result}
 use mathlib.Core.Path.{◌≡◌, subst, ◌∙◌}
 use Rattle.sheet.specs.Limits.{key_limit}
 use Rattle.sheet.specs.Setups.{nothing_gathered}
@@ -14,4 +16,4 @@ returns c =
     let e = c.open.ensures in
     let begun : read_from key_limit r.sheet.now r.at c.start.result ≡ read_from key_limit s 0 nothing_gathered =
     λ i. read_from key_limit (e.0 i).now (e.1 i) (c.start.ensures i) in
-    subst (λ (x : Reading). ReadAs c.rest.result x) (begun ∙ from_start key_limit s) c.rest.ensures
+    subst (λ (x : Result Reading SheetRefusal). ReadAs c.rest.result x) (begun ∙ from_start key_limit s) c.rest.ensures
