@@ -16,11 +16,7 @@ pub each : (p q : Bool) → both p q ≡ true → (p ≡ true) × (q ≡ true)
 each true q h = (refl, h)
 each false q h = absurd (false≢true h)
 
--- a yes of the second changes nothing, and a no of it is a no
-pub first_only_lem : (p : Bool) → both p true ≡ p
-first_only_lem true = refl
-first_only_lem false = refl
-
+-- a no of the second is a no
 pub second_no : (p : Bool) → both p false ≡ false
 second_no true = refl
 second_no false = refl

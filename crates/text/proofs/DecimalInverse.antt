@@ -155,8 +155,8 @@ module _ (w : List ℕ) (n : ℕ) where
 -- ---- the theorems
 
 pub decimal_back : DecimalBack
-decimal_back number room n text b h l = ap decimal_read (stands (decimal_word number) room n text h l)
+decimal_back number room n text b h = ap decimal_read (stands (decimal_word number) room n text h)
     ∙ read_written number b
 
 pub decimal_again : DecimalAgain
-decimal_again word number room n text h k l = stands (decimal_word number) room n text k l ∙ written_read word number h
+decimal_again word number room n text h k = stands (decimal_word number) room n text k ∙ written_read word number h

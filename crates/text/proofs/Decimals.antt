@@ -1,17 +1,20 @@
 -- The number of a word, digit by digit, and the zeros in front of it.
-use Rattle.std.specs.Prelude.{Ok, Err}
+use Rattle.std.specs.Prelude.{Option, Some, None, Ok, Err}
 use Rattle.text.specs.declared.DecimalFault.TheVariants.{NotNumber, Over}
 use mathlib.Core.Path.{◌≡◌, refl, sym, ap, ◌∙◌}
-use mathlib.Core.Bool.{true, false}
+use mathlib.Core.Bool.{Bool, true, false, not, cond}
 use mathlib.Core.List.{List, [], ◌∷◌}
-use Prim.Native.Nat.{ℕ, suc, ◌+◌, ◌-◌, ◌*◌, ◌≤◌, ◌<◌}
+use Prim.Native.Nat.{ℕ, zero, suc, ◌+◌, ◌-◌, ◌*◌, ◌≤◌, ◌<◌}
 use native.Mathlib.Numerals.{add-one}
 use native.Mathlib.Nat.{le_refl}
 use native.Mathlib.Omega.{arith}
-use lib.Dec.{eqb}
+use lib.Dec.{eqb, ltb}
+use Rattle.std.specs.List.{position, position_or_len}
+use Rattle.std.specs.Option.{unwrap_or}
+use Rattle.ground.specs.Choice.{pick}
 use lib.ListN.{length, take, drop, get_or, length-drop, drop_of_length-le}
 use lib.Seq.{drop-cons, take_all}
-use borrow.Author.Tests.{eq-eqb, ne_eqb, eqb-true, lt-ltb, le-ltb}
+use borrow.Author.Tests.{eqb-true, lt-ltb, le-ltb, ltb-true, ltb-false}
 use Rattle.text.specs.Digits.{value, is_word}
 use Rattle.text.specs.Decimal.{
   behind,
@@ -25,7 +28,7 @@ use Rattle.text.specs.Decimal.{
   five_digits,
   decimal_word,
 }
-use Rattle.text.proofs.Choices.{picked}
+use Rattle.text.proofs.Choices.{picked, never}
 
 -- more digits make no number smaller
 pub behind_grows : (n : ℕ) (w : List ℕ) → n ≤ behind n w
@@ -61,32 +64,49 @@ module _ (w : List ℕ) where
   unfolding decimal_read
   number t n h e = simp (t, e, le-ltb _ _ h)
 
--- a last digit stays, whatever it is
-lone_digit : (c : ℕ) → trimmed (c ∷ []) ≡ c ∷ []
+-- the steps of `zeros`: the place of the first digit that is not 0, and the last digit where there is none
+abbrev pub not_zero : ℕ → Bool
+not_zero c = not (eqb c zero_digit)
+
+drop_zero : (c : ℕ) (w : List ℕ) (n m : ℕ) (test : Bool) → m ≡ suc n → drop n w ≡ stripped w
+    → drop (cond (not (not test)) m 0) (c ∷ w) ≡ pick test (stripped w) (c ∷ w)
+drop_zero c w n m true f e = rw f e
+drop_zero c w n m false f e = refl
+
+drop_zeros : (w : List ℕ) → drop (position_or_len not_zero w) w ≡ stripped w
 unfolding stripped
-lone_digit c =
-    picked (λ (w : List ℕ). or_zero w ≡ c ∷ []) (eqb c zero_digit)
-    (λ t. ap (λ (d : ℕ). d ∷ []) (sym (eqb-true c zero_digit t))) (λ t. refl)
+drop_zeros [] = refl
+drop_zeros (c ∷ w) =
+    let n : ℕ = position_or_len not_zero w in
+    drop_zero c w n (1 + n) (eqb c zero_digit) (omega arith) (drop_zeros w)
 
--- the steps of `zeros`
-module _ (w : List ℕ) (i : ℕ) where
-  pub zero_on : i < length w → get_or w i 0 ≡ zero_digit → stripped (drop i w) ≡ stripped (drop (i + 1) w)
-  unfolding stripped
-  zero_on h e = rw (add-one, drop-cons w i 0 h) (simp (eq-eqb _ _ e))
+last_digit : (w : List ℕ) (n : ℕ) → length w ≡ suc n → stripped w ≡ [] → drop n w ≡ zero_digit ∷ []
+unfolding stripped
+last_digit [] n h e = absurd (omega arith)
+last_digit (c ∷ []) zero h e =
+    picked (λ (l : List ℕ). l ≡ [] → c ∷ [] ≡ zero_digit ∷ []) (eqb c zero_digit)
+    (λ t f. ap (λ (d : ℕ). d ∷ []) (eqb-true c zero_digit t)) (λ t f. never (cc)) e
+last_digit (c ∷ (d ∷ w)) zero h e = absurd (omega arith)
+last_digit (c ∷ w) (suc n) h e =
+    picked (λ (l : List ℕ). l ≡ [] → drop n w ≡ zero_digit ∷ []) (eqb c zero_digit)
+    (λ t f. last_digit w n (omega arith) f) (λ t f. never (cc)) e
 
-  pub zeros_end : i < length w → (get_or w i 0 ≡ zero_digit → ⊥) → stripped (drop i w) ≡ stripped w
-      → drop i w ≡ trimmed w
-  unfolding stripped
-  zeros_end h n e =
-      let kept : or_zero (stripped (drop i w)) ≡ drop i w = rw (drop-cons w i 0 h) (simp (ne_eqb _ _ n)) in
-      sym (ap or_zero (sym e) ∙ kept)
+module _ (w : List ℕ) (some : 0 < length w) where
+  abbrev Zeros : ℕ → Type 0
+  Zeros n = (n < length w) × (drop n w ≡ trimmed w)
 
-  pub last_digit : i < length w → length w ≤ i + 1 → stripped (drop i w) ≡ stripped w → drop i w ≡ trimmed w
-  unfolding stripped
-  last_digit h l e =
-      let none : drop (suc i) w ≡ [] = drop_of_length-le w {i = suc i} (omega arith) in
-      let lone : drop i w ≡ get_or w i 0 ∷ [] = drop-cons w i 0 h ∙ ap (λ (l : List ℕ). get_or w i 0 ∷ l) none in
-      lone ∙ sym (ap or_zero (sym e ∙ ap stripped lone) ∙ lone_digit (get_or w i 0))
+  zeros_if : (p : ℕ) (test : Bool) → ltb p (length w) ≡ test → drop p w ≡ stripped w
+      → Zeros (unwrap_or (cond test (Some p) None) (length w - 1))
+  zeros_if p true t e =
+      let h : p < length w = ltb-true p (length w) t in
+      let kept : or_zero (drop p w) ≡ drop p w = rw (drop-cons w p 0 h) refl in
+      (h, sym kept ∙ ap or_zero e)
+  zeros_if p false t e =
+      let none : stripped w ≡ [] = sym e ∙ drop_of_length-le w {i = p} (ltb-false p (length w) t) in
+      (omega arith, last_digit w (length w - 1) (omega arith) none ∙ sym (ap or_zero none))
+
+  pub zeros_from : (r : Option ℕ) → r ≡ position not_zero w → Zeros (unwrap_or r (length w - 1))
+  zeros_from r e = rw e (zeros_if (position_or_len not_zero w) _ refl (drop_zeros w))
 
 -- the five digits without the zeros in front, as `write_decimal` takes them
 pub five_word : (n zeros : ℕ) (five : List ℕ) → five ≡ five_digits n → drop zeros five ≡ trimmed five

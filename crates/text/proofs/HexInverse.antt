@@ -116,11 +116,11 @@ written_read w room n after h =
 -- ---- the theorems
 
 pub hex_back : HexBack
-hex_back bytes room other n text r after b h l f k =
+hex_back bytes room other n text r after b h f k =
     let w = read_written bytes other b f in
-    let g : ReadsHex (hex_word bytes) other r after = rw (stands (hex_word bytes) room n text h l) at k in
+    let g : ReadsHex (hex_word bytes) other r after = rw (stands (hex_word bytes) room n text h) at k in
     (g.says ∙ sym w.says, g.holds ∙ sym w.holds)
 
 pub hex_again : HexAgain
-hex_again word room other n after m text h k l = stands (hex_word (take n after)) other m text k l
+hex_again word room other n after m text h k = stands (hex_word (take n after)) other m text k
     ∙ written_read word room n after h

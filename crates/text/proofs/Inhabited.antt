@@ -1,6 +1,6 @@
 -- The premises of the inverse can be met: each theorem, applied to two calls. `AF` is 65, 70; `af` is 97, 102; `007` is
 -- 48, 48, 55.
-use Rattle.std.specs.Prelude.{Result, Ok}
+use Rattle.std.specs.Prelude.{Result, Ok, Some}
 use Rattle.text.specs.declared.HexFault.{HexFault}
 use mathlib.Core.Path.{◌≡◌, refl}
 use mathlib.Core.List.{List, [], ◌∷◌, ◌++◌, map}
@@ -36,7 +36,7 @@ is_byte : EachByte byte
 is_byte zero = omega arith
 is_byte (suc i) = omega arith
 
-writes : Writes (hex_word byte) room 2 text
+writes : Writes (hex_word byte) room (Some 2) text
 unfolding hex_word pairs glyph
 writes = record { says = refl; holds = refl }
 
@@ -45,7 +45,7 @@ unfolding hex_read is_dash digits bytes_of value
 reads = record { says = refl; holds = refl }
 
 byte_back : (◌≡◌ {A = Result ℕ HexFault} (Ok 1) (Ok (length byte))) × (after ≡ byte ++ drop (length byte) other)
-byte_back = hex_back byte room other 2 text (Ok 1) after is_byte writes (omega arith) (omega arith) reads
+byte_back = hex_back byte room other 2 text (Ok 1) after is_byte writes (omega arith) reads
 
 -- the same byte, from `AF`
 abbrev upper : List ℕ
@@ -56,18 +56,18 @@ unfolding hex_read is_dash digits bytes_of value
 reads_upper = record { says = refl; holds = refl }
 
 word_again : take 2 text ≡ map lower upper
-word_again = hex_again upper other room 1 after 2 text reads_upper writes (omega arith)
+word_again = hex_again upper other room 1 after 2 text reads_upper writes
 
 -- the number 7, and `007`
 abbrev seven : List ℕ
 seven = 55 ∷ (2 ∷ (3 ∷ []))
 
-writes_seven : Writes (decimal_word 7) room 1 seven
+writes_seven : Writes (decimal_word 7) room (Some 1) seven
 unfolding stripped five_digits glyph
 writes_seven = record { says = refl; holds = refl }
 
 seven_back : decimal_read (take 1 seven) ≡ Ok 7
-seven_back = decimal_back 7 room 1 seven (omega arith) writes_seven (omega arith)
+seven_back = decimal_back 7 room 1 seven (omega arith) writes_seven
 
 abbrev zeros : List ℕ
 zeros = 48 ∷ (48 ∷ (55 ∷ []))
@@ -77,4 +77,4 @@ unfolding decimal_read digits behind value
 reads_zeros = refl
 
 seven_again : take 1 seven ≡ trimmed zeros
-seven_again = decimal_again zeros 7 room 1 seven reads_zeros writes_seven (omega arith)
+seven_again = decimal_again zeros 7 room 1 seven reads_zeros writes_seven

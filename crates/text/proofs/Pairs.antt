@@ -59,18 +59,15 @@ byte_next w room now i h l b r e p q =
     (ap₂ (λ (x y : ℕ). x * 16 + y) p q ∙ sym (byte_at w i b))
 
 -- two digits more are written
-pub pair_next : (bs room now : List ℕ) (i : ℕ) (two : List ℕ) → i < length bs → length bs * 2 ≤ length room
+pub pair_next : (bs room now : List ℕ) (i h l : ℕ) → i < length bs → length bs * 2 ≤ length room
     → now ≡ begun (pairs bs) room (i * 2)
-    → two ≡ glyph (get_or bs i 0 / 16) ∷ (glyph (get_or bs i 0 % 16) ∷ [])
-    → set (set now (i * 2) (get_or two 0 0)) (i * 2 + 1) (get_or two 1 0) ≡ begun (pairs bs) room ((i + 1) * 2)
-pair_next bs room now i two b r e p =
+    → h ≡ glyph (get_or bs i 0 / 16) → l ≡ glyph (get_or bs i 0 % 16)
+    → set (set now (i * 2) h) (i * 2 + 1) l ≡ begun (pairs bs) room ((i + 1) * 2)
+pair_next bs room now i h l b r e p q =
     let long = pairs_long bs in
-    let high = next (pairs bs) room (i * 2) now (get_or two 0 0) (omega arith) (omega arith) e
-    (rw p (sym (high_at bs i b))) in
+    let high = next (pairs bs) room (i * 2) now h (omega arith) (omega arith) e (p ∙ sym (high_at bs i b)) in
     let on : i * 2 + 1 + 1 ≡ (i + 1) * 2 = omega arith in
-    next (pairs bs) room (i * 2 + 1) (set now (i * 2) (get_or two 0 0)) (get_or two 1 0) (omega arith) (omega arith)
-    high
-    (rw p (sym (low_at bs i b)))
+    next (pairs bs) room (i * 2 + 1) (set now (i * 2) h) l (omega arith) (omega arith) high (q ∙ sym (low_at bs i b))
     ∙ ap (begun (pairs bs) room) on
 
 -- the word of bytes, where there are none, and where there are

@@ -3,29 +3,24 @@ use Rattle.std.specs.Prelude.{Result, Ok, Err, ℕ}
 use Rattle.text.specs.declared.HexFault.TheVariants.{NotHex, Odd, Over}
 use Rattle.text.specs.declared.HexFault.{HexFault}
 use mathlib.Core.Path.{◌≡◌, refl, sym, ap, ◌∙◌}
+use Rattle.std.proofs.Math.Bool.{and-true, and-false}
 use mathlib.Core.Bool.{true, false, false≢true}
 use mathlib.Core.List.{List, [], ◌∷◌, ◌++◌}
 use Prim.Native.Nat.{ℕ, ◌%◌, ◌/◌, ◌≤◌, ◌<◌}
-use native.Mathlib.Omega.{arith}
 use lib.Dec.{eqb}
-use lib.ListN.{length, drop, get_or}
+use lib.Pointwise.{pointwise}
+use lib.ListN.{length, drop}
 use borrow.Author.Tests.{eq-eqb, ne_eqb, lt-ltb, le-ltb}
 use Rattle.text.specs.Digits.{is_word}
 use Rattle.text.specs.Hex.{dash, is_dash, bytes_of, hex_read, hex_room, ReadsHex}
 use Rattle.text.proofs.Pairs.{bytes_long}
 
--- the steps of `is_dash`
-pub not_one : (w : List ℕ) → (length w ≡ 1 → ⊥) → false ≡ is_dash w
+-- what `is_dash` tests
+pub one_dash : (w : List ℕ) → pointwise eqb w (dash ∷ []) ≡ is_dash w
 unfolding is_dash
-not_one [] h = refl
-not_one (c ∷ []) h = absurd (h refl)
-not_one (c ∷ (d ∷ w)) h = refl
-
-pub one_character : (w : List ℕ) → length w ≡ 1 → eqb (get_or w 0 0) dash ≡ is_dash w
-unfolding is_dash
-one_character [] h = absurd (omega arith)
-one_character (c ∷ []) h = refl
-one_character (c ∷ (d ∷ w)) h = absurd (omega arith)
+one_dash [] = refl
+one_dash (c ∷ []) = and-true (eqb c dash)
+one_dash (c ∷ (d ∷ w)) = and-false (eqb c dash)
 
 -- `-` has no bytes
 dash_bytes : (w : List ℕ) → is_dash w ≡ true → bytes_of w ≡ []

@@ -11,23 +11,25 @@ use lib.ListN.{length, take, drop, get_or, set}
 use lib.Seq.{paste-suc, take-length, take_at}
 use borrow.Author.Tests.{le-leb, lt-leb}
 use Rattle.ground.specs.Choice.{pick}
+use Rattle.std.specs.Prelude.{Option, Some, None}
 use Rattle.text.specs.Room.{Writes}
+use Rattle.text.proofs.Choices.{never}
 
 module _ (word room : List ℕ) where
-  pub short : length room < length word → Writes word room 0 room
+  pub short : length room < length word → Writes word room None room
   short h =
       let t = lt-leb (length word) (length room) h in
       record {
-        says = ap (λ (b : Bool). pick b (length word) 0) (sym t);
+        says = ap (λ (b : Bool). pick b (Some (length word)) None) (sym t);
         holds = ap (λ (b : Bool). pick b (word ++ drop (length word) room) room) (sym t);
       }
 
   pub wrote : (n : ℕ) (after : List ℕ) → length word ≤ length room → n ≡ length word
-      → after ≡ word ++ drop (length word) room → Writes word room n after
+      → after ≡ word ++ drop (length word) room → Writes word room (Some n) after
   wrote n after h e f =
       let t = le-leb (length word) (length room) h in
       record {
-        says = e ∙ ap (λ (b : Bool). pick b (length word) 0) (sym t);
+        says = ap Some e ∙ ap (λ (b : Bool). pick b (Some (length word)) None) (sym t);
         holds = f ∙ ap (λ (b : Bool). pick b (word ++ drop (length word) room) room) (sym t);
       }
 
@@ -43,16 +45,17 @@ module _ (word room : List ℕ) where
   ended n e = rw (e, take-length)
 
 -- the same word, by another name
-pub as_word : (word other room : List ℕ) (n : ℕ) (after : List ℕ) → word ≡ other → Writes word room n after
+pub as_word : (word other room : List ℕ) (n : Option ℕ) (after : List ℕ) → word ≡ other → Writes word room n after
     → Writes other room n after
 as_word word other room n after e h = rw e at h
 
--- an answer that is not 0: the word stands in the room's first characters
+-- an answer: the word stands in the room's first characters
 module _ (word room : List ℕ) (n : ℕ) (after : List ℕ) where
-  stands_if : (b : Bool) → n ≡ pick b (length word) 0 → after ≡ pick b (word ++ drop (length word) room) room → 0 < n
-      → take n after ≡ word
-  stands_if true e f h = ap (take n) f ∙ take_at word (drop (length word) room) n (sym e)
-  stands_if false e f h = absurd (omega arith)
+  stands_if : (b : Bool) → Some n ≡ pick b (Some (length word)) None
+      → after ≡ pick b (word ++ drop (length word) room) room → take n after ≡ word
+  stands_if true e f = let same : n ≡ length word = cc in
+      ap (take n) f ∙ take_at word (drop (length word) room) n (sym same)
+  stands_if false e f = never (cc)
 
-  pub stands : Writes word room n after → 0 < n → take n after ≡ word
+  pub stands : Writes word room (Some n) after → take n after ≡ word
   stands w = stands_if (leb (length word) (length room)) w.says w.holds

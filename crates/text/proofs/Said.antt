@@ -1,6 +1,7 @@
 -- What the claims of specs/Inverse take a call to say is its contract, as the checker reads it from the source.
 use mathlib.Core.Path.{◌≡◌, refl}
 use Prim.Native.Nat.{ℕ}
+use Rattle.std.specs.Prelude.{Option}
 use contract.Lifetimes.{Lfts}
 use borrow.Fn.Kinds.{Dens, res_t, ended_of}
 use denote.Triple.Clauses.{AtExit}
@@ -21,7 +22,7 @@ module _ (κs : Lfts 2) (a : Dens κs read-hex-kinds.ps) (r : (res_t read-hex-ki
   pub read_hex_says : read-hex.Post κs a r s ≡ ReadsHex a.0.now a.1.0.now r s.1.0.now
   read_hex_says = refl
 
-module _ (κs : Lfts 2) (a : Dens κs write-hex-kinds.ps) (n : ℕ)
+module _ (κs : Lfts 2) (a : Dens κs write-hex-kinds.ps) (n : Option ℕ)
     (s : AtExit (ended_of 2 write-hex-kinds.ps write-hex-kinds.r) κs) where
   pub write_hex_says : write-hex.Post κs a n s ≡ Writes (hex_word a.0.now) a.1.0.now n s.1.0.now
   write_hex_says = refl
@@ -31,7 +32,7 @@ module _ (κs : Lfts 1) (a : Dens κs read-decimal-kinds.ps) (r : (res_t read-de
   pub read_decimal_says : read-decimal.Post κs a r s ≡ (r ≡ decimal_read a.0.now)
   read_decimal_says = refl
 
-module _ (κs : Lfts 1) (a : Dens κs write-decimal-kinds.ps) (n : ℕ)
+module _ (κs : Lfts 1) (a : Dens κs write-decimal-kinds.ps) (n : Option ℕ)
     (s : AtExit (ended_of 1 write-decimal-kinds.ps write-decimal-kinds.r) κs) where
   pub write_decimal_says : write-decimal.Post κs a n s ≡ Writes (decimal_word a.0) a.1.0.now n s.1.0.now
   write_decimal_says = refl

@@ -1,17 +1,16 @@
 // The steps of decimal.
-ghost use Rattle.std.specs.Prelude.{◌≡◌, ◌+◌, ◌*◌, ◌%◌, ◌<◌, ◌≤◌, length, drop};
+ghost use Rattle.std.specs.Prelude.{◌≡◌, ◌+◌, ◌*◌, ◌%◌, ◌^◌, ◌<◌, ◌≤◌, length, drop, SomeIff};
 ghost use Rattle.text.specs.Decimal.{five_digits, trimmed};
 ghost use Rattle.text.specs.Digits.{value as Digits·value, glyph as Digits·glyph};
 
 use crate::digits::{glyph, value};
 
-// A number with one digit more behind it.
-pub(crate) fn behind(n: u32, c: u8) -> u32
-    requires { n ≤ 65535 }
-    ensures { result ≡ n * 10 + Digits·value c }
+// A number with one digit more behind it, where it has 16 bits.
+pub(crate) fn behind(n: u16, c: u8) -> Option<u16>
+    requires { Digits·value c < 16 }
+    ensures { SomeIff result (n * 10 + Digits·value c < 2 ^ 16) (n * 10 + Digits·value c) }
 {
-    let v = value(c);
-    n * 10 + v as u32
+    n.checked_mul(10)?.checked_add(u16::from(value(c)))
 }
 
 // The last digit of a number.
@@ -41,12 +40,5 @@ pub(crate) fn zeros(digits: &[u8]) -> usize
         × (drop result digits.now ≡ trimmed digits.now) }
 {
     let last = digits.len() - 1;
-    let mut i = 0;
-    while i < last {
-        if digits[i] != b'0' {
-            return i;
-        }
-        i += 1;
-    }
-    i
+    digits.iter().position(|d| *d != b'0').unwrap_or(last)
 }

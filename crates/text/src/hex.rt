@@ -9,10 +9,7 @@ use crate::digits::{glyph, value};
 pub(crate) fn is_dash(word: &[u8]) -> bool
     ensures { result ≡ is_dash word.now }
 {
-    if word.len() != 1 {
-        return false;
-    }
-    word[0] == b'-'
+    word == b"-".as_slice()
 }
 
 // The bytes of a word of hex digits over the first of a room.
@@ -21,21 +18,11 @@ pub(crate) fn read_pairs(word: &[u8], room: &mut [u8])
     ensures { room.new ≡ bytes_of word.now ++ drop (length (bytes_of word.now))
         room.old }
 {
-    let n = word.len() / 2;
-    let mut i = 0;
-    while i < n {
+    for i in 0..word.len() / 2 {
         let high = value(word[i * 2]);
         let low = value(word[i * 2 + 1]);
         room[i] = high * 16 + low;
-        i += 1;
     }
-}
-
-// The two digits of a byte.
-fn pair(b: u8) -> [u8; 2]
-    ensures { result ≡ Digits·glyph (b / 16) ∷ (Digits·glyph (b % 16) ∷ []) }
-{
-    [glyph(b / 16), glyph(b % 16)]
 }
 
 // Two digits for each byte over the first characters of a room.
@@ -44,11 +31,10 @@ pub(crate) fn write_pairs(bytes: &[u8], room: &mut [u8])
     ensures { room.new ≡ pairs bytes.now ++ drop (length (pairs bytes.now))
         room.old }
 {
-    let mut i = 0;
-    while i < bytes.len() {
-        let two = pair(bytes[i]);
-        room[i * 2] = two[0];
-        room[i * 2 + 1] = two[1];
-        i += 1;
+    for i in 0..bytes.len() {
+        let high = glyph(bytes[i] / 16);
+        let low = glyph(bytes[i] % 16);
+        room[i * 2] = high;
+        room[i * 2 + 1] = low;
     }
 }

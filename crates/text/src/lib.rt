@@ -50,21 +50,21 @@ pub fn read_hex(word: &[u8], room: &mut [u8]) -> Result<usize, HexFault>
 }
 
 /// Writes bytes as hex digits in lower case over the first characters of a room, `-` for no bytes, and answers how many
-/// characters. Where the room is shorter, the answer is 0 and no byte changes.
+/// characters. Where the room is shorter, the answer is `None` and no byte changes.
 ///
 /// Ruled out: a byte's low digit before its high one; a part of the digits written where there is no room for all.
-pub fn write_hex(bytes: &[u8], room: &mut [u8]) -> usize
+pub fn write_hex(bytes: &[u8], room: &mut [u8]) -> Option<usize>
     ensures { Writes (hex_word bytes.now) room.old result room.new }
 {
-    let n = bytes.len();
-    if n == 0 {
+    if bytes.is_empty() {
         return write(b"-", room);
     }
+    let n = bytes.len();
     if room.len() / 2 < n {
-        return 0;
+        return None;
     }
     hex::write_pairs(bytes, room);
-    n * 2
+    Some(n * 2)
 }
 
 /// Reads a word of decimal digits, with or without zeros in front.
@@ -76,23 +76,21 @@ pub fn read_decimal(word: &[u8]) -> Result<u16, DecimalFault>
     if !digits::is_word(word, 10) {
         return Err(DecimalFault::NotNumber);
     }
-    let mut n: u32 = 0;
-    let mut i = 0;
-    while i < word.len() {
-        n = decimal::behind(n, word[i]);
-        if 65535 < n {
+    let mut n = 0;
+    for c in word {
+        let Some(longer) = decimal::behind(n, *c) else {
             return Err(DecimalFault::Over);
-        }
-        i += 1;
+        };
+        n = longer;
     }
-    Ok(n as u16)
+    Ok(n)
 }
 
 /// Writes a number in the fewest decimal digits over the first characters of a room, and answers how many. Where the
-/// room is shorter, the answer is 0 and no byte changes.
+/// room is shorter, the answer is `None` and no byte changes.
 ///
 /// Ruled out: zeros in front; 0 written as no digits.
-pub fn write_decimal(number: u16, room: &mut [u8]) -> usize
+pub fn write_decimal(number: u16, room: &mut [u8]) -> Option<usize>
     ensures { Writes (decimal_word number) room.old result room.new }
 {
     let digits = decimal::five(number);
@@ -101,13 +99,13 @@ pub fn write_decimal(number: u16, room: &mut [u8]) -> usize
 }
 
 // A word over the first characters of a room, where it has as many.
-fn write(word: &[u8], room: &mut [u8]) -> usize
+fn write(word: &[u8], room: &mut [u8]) -> Option<usize>
     ensures { Writes word.now room.old result room.new }
 {
-    if room.len() < word.len() {
-        return 0;
-    }
     let n = word.len();
+    if room.len() < n {
+        return None;
+    }
     room[..n].copy_from_slice(word);
-    n
+    Some(n)
 }

@@ -1,23 +1,17 @@
-use mathlib.Core.Path.{refl, sym, ◌∙◌}
-use Rattle.text.proofs.Words.{digit_on, no_word, word}
+-- `digits::is_word` meets its contract.
+use mathlib.Core.Path.{sym, ◌∙◌}
+use Prim.Native.Nat.{ℕ}
+use lib.Dec.{ltb}
 use borrow.Author.Rules.{rules}
+use borrow.Author.Tests.{tests, eqb-false}
+use Rattle.std.proofs.lemmas.Iterator.{YieldsList-from_slice}
+use Rattle.std.proofs.lemmas.Iterator.Search.{all_from_yields_List}
+use Rattle.text.specs.Digits.{value}
+use Rattle.text.proofs.Words.{word}
 use Rattle.text.proofs.digits.is_word.Goals as goal
 
-pub loop-i-init : goal.loop-i-init
-loop-i-init c = (search rules, refl)
-
-pub returns-then-value-base : goal.returns-then-value-base
-returns-then-value-base c = let a = c.args in
-    no_word a.base a.word.now c.loop-i.i c.loop-i.invariant.1 (search rules)
-    (rw c.value.ensures at c.if-value-base.true)
-
-pub loop-i-preserved : goal.loop-i-preserved
-loop-i-preserved c = let a = c.args in (
-  search rules,
-  sym (digit_on a.base a.word.now c.loop-i.i (search rules)
-      (rw c.value.ensures at c.if-value-base.false)) ∙ c.loop-i.invariant.1,
-)
-
-pub returns : goal.returns
-returns c = let a = c.args in
-    word a.base a.word.now c.loop-i.i c.loop-i.invariant.1 (search rules)
+pub returns-then-not-is_empty : goal.returns-then-not-is_empty
+returns-then-not-is_empty c = let a = c.args in
+    word a.base a.word.now c.all.result (eqb-false _ _ (sym c.is_empty.ensures ∙ c.if-not-is_empty.true))
+    (all_from_yields_List (λ (x : ℕ). ltb (value x) a.base) _ _ _ c.all.ensures.ran
+    (YieldsList-from_slice a.word.now cc) (λ x b q k. search (rules, tests)))

@@ -1,10 +1,10 @@
 -- `hex::is_dash` meets its contract.
-use Rattle.text.proofs.Readings.{not_one, one_character}
-use borrow.Author.Rules.{rules}
+use mathlib.Core.Path.{ap, ◌∙◌}
+use lib.Dec.{eqb}
+use lib.Pointwise.{pointwise}
+use Rattle.text.proofs.Readings.{one_dash}
 use Rattle.text.proofs.hex.is_dash.Goals as goal
 
-pub returns-then-word-ne1 : goal.returns-then-word-ne1
-returns-then-word-ne1 c = not_one _ c.if-word-ne1.true
-
 pub returns : goal.returns
-returns c = one_character _ (search rules)
+returns c = let word = c.args.word.now in
+    c.eq.ensures ∙ ap (pointwise eqb word) c.as_slice.ensures ∙ one_dash word
