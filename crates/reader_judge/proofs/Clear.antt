@@ -1,5 +1,6 @@
 -- A TAM2 reply: its parts as the code takes them, and its data in the clear.
 use Rattle.std.specs.Prelude.{Result, Some, None}
+use Rattle.std.specs.Result.{IsOk}
 use Rattle.modes.specs.declared.ChainingFault.{ChainingFault}
 use mathlib.Core.Path.{◌≡◌, refl, sym, ap, ap₂, ◌∙◌}
 use mathlib.Core.Bool.{Bool, true, false}
@@ -115,6 +116,18 @@ module _ (keys : Keys) (mode : ProtMode) (f : Tam2) (reply : List ℕ)
         (enough (length part) (length room) whole small)
         ∙ ap (λ (d : List ℕ). over d room) (ap₂ (λ (x y : List ℕ). cbc_dec_aes_inv x keys.enc y)
         (v ∙ first_block_is reply (omega arith)) sent ∙ opens)
+
+    -- that call answers Ok: the data are whole blocks, and the room has them
+    pub opened_taken : (iv after : List ℕ) (answer : Result Unit ChainingFault)
+        → Into (chains (length (take (16 + r - 16) (drop 16 reply))) (length room))
+        (cbc_dec_aes_inv iv keys.enc (take (16 + r - 16) (drop 16 reply))) room answer after
+        → IsOk answer
+    opened_taken iv after answer i =
+        let part = take (16 + r - 16) (drop 16 reply) in
+        let l : length part ≡ length (data_sent f reply) = ap length sent in
+        let whole : length part % 16 ≡ 0 = omega (arith, sent_whole) in
+        let small : length part ≤ length room = omega (arith, sent_long) in
+        rw (i.says, enough (length part) (length room) whole small)
 
     pub opened_plain : (front : List ℕ) → encrypts mode ≡ false → front ≡ take (16 + r - 16) (drop 16 reply)
         → front ++ drop (16 + r - 16) room ≡ over (opened_data keys mode f reply) room
