@@ -154,7 +154,7 @@ pub fn mam1(keys: &[u8], message: &[u8], draws: [u8; 10]) -> Challenged
         return unchallenged(fault);
     }
     let found = keytable::find(keys, f.keyid);
-    let key = found.key;
+    let key = found.unwrap_or(keytable::no_key());
     let reply = replies::mam1_reply(key, f, draws);
     let c = f.ichallenge;
     Challenged {
@@ -178,7 +178,7 @@ pub fn iam2(keys: &[u8], held: Session, message: &[u8]) -> Reacted
 {
     let f = iam2_of(message);
     let found = keytable::find(keys, held.keyid);
-    let key = found.key;
+    let key = found.unwrap_or(keytable::no_key());
     let enc = key.enc;
     let iresponse = f.iresponse;
     let b = aes::encrypt(enc, iresponse);
@@ -199,7 +199,7 @@ pub fn mam2(keys: &[u8], held: Session, message: &[u8]) -> Reacted
 {
     let f = mam2_of(message);
     let found = keytable::find(keys, held.keyid);
-    let key = found.key;
+    let key = found.unwrap_or(keytable::no_key());
     let enc = key.enc;
     let iresponse = f.iresponse;
     let b = aes::encrypt(enc, iresponse);
@@ -228,7 +228,7 @@ pub fn iam3(
         identity.old user.old result identity.new user.new }
 {
     let found = keytable::find(keys, held.keyid);
-    let key = found.key;
+    let key = found.unwrap_or(keytable::no_key());
     let verdict = judged::iam3_fields(terms, key, message);
     if let Err(fault) = verdict {
         return refused(fault);

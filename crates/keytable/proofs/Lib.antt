@@ -1,4 +1,3 @@
-pub mod Search
-pub mod Answers
 pub mod Named
+mod Records
 pub mod Unique

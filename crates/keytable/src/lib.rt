@@ -1,30 +1,15 @@
 // The key table of a tag, lent as it stands in its sheet: key records one after the other, found by KeyID in place.
 #![tactic(auto)]
 
-ghost use Rattle.std.specs.Prelude.{◌≡◌, length};
+ghost use Rattle.std.specs.Prelude.{◌≡◌, length, is_some, unwrap_or};
 ghost use Rattle.sheet.specs.Kinds.{body_length};
 ghost use Rattle.sheet.specs.Records.{key_of};
 ghost use Rattle.sheet.specs.KeyTable.{keys_in};
 ghost use Rattle.sheet.specs.declared.Kind.TheVariants.{KeyRecord};
 ghost use Rattle.keytable.specs.Named.{no_key, has_key, key_with};
-ghost use Rattle.keytable.specs.Places.{place_of};
 
 use octets::{bytes_at, word_at};
-use sheet::{KEY_BODY, KEY_RECORD, Key};
-
-/// The record of a KeyID: whether there is one, and the record, all zero where there is none.
-#[derive(Clone, Copy)]
-pub struct Found {
-    pub present: bool,
-    pub key: Key,
-}
-
-// Where a record starts.
-#[derive(Clone, Copy)]
-enum Place {
-    At(usize),
-    Nowhere,
-}
+use sheet::{KEY_RECORD, Key};
 
 // What the body of a record says.
 fn key_of(b: &[u8]) -> Key
@@ -42,7 +27,10 @@ fn key_of(b: &[u8]) -> Key
     }
 }
 
-fn no_key() -> Key
+/// What stands for a record that is not there: the KeyID 0, no right to any profile, and keys of zeros.
+///
+/// Ruled out: a right to profile 0; a record that has a MAC key.
+pub fn no_key() -> Key
     ensures { result ≡ no_key }
 {
     Key {
@@ -54,60 +42,18 @@ fn no_key() -> Key
     }
 }
 
-// Where the first record of the KeyID starts: one byte of each record is looked at, four records a turn and then what
-// is left one by one. (A turn for each record takes twice the time.)
-fn locate(keys: &[u8], keyid: u8) -> Place
-    ensures { result ≡ place_of keyid keys.now }
-{
-    let mut at = 0;
-    let mut left = keys.len() / KEY_RECORD;
-    while 4 <= left {
-        let second = at + KEY_RECORD;
-        let third = second + KEY_RECORD;
-        let fourth = third + KEY_RECORD;
-        if keys[at + 1] == keyid {
-            return Place::At(at);
-        }
-        if keys[second + 1] == keyid {
-            return Place::At(second);
-        }
-        if keys[third + 1] == keyid {
-            return Place::At(third);
-        }
-        if keys[fourth + 1] == keyid {
-            return Place::At(fourth);
-        }
-        at = fourth + KEY_RECORD;
-        left -= 4;
-    }
-    while 0 < left {
-        if keys[at + 1] == keyid {
-            return Place::At(at);
-        }
-        at += KEY_RECORD;
-        left -= 1;
-    }
-    Place::Nowhere
-}
-
-/// The first whole record that has the KeyID. Any bytes are a key table.
+/// The first whole record that has the KeyID, where there is one. Any bytes are a key table.
 ///
 /// Ruled out: a last record that is never found; the bytes behind the last whole record taken for one; a record's MAC
 /// key given for its ENC key.
-pub fn find(keys: &[u8], keyid: u8) -> Found
-    ensures { (result.present ≡ has_key keyid (keys_in keys.now))
-        × (result.key ≡ key_with keyid (keys_in keys.now)) }
+pub fn find(keys: &[u8], keyid: u8) -> Option<Key>
+    ensures { (is_some result ≡ has_key keyid (keys_in keys.now))
+        × (unwrap_or result no_key ≡ key_with keyid (keys_in keys.now)) }
 {
-    match locate(keys, keyid) {
-        Place::At(at) => {
-            let a = at + 1;
-            let e = a + KEY_BODY;
-            let key = key_of(&keys[a..e]);
-            Found { present: true, key }
+    for record in keys.chunks_exact(KEY_RECORD) {
+        if record[1] == keyid {
+            return Some(key_of(&record[1..]));
         }
-        Place::Nowhere => Found {
-            present: false,
-            key: no_key(),
-        },
     }
+    None
 }

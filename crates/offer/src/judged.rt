@@ -46,7 +46,7 @@ pub fn opening(keys: &[u8], kind: Kind, rfu: u8, keyid: u8, m: &[u8]) -> Result<
         return Err(TagFault::NotSupported);
     }
     let found = keytable::find(keys, keyid);
-    if found.present {
+    if found.is_some() {
         return Ok(());
     }
     Err(TagFault::NotSupported)

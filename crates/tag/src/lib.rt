@@ -46,7 +46,7 @@ fn known(keys: &[u8], keyid: u8) -> bool
     ensures { result ≡ has_key keyid (keys_in keys.now) }
 {
     let found = keytable::find(keys, keyid);
-    found.present
+    found.is_some()
 }
 
 /// Does a record have the KeyID that is held, where a challenge waits for its answer? Of a tag from power-up on it does

@@ -47,11 +47,9 @@ fn tam2_fields(terms: Terms, keys: &[u8], f: Tam2) -> Result<(), TagFault>
     if f.rfu != 0 {
         return Err(TagFault::NotSupported);
     }
-    let found = keytable::find(keys, f.keyid);
-    if !found.present {
+    let Some(key) = keytable::find(keys, f.keyid) else {
         return Err(TagFault::NotSupported);
-    }
-    let key = found.key;
+    };
     let profiles = terms.profiles;
     let slot = records::slot(profiles, custom.profile);
     tam2_block(features, key, f, slot, records::block_asked(slot, custom))

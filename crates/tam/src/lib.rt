@@ -47,7 +47,7 @@ pub fn tam1(keys: &[u8], message: &[u8], draws: [u8; 10]) -> Given
         return refused(fault);
     }
     let found = keytable::find(keys, f.keyid);
-    let key = found.key;
+    let key = found.unwrap_or(keytable::no_key());
     let block = replies::tam1_reply(key, f, draws);
     let mut reply = [0u8; REPLY_ROOM];
     reply[..16].copy_from_slice(&block);
@@ -78,7 +78,7 @@ pub fn tam2<'a>(
     }
     let f = tam2_of(message);
     let found = keytable::find(keys, f.keyid);
-    let key = found.key;
+    let key = found.unwrap_or(keytable::no_key());
     let custom = f.custom;
     let profiles = terms.profiles;
     let words = memory::window(identity, user, records::words_asked(profiles, custom));

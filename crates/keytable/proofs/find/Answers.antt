@@ -1,27 +1,22 @@
 -- `keytable::find` meets its contract.
+use mathlib.Core.Path.{◌∙◌}
 use native.Mathlib.Omega.{arith}
-use Rattle.keytable.proofs.Answers.{found_whole, found, missing}
+use Rattle.keytable.proofs.Records.{found, further, missing}
 use Rattle.keytable.proofs.find.Goals as goal
 
-pub overflow_add-a : goal.overflow_add-a
-overflow_add-a c =
-    let h = found_whole c.args.keyid c.args.keys.now _ c.locate.ensures _ c.in-At.is in
-    omega arith
+pub returns-then-record-keyid : goal.returns-then-record-keyid
+returns-then-record-keyid c =
+    let i = c.loop-record.invariant in
+    let s = c.in-Some.ensures.steps.1 in
+    found _ _ _ _ _ s.0 (s.1 ∙ i.2) i.3 _ c.if-record-keyid.true c.key_of.ensures
 
-pub overflow_add-e : goal.overflow_add-e
-overflow_add-e c =
-    let h = found_whole c.args.keyid c.args.keys.now _ c.locate.ensures _ c.in-At.is in
-    omega arith
+pub loop-record-preserved : goal.loop-record-preserved
+loop-record-preserved c =
+    let i = c.loop-record.invariant in
+    let s = c.in-Some.ensures.steps in
+    (omega arith, tt, s.0 ∙ i.2, further _ _ _ _ _ s.1.0 (s.1.1 ∙ i.2) i.3 c.if-record-keyid.false)
 
-pub slice_bounds-key_of-end : goal.slice_bounds-key_of-end
-slice_bounds-key_of-end c =
-    let h = found_whole c.args.keyid c.args.keys.now _ c.locate.ensures _ c.in-At.is in
-    omega arith
-
-pub returns-in-At : goal.returns-in-At
-returns-in-At c =
-    found c.args.keyid c.args.keys.now _ c.locate.ensures _ _ c.in-At.is c.key_of-key.ensures
-
-pub returns-in-Nowhere : goal.returns-in-Nowhere
-returns-in-Nowhere c =
-    missing c.args.keyid c.args.keys.now _ c.locate.ensures _ c.in-Nowhere.is c.no_key.ensures
+pub returns : goal.returns
+returns c =
+    let i = c.loop-record.invariant in
+    missing _ _ _ (omega (arith, c.in-None.ensures.steps)) i.3
