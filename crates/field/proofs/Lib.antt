@@ -1,5 +1,6 @@
 pub mod Table
 pub mod Fill
+pub mod Made
 pub mod Sum
 pub mod Product
 pub mod Inverses

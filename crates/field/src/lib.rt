@@ -39,19 +39,7 @@ pub fn sbox_table() -> [u8; 256]
 pub fn substitute(table: &[u8; 256], s: [u8; 16]) -> [u8; 16]
     ensures { result ≡ substituted table.now s }
 {
-    let mut r = [0u8; 16];
-    let mut i = 0;
-    while i < 16 {
-        r[i] = entry(table, s[i]);
-        i += 1;
-    }
-    r
-}
-
-fn entry(table: &[u8; 256], b: u8) -> u8
-    ensures { result ≡ get_or table.now b 0 }
-{
-    table[b as usize]
+    std::array::from_fn(|i: usize| table[s[i] as usize])
 }
 
 // The exclusive or of two blocks: AddRoundKey (5.1.4), and the chaining of the modes.
@@ -59,13 +47,7 @@ fn entry(table: &[u8; 256], b: u8) -> u8
 pub fn xor(a: [u8; 16], b: [u8; 16]) -> [u8; 16]
     ensures { result ≡ xor a b }
 {
-    let mut r = [0u8; 16];
-    let mut i = 0;
-    while i < 16 {
-        r[i] = a[i] ^ b[i];
-        i += 1;
-    }
-    r
+    std::array::from_fn(|i: usize| a[i] ^ b[i])
 }
 
 // The first sixteen bytes of s, and 0 where s ends before.
