@@ -10,10 +10,12 @@ use borrow.Author.Tests.{leb-false}
 use Rattle.sheet.specs.Limits.{profile_limit, lock_limit}
 use Rattle.sheet.specs.Kinds.{kind_of, body_length}
 use Rattle.sheet.specs.Judgement.{too_many, opened_of, refused, record_of, judged_of}
+use Rattle.sheet.specs.PaperNumbers.{keeps_rule}
 use Rattle.sheet.specs.declared.Kind.{Kind}
-use Rattle.sheet.specs.declared.Kind.TheVariants.{KeyRecord, ProfileRecord, LockRecord}
+use Rattle.sheet.specs.declared.Kind.TheVariants.{FeatureRecord, SizeRecord, KeyRecord, ProfileRecord}
+use Rattle.sheet.specs.declared.Kind.TheVariants.{LockRecord, EndRecord, NoRecord}
 use Rattle.sheet.specs.declared.SheetFault.{SheetFault}
-use Rattle.sheet.specs.declared.SheetFault.TheVariants.{Cut}
+use Rattle.sheet.specs.declared.SheetFault.TheVariants.{Cut, Value}
 use Rattle.sheet.specs.declared.Gathered.{Gathered}
 use Rattle.sheet.specs.declared.Judged.{Judged}
 use Rattle.sheet.proofs.Openings.{passed}
@@ -31,6 +33,17 @@ module _ (limit : ℕ) (q : Kind) (k : Gathered) where
   pub lock_room : q ≡ LockRecord → too_many limit q k ≡ false → k.terms.locks.count < lock_limit
   unfolding too_many
   lock_room e h = leb-false _ _ (rw e at h)
+
+-- 33
+pub rule_broken : (q : Kind) (b : List ℕ) (k : Gathered) → keeps_rule q b k ≡ false → refused Value k ≡ record_of q b k
+unfolding record_of
+rule_broken FeatureRecord b k h = rw h
+rule_broken SizeRecord b k h = rw h
+rule_broken KeyRecord b k h = rw h
+rule_broken ProfileRecord b k h = rw h
+rule_broken LockRecord b k h = rw h
+rule_broken EndRecord b k h = let z : ◌≡◌ {A = ℕ} 0 1 = cc in absurd (omega arith)
+rule_broken NoRecord b k h = let z : ◌≡◌ {A = ℕ} 0 1 = cc in absurd (omega arith)
 
 pub judged_none : (limit : ℕ) (r : List ℕ) (k : Gathered) → length r ≡ 0 → refused Cut k ≡ judged_of limit r k
 unfolding judged_of

@@ -1,4 +1,3 @@
-pub mod Numbers
 pub mod Openings
 pub mod Rules
 pub mod Judgements

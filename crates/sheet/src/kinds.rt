@@ -9,42 +9,25 @@ use crate::{
     PROFILE_LIMIT, SIZE_BODY, SheetFault,
 };
 
+#[tactic(auto, unfolding(crate::specs::Kinds::kind_of))]
 pub(crate) fn kind_of(b: u8) -> Kind
     ensures { result ≡ kind_of b }
 {
-    if b == 1 {
-        return Kind::FeatureRecord;
+    match b {
+        1 => Kind::FeatureRecord,
+        2 => Kind::SizeRecord,
+        3 => Kind::KeyRecord,
+        4 => Kind::ProfileRecord,
+        5 => Kind::LockRecord,
+        6 => Kind::EndRecord,
+        _ => Kind::NoRecord,
     }
-    if b == 2 {
-        return Kind::SizeRecord;
-    }
-    if b == 3 {
-        return Kind::KeyRecord;
-    }
-    if b == 4 {
-        return Kind::ProfileRecord;
-    }
-    if b == 5 {
-        return Kind::LockRecord;
-    }
-    if b == 6 {
-        return Kind::EndRecord;
-    }
-    Kind::NoRecord
 }
 
 fn is_unknown(k: Kind) -> bool
     ensures { result ≡ is_unknown k }
 {
-    match k {
-        Kind::FeatureRecord => false,
-        Kind::SizeRecord => false,
-        Kind::KeyRecord => false,
-        Kind::ProfileRecord => false,
-        Kind::LockRecord => false,
-        Kind::EndRecord => false,
-        Kind::NoRecord => true,
-    }
+    matches!(k, Kind::NoRecord)
 }
 
 pub(crate) fn body_length(k: Kind) -> usize
@@ -56,44 +39,35 @@ pub(crate) fn body_length(k: Kind) -> usize
         Kind::KeyRecord => KEY_BODY,
         Kind::ProfileRecord => PROFILE_BODY,
         Kind::LockRecord => LOCK_BODY,
-        Kind::EndRecord => 0,
-        Kind::NoRecord => 0,
+        Kind::EndRecord | Kind::NoRecord => 0,
     }
 }
 
+#[tactic(auto, unfolding(crate::specs::Kinds::in_order))]
 fn in_order(last: u8, b: u8) -> bool
     ensures { result ≡ in_order last b }
 {
-    if last == 0 {
-        return b == 1;
+    match last {
+        0 => b == 1,
+        1 => b == 2,
+        _ => 3 <= b && last <= b,
     }
-    if last == 1 {
-        return b == 2;
-    }
-    if b < 3 {
-        return false;
-    }
-    last <= b
 }
 
+#[tactic(auto, unfolding(crate::specs::Judgement::too_many, crate::specs::Limits::key_limit, crate::specs::Limits::profile_limit, crate::specs::Limits::lock_limit))]
 fn too_many(q: Kind, gathered: Gathered) -> bool
     ensures { result ≡ too_many key_limit q gathered }
 {
-    let keys = gathered.marks.keys;
-    let profiles = gathered.marks.profiles;
-    let locks = gathered.terms.locks.count;
     match q {
-        Kind::FeatureRecord => false,
-        Kind::SizeRecord => false,
-        Kind::KeyRecord => KEY_LIMIT <= keys,
-        Kind::ProfileRecord => PROFILE_LIMIT <= profiles,
-        Kind::LockRecord => LOCK_LIMIT <= locks,
-        Kind::EndRecord => false,
-        Kind::NoRecord => false,
+        Kind::KeyRecord => KEY_LIMIT <= gathered.marks.keys,
+        Kind::ProfileRecord => PROFILE_LIMIT <= gathered.marks.profiles,
+        Kind::LockRecord => LOCK_LIMIT <= gathered.terms.locks.count,
+        Kind::FeatureRecord | Kind::SizeRecord | Kind::EndRecord | Kind::NoRecord => false,
     }
 }
 
 // The four checks before the body's values, in the paper's order.
+#[tactic(auto, unfolding(crate::specs::Judgement::opened_of))]
 pub(crate) fn opening(b: u8, left: usize, gathered: Gathered) -> Result<(), SheetFault>
     ensures { result ≡ opened_of key_limit b left gathered }
 {
@@ -101,8 +75,7 @@ pub(crate) fn opening(b: u8, left: usize, gathered: Gathered) -> Result<(), Shee
     if is_unknown(q) {
         return Err(SheetFault::Unknown);
     }
-    let last = gathered.marks.last;
-    if !in_order(last, b) {
+    if !in_order(gathered.marks.last, b) {
         return Err(SheetFault::Order);
     }
     if too_many(q, gathered) {

@@ -200,10 +200,10 @@ impl From<SheetFault> for u8 {
 /// What is gathered before the first record.
 ///
 /// Ruled out: a start that takes 02 first; one that counts a key.
+#[tactic(auto, unfolding(crate::specs::Setups::nothing_gathered, crate::specs::Setups::no_marks))]
 pub fn start() -> Gathered
     ensures { result ≡ nothing_gathered }
 {
-    let terms = blank::empty();
     Gathered {
         marks: Marks {
             last: 0,
@@ -214,7 +214,7 @@ pub fn start() -> Gathered
             area: 0,
             word: 0,
         },
-        terms,
+        terms: blank::empty(),
     }
 }
 
@@ -227,18 +227,11 @@ pub fn judge(rest: &[u8], gathered: Gathered) -> Judged
     ensures finding_value { finding_number result.finding ≡ judged_number key_limit rest.now gathered }
 {
     if rest.len() == 0 {
-        return Judged {
-            finding: Err(SheetFault::Cut),
-            gathered,
-        };
+        return records::refused(SheetFault::Cut, gathered);
     }
     let b = rest[0];
-    let left = rest.len() - 1;
-    match kinds::opening(b, left, gathered) {
-        Err(f) => Judged {
-            finding: Err(f),
-            gathered,
-        },
+    match kinds::opening(b, rest.len() - 1, gathered) {
+        Err(fault) => records::refused(fault, gathered),
         Ok(()) => {
             let q = kinds::kind_of(b);
             let e = 1 + kinds::body_length(q);

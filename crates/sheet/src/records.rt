@@ -1,132 +1,138 @@
 // A record of each kind, whole and in order: refused for its values, or taken into what is gathered.
 ghost use Rattle.std.specs.Prelude.{◌≡◌, false, ◌<◌, length};
+ghost use Rattle.ground.specs.Bytes.{byte_at};
 ghost use Rattle.sheet.specs.Limits.{key_limit, profile_limit, lock_limit};
 ghost use Rattle.sheet.specs.Kinds.{body_length};
-ghost use Rattle.sheet.specs.Judgement.{too_many, record_of};
+ghost use Rattle.sheet.specs.Judgement.{too_many, refused, taken, record_of};
+ghost use Rattle.sheet.specs.Judgement.{with_features, with_sizes, with_key, with_profile, with_lock};
+ghost use Rattle.sheet.specs.PaperNumbers.{keeps_rule};
 
-use crate::{
-    FEATURE_RECORD, Finding, Gathered, Judged, KEY_RECORD, Kind, LOCK_RECORD, PROFILE_RECORD,
-    SIZE_RECORD, SheetFault, bodies,
-};
+use crate::kinds::body_length;
+use crate::{Finding, Gathered, Judged, Kind, Locks, Marks, SheetFault, Terms, bodies};
+use octets::{byte, word_at};
 
-fn feature_record(b: &[u8], gathered: Gathered) -> Judged
-    requires { length b.now ≡ body_length Kind.FeatureRecord }
-    ensures { result ≡ record_of Kind.FeatureRecord b.now gathered }
+// A record that is refused leaves what was gathered.
+pub(crate) fn refused(fault: SheetFault, gathered: Gathered) -> Judged
+    ensures { result ≡ refused fault gathered }
 {
-    if bodies::features_fit(b) {
-        let f = bodies::features_of(b);
-        let mut m = gathered.marks;
-        m.last = 1;
-        let mut t = gathered.terms;
-        t.features = f;
-        return Judged {
-            finding: Ok(Finding::Taken(FEATURE_RECORD)),
-            gathered: Gathered { marks: m, terms: t },
-        };
-    }
     Judged {
-        finding: Err(SheetFault::Value),
+        finding: Err(fault),
         gathered,
     }
 }
 
-fn size_record(b: &[u8], gathered: Gathered) -> Judged
-    requires { length b.now ≡ body_length Kind.SizeRecord }
-    ensures { result ≡ record_of Kind.SizeRecord b.now gathered }
+// One that is taken takes its kind byte and its body.
+fn taken(q: Kind, gathered: Gathered) -> Judged
+    ensures { result ≡ taken q gathered }
 {
-    if bodies::sizes_fit(b) {
-        let z = bodies::sizes_of(b);
-        let mut m = gathered.marks;
-        m.last = 2;
-        let mut t = gathered.terms;
-        t.sizes = z;
-        return Judged {
-            finding: Ok(Finding::Taken(SIZE_RECORD)),
-            gathered: Gathered { marks: m, terms: t },
-        };
-    }
     Judged {
-        finding: Err(SheetFault::Value),
+        finding: Ok(Finding::Taken(1 + body_length(q))),
         gathered,
     }
 }
 
-fn key_record(b: &[u8], gathered: Gathered) -> Judged
-    requires { (length b.now ≡ body_length Kind.KeyRecord) × (gathered.marks.keys < key_limit) }
-    ensures { result ≡ record_of Kind.KeyRecord b.now gathered }
+// Do the values of a body keep the rule of its kind?
+fn keeps_rule(q: Kind, b: &[u8], gathered: Gathered) -> bool
+    requires { length b.now ≡ body_length q }
+    ensures { result ≡ keeps_rule q b.now gathered }
 {
-    let id = gathered.marks.id;
-    if bodies::key_fits(b, id) {
-        let mut m = gathered.marks;
-        m.last = 3;
-        m.keys = m.keys + 1;
-        m.id = b[0] as u16 + 1;
-        let terms = gathered.terms;
-        return Judged {
-            finding: Ok(Finding::Taken(KEY_RECORD)),
-            gathered: Gathered { marks: m, terms },
-        };
-    }
-    Judged {
-        finding: Err(SheetFault::Value),
-        gathered,
+    let Gathered { marks, terms } = gathered;
+    match q {
+        Kind::FeatureRecord => bodies::features_fit(b),
+        Kind::SizeRecord => bodies::sizes_fit(b),
+        Kind::KeyRecord => bodies::key_fits(b, marks.id),
+        Kind::ProfileRecord => bodies::profile_fits(b, marks.number, terms.sizes),
+        Kind::LockRecord => bodies::lock_fits(b, marks.area, marks.word, terms.sizes),
+        Kind::EndRecord | Kind::NoRecord => true,
     }
 }
 
-fn profile_record(b: &[u8], gathered: Gathered) -> Judged
-    requires { (length b.now ≡ body_length Kind.ProfileRecord) × (gathered.marks.profiles < profile_limit) }
-    ensures { result ≡ record_of Kind.ProfileRecord b.now gathered }
+// What is gathered after a record of each kind.
+#[tactic(auto, unfolding(crate::specs::Judgement::with_features))]
+fn with_features(k: Gathered, b: &[u8]) -> Gathered
+    ensures { result ≡ with_features k b.now }
 {
-    let number = gathered.marks.number;
-    let z = gathered.terms.sizes;
-    if bodies::profile_fits(b, number, z) {
-        let p = bodies::slot_of(b);
-        let i = b[0];
-        let mut m = gathered.marks;
-        m.last = 4;
-        m.profiles = m.profiles + 1;
-        m.number = i + 1;
-        let mut t = gathered.terms;
-        let at = i as usize;
-        t.profiles[at] = p;
-        return Judged {
-            finding: Ok(Finding::Taken(PROFILE_RECORD)),
-            gathered: Gathered { marks: m, terms: t },
-        };
-    }
-    Judged {
-        finding: Err(SheetFault::Value),
-        gathered,
+    Gathered {
+        marks: Marks { last: 1, ..k.marks },
+        terms: Terms {
+            features: bodies::features_of(b),
+            ..k.terms
+        },
     }
 }
 
-fn lock_record(b: &[u8], gathered: Gathered) -> Judged
-    requires { (length b.now ≡ body_length Kind.LockRecord) × (gathered.terms.locks.count < lock_limit) }
-    ensures { result ≡ record_of Kind.LockRecord b.now gathered }
+#[tactic(auto, unfolding(crate::specs::Judgement::with_sizes))]
+fn with_sizes(k: Gathered, b: &[u8]) -> Gathered
+    ensures { result ≡ with_sizes k b.now }
 {
-    let area = gathered.marks.area;
-    let word = gathered.marks.word;
-    let z = gathered.terms.sizes;
-    if bodies::lock_fits(b, area, word, z) {
-        let l = bodies::lock_of(b);
-        let mut m = gathered.marks;
-        m.last = 5;
-        m.area = b[0];
-        m.word = bodies::long(octets::word_at(b, 1)) + bodies::long(octets::word_at(b, 3));
-        let mut ls = gathered.terms.locks;
-        let n = ls.count;
-        ls.table[n] = l;
-        ls.count = n + 1;
-        let mut t = gathered.terms;
-        t.locks = ls;
-        return Judged {
-            finding: Ok(Finding::Taken(LOCK_RECORD)),
-            gathered: Gathered { marks: m, terms: t },
-        };
+    Gathered {
+        marks: Marks { last: 2, ..k.marks },
+        terms: Terms {
+            sizes: bodies::sizes_of(b),
+            ..k.terms
+        },
     }
-    Judged {
-        finding: Err(SheetFault::Value),
-        gathered,
+}
+
+#[tactic(auto, unfolding(crate::specs::Judgement::with_key, crate::specs::Limits::key_limit))]
+fn with_key(k: Gathered, b: &[u8]) -> Gathered
+    requires { k.marks.keys < key_limit }
+    ensures { result ≡ with_key k b.now }
+{
+    Gathered {
+        marks: Marks {
+            last: 3,
+            keys: k.marks.keys + 1,
+            id: u16::from(byte(b, 0)) + 1,
+            ..k.marks
+        },
+        terms: k.terms,
+    }
+}
+
+#[tactic(auto, unfolding(crate::specs::Judgement::with_profile, crate::specs::Limits::profile_limit))]
+fn with_profile(k: Gathered, b: &[u8]) -> Gathered
+    requires { (k.marks.profiles < profile_limit) × (byte_at b.now 0 < profile_limit) }
+    ensures { result ≡ with_profile k b.now }
+{
+    let number = byte(b, 0);
+    let mut profiles = k.terms.profiles;
+    profiles[usize::from(number)] = bodies::slot_of(b);
+    Gathered {
+        marks: Marks {
+            last: 4,
+            profiles: k.marks.profiles + 1,
+            number: number + 1,
+            ..k.marks
+        },
+        terms: Terms {
+            profiles,
+            ..k.terms
+        },
+    }
+}
+
+#[tactic(auto, unfolding(crate::specs::Judgement::with_lock, crate::specs::Limits::lock_limit))]
+fn with_lock(k: Gathered, b: &[u8]) -> Gathered
+    requires { k.terms.locks.count < lock_limit }
+    ensures { result ≡ with_lock k b.now }
+{
+    let Locks { count, mut table } = k.terms.locks;
+    table[count] = bodies::lock_of(b);
+    Gathered {
+        marks: Marks {
+            last: 5,
+            area: byte(b, 0),
+            word: usize::from(word_at(b, 1)) + usize::from(word_at(b, 3)),
+            ..k.marks
+        },
+        terms: Terms {
+            locks: Locks {
+                count: count + 1,
+                table,
+            },
+            ..k.terms
+        },
     }
 }
 
@@ -135,19 +141,19 @@ pub(crate) fn judge_body(q: Kind, b: &[u8], gathered: Gathered) -> Judged
     requires { (length b.now ≡ body_length q) × (too_many key_limit q gathered ≡ false) }
     ensures { result ≡ record_of q b.now gathered }
 {
+    if !keeps_rule(q, b, gathered) {
+        return refused(SheetFault::Value, gathered);
+    }
     match q {
-        Kind::FeatureRecord => feature_record(b, gathered),
-        Kind::SizeRecord => size_record(b, gathered),
-        Kind::KeyRecord => key_record(b, gathered),
-        Kind::ProfileRecord => profile_record(b, gathered),
-        Kind::LockRecord => lock_record(b, gathered),
+        Kind::FeatureRecord => taken(q, with_features(gathered, b)),
+        Kind::SizeRecord => taken(q, with_sizes(gathered, b)),
+        Kind::KeyRecord => taken(q, with_key(gathered, b)),
+        Kind::ProfileRecord => taken(q, with_profile(gathered, b)),
+        Kind::LockRecord => taken(q, with_lock(gathered, b)),
         Kind::EndRecord => Judged {
             finding: Ok(Finding::Ended),
             gathered,
         },
-        Kind::NoRecord => Judged {
-            finding: Err(SheetFault::Unknown),
-            gathered,
-        },
+        Kind::NoRecord => refused(SheetFault::Unknown, gathered),
     }
 }

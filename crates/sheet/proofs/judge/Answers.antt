@@ -1,3 +1,4 @@
+use mathlib.Core.Path.{◌∙◌}
 use native.Mathlib.Omega.{arith}
 use Rattle.sheet.specs.Limits.{key_limit}
 use Rattle.sheet.proofs.Judgements.{judged_none, judged_shut, judged_open, body_fits, body_few, body_long}
@@ -6,9 +7,8 @@ use Rattle.sheet.proofs.judge.Goals as goal
 
 pub returns-then-rest-eq0 : goal.returns-then-rest-eq0
 returns-then-rest-eq0 c =
-    let told =
-    judge_told key_limit c.args.rest.now c.args.gathered _ (judged_none key_limit c.args.rest.now c.args.gathered
-    c.if-rest-eq0.true) in
+    let told = judge_told key_limit c.args.rest.now c.args.gathered _
+    (c.refused.ensures ∙ judged_none key_limit c.args.rest.now c.args.gathered c.if-rest-eq0.true) in
     record { value = told.0; finding_value = told.1 }
 
 pub overflow_add-e : goal.overflow_add-e
@@ -35,8 +35,8 @@ judge_body-requires c =
 pub returns-in-Err : goal.returns-in-Err
 returns-in-Err c =
     let told = judge_told key_limit c.args.rest.now c.args.gathered _
-    (judged_shut key_limit c.args.rest.now c.args.gathered _ _ c.if-rest-eq0.false c.opening.ensures
-    c.in-Err.is) in
+    (c.refused-in-Err.ensures ∙ judged_shut key_limit c.args.rest.now c.args.gathered _ _ c.if-rest-eq0.false
+    c.opening.ensures c.in-Err.is) in
     record { value = told.0; finding_value = told.1 }
 
 pub returns-in-Ok : goal.returns-in-Ok
