@@ -1,10 +1,10 @@
 -- Key records as they are written, one after the other, are a key table that says the same keys.
-use mathlib.Core.Path.{◌≡◌, refl, sym, ap, ap₂, ◌∙◌}
+use mathlib.Core.Path.{◌≡◌, refl, ap, ap₂, ◌∙◌}
 use mathlib.Core.List.{List, [], ◌∷◌, ◌++◌}
-use Prim.Native.Nat.{ℕ, ◌+◌, ◌*◌, ◌-◌, ◌/◌, ◌≤◌, ◌<◌}
+use Prim.Native.Nat.{ℕ, ◌+◌, ◌*◌}
 use native.Mathlib.Omega.{arith}
-use lib.ListN.{length, take, drop, length-append, length-drop, drop_of_length-le}
-use lib.Seq.{take_at, drop_at, take_all, take-nil}
+use lib.ListN.{length, take, length-append}
+use lib.Seq.{take_at, drop_at}
 use Rattle.sheet.specs.Kinds.{keys_at}
 use Rattle.sheet.specs.Records.{key_of}
 use Rattle.sheet.specs.KeyTable.{key_record, record_count, records_in, keys_in, key_table}
@@ -42,23 +42,3 @@ unfolding key_table
 table_back id ks o r w e =
     ap (take (key_record * length ks)) (drop_at o (keys_written ks ++ r) keys_at e)
     ∙ take_at (keys_written ks) r (key_record * length ks) (keys_length id ks w)
-
--- the three ways to the key table of a sheet: the sheet ends before it, or in it, or behind it
-module _ (s : List ℕ) (n : ℕ) where
-  pub table_none : length s < keys_at → [] ≡ key_table s n
-  unfolding key_table
-  table_none h = rw (drop_of_length-le s {i = keys_at} (omega arith)) (sym (take-nil (key_record * n)))
-
-  pub table_cut : keys_at ≤ length s → (length s - keys_at) / key_record < n
-      → take (length s - keys_at) (drop keys_at s) ≡ key_table s n
-  unfolding key_table
-  table_cut h l =
-      let long = length-drop keys_at s in
-      take_all (length s - keys_at) (drop keys_at s) (omega arith)
-      ∙ sym (take_all (key_record * n) (drop keys_at s) (omega arith))
-
-  pub table_whole : (e : ℕ) → e ≡ keys_at + key_record * n → take (e - keys_at) (drop keys_at s) ≡ key_table s n
-  unfolding key_table
-  table_whole e h =
-      let m : e - keys_at ≡ key_record * n = omega arith in
-      ap (λ (i : ℕ). take i (drop keys_at s)) m

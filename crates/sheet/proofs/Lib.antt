@@ -3,7 +3,6 @@ pub mod Rules
 pub mod Judgements
 pub mod Verdicts
 pub mod Walks
-pub mod AtPlaces
 pub mod Unique
 pub mod Bits
 pub mod Back

@@ -16,6 +16,7 @@ ghost use Rattle.sheet.specs.Judgement.{judged_of, finding_number, judged_number
 ghost use Rattle.sheet.specs.Sheet.{read_of, verdict_of, verdict_number, verdict_place, read_number, read_place};
 
 use memory::{Lock, Profile};
+use octets::{front, tail};
 
 // How many records there may be of the kinds 03, 04 and 05, and how many words an area may have.
 pub const KEY_LIMIT: usize = 16;
@@ -255,16 +256,9 @@ pub fn read(s: &[u8]) -> Result<Reading, SheetRefusal>
 /// is the sheet's key table.
 ///
 /// Ruled out: a table that starts with the size record; one that leaves the last record out.
+#[tactic(auto, unfolding(crate::specs::KeyTable::key_table))]
 pub fn key_table(sheet: &[u8], keys: usize) -> &[u8]
     ensures { result.now ≡ key_table sheet.now keys }
 {
-    let end = sheet.len();
-    if end < KEYS_AT {
-        return &sheet[0..0];
-    }
-    if (end - KEYS_AT) / KEY_RECORD < keys {
-        return &sheet[KEYS_AT..];
-    }
-    let e = KEYS_AT + KEY_RECORD * keys;
-    &sheet[KEYS_AT..e]
+    front(tail(sheet, KEYS_AT), keys.saturating_mul(KEY_RECORD))
 }

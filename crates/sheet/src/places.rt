@@ -5,6 +5,7 @@ ghost use Rattle.sheet.specs.Judgement.{judged_of, JudgedAs};
 ghost use Rattle.sheet.specs.Sheet.{read_from, ReadAs};
 
 use crate::{Finding, Gathered, Judged, Reading, SheetFault, SheetRefusal};
+use octets::tail;
 
 /// The record at a place, judged against what was gathered of those before it. Behind the sheet's end there is none: it
 /// is cut short.
@@ -14,10 +15,7 @@ use crate::{Finding, Gathered, Judged, Reading, SheetFault, SheetRefusal};
 pub fn judge_at(s: &[u8], at: usize, gathered: Gathered) -> Judged
     ensures { JudgedAs result (judged_of key_limit (drop at s.now) gathered) }
 {
-    if s.len() < at {
-        return crate::judge(&s[0..0], gathered);
-    }
-    crate::judge(&s[at..], gathered)
+    crate::judge(tail(s, at), gathered)
 }
 
 /// The records from a place on, against what was gathered of those before it: what the sheet says, or the first refusal
