@@ -1,5 +1,4 @@
 pub mod Lines
-pub mod Named
 pub mod Passed
 pub mod Bytes
 pub mod PaperNumbers

@@ -1,64 +1,65 @@
--- A line of checks, one after the other: one that holds is passed over, one that does not hold decides.
+-- A line of checks with the tag's refusals, Ok at its end: what ground says of any line. And what is settled by one.
 use Rattle.std.specs.Prelude.{Result, Ok, Err}
-use Prim.Native.Nat.{ℕ}
-use native.Mathlib.Omega.{arith}
-use mathlib.Core.Path.{◌≡◌, refl}
+use mathlib.Core.Path.{◌≡◌, refl, sym, ap, ◌∙◌}
 use mathlib.Core.Bool.{Bool, true, false}
 use mathlib.Core.List.{List, [], ◌∷◌, ◌++◌}
-use Rattle.ground.specs.Choice.{pick, both}
-use Rattle.offer.specs.declared.TagFault.{TagFault}
+use Rattle.ground.specs.Choice.{pick}
 use Rattle.ground.specs.Checks.{Check, ◌else◌, judged_to}
+use Rattle.ground.proofs.Checked as Checked
+use Rattle.offer.specs.declared.TagFault.{TagFault}
 use Rattle.offer.specs.Checks.{judged}
-
--- Of two tests together, the first says no, or the second decides.
-pub neither : {b : Bool} (d : Bool) → b ≡ false → both b d ≡ false
-neither d h = rw h
-
-pub second : {b d v : Bool} → b ≡ true → d ≡ v → both b d ≡ v
-second h e = rw h e
+use Rattle.offer.specs.Outcomes.{settled}
 
 module _ {b : Bool} (f : TagFault) (cs : List (Check TagFault)) where
-  pub passes : b ≡ true → {v : (Result Unit TagFault)} → v ≡ judged cs → v ≡ judged ((b else f) ∷ cs)
-  unfolding judged_to
-  passes h e = rw h e
+  pub passes : b ≡ true → {v : Result Unit TagFault} → v ≡ judged cs → v ≡ judged ((b else f) ∷ cs)
+  passes = Checked.passes Err (Ok tt) f cs
 
   pub fails : b ≡ false → Err f ≡ judged ((b else f) ∷ cs)
-  unfolding judged_to
-  fails h = rw h refl
+  fails = Checked.fails Err (Ok tt) f cs
 
-pub ends : (Ok tt) ≡ judged []
-unfolding judged_to
-ends = refl
+pub ends : Ok tt ≡ judged []
+ends = Checked.ends Err (Ok tt)
 
 -- Where all hold, each holds.
-held : (b : Bool) (f : TagFault) (v : Result Unit TagFault) → pick b v (Err f) ≡ Ok tt → (b ≡ true) × (v ≡ Ok tt)
-held true f v h = (refl, h)
-held false f v h = let z : ◌≡◌ {A = ℕ} 0 1 = cc in absurd (omega arith)
+never : (f : TagFault) → ◌≡◌ {A = Result Unit TagFault} (Err f) (Ok tt) → ⊥
+never f h = cc
 
 module _ (c : Check TagFault) (cs : List (Check TagFault)) where
   pub first_holds : judged (c ∷ cs) ≡ Ok tt → c.holds ≡ true
-  unfolding judged_to
-  first_holds h = (held c.holds c.otherwise (judged cs) h).0
+  first_holds = Checked.first_holds Err (Ok tt) (λ v. v ≡ Ok tt) never c cs
 
   pub others_hold : judged (c ∷ cs) ≡ Ok tt → judged cs ≡ Ok tt
+  others_hold = Checked.others_hold Err (Ok tt) (λ v. v ≡ Ok tt) never c cs
+
+-- What stands at the end of a line is given where the line is Ok.
+module _ {A : Type 0} (end : Result A TagFault) where
+  picked : (b : Bool) (f : TagFault) (v : Result Unit TagFault) {x : Result A TagFault} → x ≡ settled v end Err
+      → pick b x (Err f) ≡ settled (pick b v (Err f)) end Err
+  picked true f v h = h
+  picked false f v h = refl
+
+  pub settled_to : (cs : List (Check TagFault)) → judged_to Err cs end ≡ settled (judged cs) end Err
   unfolding judged_to
-  others_hold h = (held c.holds c.otherwise (judged cs) h).1
+  settled_to [] = refl
+  settled_to (c ∷ cs) = picked c.holds c.otherwise (judged cs) (settled_to cs)
 
 -- Two lines, one after the other.
-kept : (b : Bool) (g f : TagFault) (v w : Result Unit TagFault) → (v ≡ Err f → w ≡ Err f) → pick b v (Err g) ≡ Err f
-    → pick b w (Err g) ≡ Err f
-kept true g f v w k h = k h
-kept false g f v w k h = h
-
 module _ (ys : List (Check TagFault)) where
-  pub then_fine : (xs : List (Check TagFault)) → judged xs ≡ Ok tt → judged (xs ++ ys) ≡ judged ys
-  unfolding judged_to
-  then_fine [] h = refl
-  then_fine (c ∷ cs) h =
-      rw (held c.holds c.otherwise (judged cs) h).0
-      (then_fine cs (held c.holds c.otherwise (judged cs) h).1)
+  pub then_settled : (xs : List (Check TagFault)) → judged (xs ++ ys) ≡ settled (judged xs) (judged ys) Err
+  then_settled xs = Checked.joined Err (Ok tt) xs ys ∙ settled_to (judged ys) xs
 
-  pub then_wrong : (f : TagFault) (xs : List (Check TagFault)) → judged xs ≡ Err f → judged (xs ++ ys) ≡ Err f
-  unfolding judged_to
-  then_wrong f [] h = let z : ◌≡◌ {A = ℕ} 0 1 = cc in absurd (omega arith)
-  then_wrong f (c ∷ cs) h = kept c.holds c.otherwise f (judged cs) (judged (cs ++ ys)) (then_wrong f cs) h
+-- What is told of a result that a line settles.
+module _ {A : Type 0} (v : Result Unit TagFault) (x : A) where
+  pub was_wrong : (f : TagFault) → Err f ≡ settled v (Ok x) Err → v ≡ Err f
+  was_wrong f h = wrong v h
+    where
+      wrong : (w : Result Unit TagFault) → Err f ≡ settled w (Ok x) Err → w ≡ Err f
+      wrong (Ok tt) h = absurd cc
+      wrong (Err g) h = ap (λ (k : TagFault). Err k) cc
+
+  pub was_fine : (y : A) → Ok y ≡ settled v (Ok x) Err → (v ≡ Ok tt) × (y ≡ x)
+  was_fine y h = fine v h
+    where
+      fine : (w : Result Unit TagFault) → Ok y ≡ settled w (Ok x) Err → (w ≡ Ok tt) × (y ≡ x)
+      fine (Ok tt) h = (refl, cc)
+      fine (Err g) h = absurd cc

@@ -30,18 +30,22 @@ pub enum Answer {
 /// What a message comes to.
 pub type Outcome = Result<Answer, TagFault>;
 
-// The scope paper's number of a refusal.
-fn fault_number(fault: TagFault) -> u8
-    ensures { result ≡ number_of fault }
-{
-    match fault {
-        TagFault::OtherError => 1,
-        TagFault::NotSupported => 2,
-        TagFault::MemoryOverrun => 3,
-        TagFault::MemoryWriteError => 4,
-        TagFault::OutOfTurn => 5,
-        TagFault::ProofWrong => 6,
-        TagFault::BenchFault => 7,
+/// The scope paper's number of a refusal.
+///
+/// Ruled out: 2 for a wrong length; the numbers of the reader's side.
+impl From<TagFault> for u8 {
+    ghost from_gives = { λ fault n. n ≡ number_of fault };
+
+    fn from(fault: TagFault) -> u8 {
+        match fault {
+            TagFault::OtherError => 1,
+            TagFault::NotSupported => 2,
+            TagFault::MemoryOverrun => 3,
+            TagFault::MemoryWriteError => 4,
+            TagFault::OutOfTurn => 5,
+            TagFault::ProofWrong => 6,
+            TagFault::BenchFault => 7,
+        }
     }
 }
 
@@ -52,9 +56,8 @@ pub fn number(outcome: Outcome) -> u8
     ensures { result ≡ number_given outcome }
 {
     match outcome {
-        Ok(Answer::Replied(_)) => 0,
-        Ok(Answer::Entered(_)) => 0,
-        Err(fault) => fault_number(fault),
+        Ok(_) => 0,
+        Err(fault) => u8::from(fault),
     }
 }
 
@@ -66,7 +69,6 @@ pub fn reply_length(outcome: Outcome) -> usize
 {
     match outcome {
         Ok(Answer::Replied(n)) => n,
-        Ok(Answer::Entered(_)) => 0,
-        Err(_) => 0,
+        Ok(Answer::Entered(_)) | Err(_) => 0,
     }
 }

@@ -13,17 +13,15 @@ use sheet::{Features, Key, Slot};
 /// Whether the tag has the message's method, step and feature.
 ///
 /// Ruled out: IAM3 offered by the bit of IAM1 and IAM2; a message that is none of the seven offered.
+#[tactic(auto, unfolding(crate::specs::Records::offered))]
 pub fn offered(f: Features, kind: Kind) -> bool
     ensures { result ≡ offered f kind }
 {
     match kind {
-        Kind::Tam1 => true,
-        Kind::Tam2 => true,
-        Kind::Iam1 => f.iam,
-        Kind::Iam2 => f.iam,
+        Kind::Tam1 | Kind::Tam2 => true,
+        Kind::Iam1 | Kind::Iam2 => f.iam,
         Kind::Iam3 => f.iam3,
-        Kind::Mam1 => f.mam,
-        Kind::Mam2 => f.mam,
+        Kind::Mam1 | Kind::Mam2 => f.mam,
         Kind::Unsupported => false,
     }
 }
@@ -31,6 +29,7 @@ pub fn offered(f: Features, kind: Kind) -> bool
 /// Whether the tag has blocks of this size (9.4.5).
 ///
 /// Ruled out: 64-bit blocks refused; 16-bit blocks taken in every tag.
+#[tactic(auto, unfolding(crate::specs::Records::size_offered))]
 pub fn size_offered(f: Features, size: BlockSize) -> bool
     ensures { result ≡ size_offered f size }
 {
@@ -43,16 +42,15 @@ pub fn size_offered(f: Features, size: BlockSize) -> bool
 /// Whether the tag has this TAM2_Rev.
 ///
 /// Ruled out: the two revisions exchanged; Rev 1 taken in every tag.
+#[tactic(auto, unfolding(crate::specs::Records::rev_offered))]
 pub fn rev_offered(f: Features, rev: bool) -> bool
     ensures { result ≡ rev_offered f rev }
 {
-    if rev {
-        return f.rev1;
-    }
-    f.rev0
+    if rev { f.rev1 } else { f.rev0 }
 }
 
 // Whether the ProtMode is one of the sheet's.
+#[tactic(auto, unfolding(crate::specs::Records::mode_offered))]
 fn mode_offered(f: Features, mode: ProtMode) -> bool
     ensures { result ≡ mode_offered f mode }
 {
@@ -65,31 +63,25 @@ fn mode_offered(f: Features, mode: ProtMode) -> bool
 }
 
 // The same, and where it has a MAC there is a key for it.
+#[tactic(auto, unfolding(crate::specs::Records::mode_served))]
 fn mode_served(f: Features, key: Key, mode: ProtMode) -> bool
     ensures { result ≡ mode_served f key mode }
 {
-    if !mode_offered(f, mode) {
-        return false;
-    }
-    if has_mac(mode) {
-        return key.mac;
-    }
-    true
+    mode_offered(f, mode) && (!has_mac(mode) || key.mac)
 }
 
 /// Whether the ProtMode is offered, and the record has the key for its MAC (9.2).
 ///
 /// Ruled out: ProtMode 3 with a record that has no MAC key; ProtMode 4 taken for 0.
+#[tactic(auto, unfolding(crate::specs::Records::mode_supported))]
 pub fn mode_supported(f: Features, key: Key, protmode: u8) -> bool
     ensures { result ≡ mode_supported f key protmode }
 {
-    match prot_mode(protmode) {
-        Some(mode) => mode_served(f, key, mode),
-        None => false,
-    }
+    prot_mode(protmode).is_some_and(|mode| mode_served(f, key, mode))
 }
 
 // The slot that no record filled.
+#[tactic(auto, unfolding(sheet::specs::Setups::no_slot))]
 fn no_slot() -> Slot
     ensures { result ≡ no_slot }
 {
@@ -109,11 +101,7 @@ fn no_slot() -> Slot
 pub fn slot(profiles: [Slot; 16], profile: u8) -> Slot
     ensures { result ≡ get_or profiles profile no_slot }
 {
-    if 16 <= profile {
-        return no_slot();
-    }
-    let i = profile as usize;
-    profiles[i]
+    profiles.get(profile as usize).copied().unwrap_or(no_slot())
 }
 
 /// The words that a message asks for in its slot (9.2).
@@ -122,13 +110,13 @@ pub fn slot(profiles: [Slot; 16], profile: u8) -> Slot
 pub fn block_asked(slot: Slot, custom: Custom) -> Block
     ensures { result ≡ block_in slot.profile custom }
 {
-    let profile = slot.profile;
-    frames::sizes::block_asked(profile, custom)
+    frames::sizes::block_asked(slot.profile, custom)
 }
 
 /// The words that a message asks for in the profile of its number (9.2).
 ///
 /// Ruled out: the words of the next profile; an address that starts at the area and not at the profile.
+#[tactic(auto, unfolding(crate::specs::Records::block_asked, crate::specs::Records::slot_named))]
 pub fn words_asked(profiles: [Slot; 16], custom: Custom) -> Block
     ensures { result ≡ block_asked profiles custom }
 {

@@ -5,5 +5,4 @@ pub mod ReplyLayouts
 pub mod Tam2Asked
 pub mod Tam2Made
 pub mod Passed
-pub mod Giving
 pub mod Unique

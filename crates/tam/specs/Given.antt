@@ -1,5 +1,5 @@
 -- What TAM1 and TAM2 come to: what is judged of the message, and what is sent where nothing is refused.
-use Rattle.std.specs.Prelude.{ℕ, ◌≡◌, List, replicate, Result}
+use Rattle.std.specs.Prelude.{ℕ, List, length, replicate, Result}
 use Rattle.offer.specs.declared.TagFault.{TagFault}
 use Rattle.modes.specs.Room.{over}
 use Rattle.memory.specs.Areas.{window_of}
@@ -8,12 +8,11 @@ use Rattle.sheet.specs.Setups.{Setup}
 use Rattle.frames.specs.declared.Kind.TheVariants.{Tam1}
 use Rattle.frames.specs.Lengths.{reply_room}
 use Rattle.frames.specs.Messages.{tam1_of, tam2_of}
-use Rattle.offer.specs.Outcomes.{sending, sent}
 use Rattle.offer.specs.Checks.{judged}
 use Rattle.offer.specs.Judged.{opening_checks}
 use Rattle.keytable.specs.Named.{key_with}
 use Rattle.offer.specs.Records.{block_asked}
-use Rattle.tam.specs.declared.Given.{Given}
+use Rattle.tam.specs.declared.Reply.{Reply}
 use Rattle.tam.specs.Judged.{tam2_checks}
 use Rattle.tam.specs.Replies.{tam1_reply, tam2_reply}
 
@@ -34,7 +33,6 @@ tam2_sent setup m draws identity user =
     let words = window_of identity user (block_asked setup.profiles f.custom) in
     tam2_reply (key_with f.keyid setup.keys) f words draws
 
--- What is given: the outcome, and the bytes that are sent over zeros.
-pub record Gives (v : Result Unit TagFault) (bytes : List ℕ) (g : Given) : Type 0 where
-  pub outcome : g.outcome ≡ sending v bytes
-  pub reply : g.reply ≡ over (sent v bytes) (replicate reply_room 0)
+-- A reply in its room: the bytes that are sent, over zeros.
+abbrev pub reply_of : List ℕ → Reply
+reply_of bytes = record { room = over bytes (replicate reply_room 0); length = length bytes }

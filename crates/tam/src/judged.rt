@@ -1,7 +1,11 @@
 // The checks of TAM2 in their order, as 9.4.5 and the scope paper have them: the first that does not hold decides.
-ghost use Rattle.std.specs.Prelude.{◌≡◌};
+ghost use Rattle.std.specs.Prelude.{◌≡◌, Ok, Err};
 ghost use Rattle.sheet.specs.Setups.{setup_of};
+ghost use Rattle.sheet.specs.KeyTable.{keys_in};
+ghost use Rattle.keytable.specs.Named.{key_with};
 ghost use Rattle.offer.specs.Checks.{judged};
+ghost use Rattle.offer.specs.Outcomes.{settled};
+ghost use Rattle.frames.specs.Messages.{tam2_of};
 ghost use Rattle.tam.specs.Judged.{tam2_block_checks, tam2_field_checks, tam2_checks};
 
 use frames::fields::tam2_of;
@@ -12,53 +16,49 @@ use offer::{TagFault, records};
 use sheet::{Features, Key, Slot, Terms};
 
 // TAM2, the end of its line: profile, right, memory, ProtMode.
+#[tactic(auto, unfolding(ground::specs::Checks::judged_to))]
 fn tam2_block(features: Features, key: Key, f: Tam2, slot: Slot, block: Block) -> Result<(), TagFault>
     ensures { result ≡ judged (tam2_block_checks features key f slot block) }
 {
-    if !slot.present {
+    if !slot.present || !memory::permits(key.mpi, f.custom.profile) {
         return Err(TagFault::NotSupported);
     }
-    if !memory::permits(key.mpi, f.custom.profile) {
-        return Err(TagFault::NotSupported);
-    }
-    let profile = slot.profile;
-    if !memory::fits(profile, block) {
+    if !memory::fits(slot.profile, block) {
         return Err(TagFault::MemoryOverrun);
     }
-    if records::mode_supported(features, key, f.protmode) {
-        return Ok(());
+    if !records::mode_supported(features, key, f.protmode) {
+        return Err(TagFault::NotSupported);
     }
-    Err(TagFault::NotSupported)
+    Ok(())
 }
 
-// TAM2, all but the length: BlockSize, Rev, RFU, key, and the block.
-fn tam2_fields(terms: Terms, keys: &[u8], f: Tam2) -> Result<(), TagFault>
-    ensures { result ≡ judged (tam2_field_checks (setup_of terms keys.now) f) }
+// TAM2, all but the length: BlockSize, Rev, RFU, key, and the block. Where nothing is refused: the record that the
+// message named.
+#[tactic(
+    auto,
+    unfolding(ground::specs::Checks::judged_to, offer::specs::Records::slot_named, offer::specs::Records::block_asked)
+)]
+fn tam2_fields(terms: Terms, keys: &[u8], f: Tam2) -> Result<Key, TagFault>
+    ensures { result ≡ settled (judged (tam2_field_checks (setup_of terms keys.now) f))
+        (Ok (key_with f.keyid (keys_in keys.now))) Err }
 {
-    let custom = f.custom;
-    let size = custom.blocksize;
     let features = terms.features;
-    if !records::size_offered(features, size) {
+    if !records::size_offered(features, f.custom.blocksize) || !records::rev_offered(features, f.rev) || f.rfu != 0 {
         return Err(TagFault::NotSupported);
     }
-    if !records::rev_offered(features, f.rev) {
-        return Err(TagFault::NotSupported);
-    }
-    if f.rfu != 0 {
-        return Err(TagFault::NotSupported);
-    }
-    let Some(key) = keytable::find(keys, f.keyid) else {
-        return Err(TagFault::NotSupported);
-    };
-    let profiles = terms.profiles;
-    let slot = records::slot(profiles, custom.profile);
-    tam2_block(features, key, f, slot, records::block_asked(slot, custom))
+    let key = keytable::find(keys, f.keyid).ok_or(TagFault::NotSupported)?;
+    let slot = records::slot(terms.profiles, f.custom.profile);
+    tam2_block(features, key, f, slot, records::block_asked(slot, f.custom))?;
+    Ok(key)
 }
 
-// TAM2: length, BlockSize, Rev, RFU, key, profile, right, memory, ProtMode.
+// TAM2: length, BlockSize, Rev, RFU, key, profile, right, memory, ProtMode. Where nothing is refused: the record that
+// the message named.
 // Ruled out: a ProtMode told before a block past its profile; a record that may not use the profile.
-pub fn tam2(terms: Terms, keys: &[u8], m: &[u8]) -> Result<(), TagFault>
-    ensures { result ≡ judged (tam2_checks (setup_of terms keys.now) m.now) }
+#[tactic(auto, unfolding(crate::specs::Judged::tam2_checks, ground::specs::Checks::judged_to))]
+pub fn tam2(terms: Terms, keys: &[u8], m: &[u8]) -> Result<Key, TagFault>
+    ensures { result ≡ settled (judged (tam2_checks (setup_of terms keys.now) m.now))
+        (Ok (key_with (tam2_of m.now).keyid (keys_in keys.now))) Err }
 {
     if !length_fits(Kind::Tam2, m) {
         return Err(TagFault::OtherError);

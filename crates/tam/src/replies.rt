@@ -33,9 +33,7 @@ pub fn tam_block(
 pub fn tam1_reply(key: Key, m: Tam1, draws: [u8; 10]) -> [u8; 16]
     ensures { result ≡ tam1_reply key m draws }
 {
-    let enc = key.enc;
-    let ichallenge = m.ichallenge;
-    tam_block(enc, frames::constants::tam1_constant(), draws, ichallenge)
+    tam_block(key.enc, frames::constants::tam1_constant(), draws, m.ichallenge)
 }
 
 // The data as they are sent: chained to the block a, or as they are (Table 3).
@@ -46,9 +44,9 @@ fn body(enc: [u8; 16], mode: ProtMode, a: [u8; 16], p: &[u8], room: &mut [u8])
 {
     if encrypts(mode) {
         modes::cbc_enc_aes(a, enc, p, room).unwrap();
-        return;
+    } else {
+        room[..p.len()].copy_from_slice(p);
     }
-    room[..p.len()].copy_from_slice(p);
 }
 
 // The block a, and behind it the data as they are sent.
@@ -70,8 +68,7 @@ fn carried(rev: bool, custom: Custom, words: &[u8]) -> [u8; DATA_ROOM]
 {
     let mut whole = [0u8; DATA_MOST];
     whole[..words.len()].copy_from_slice(words);
-    let size = custom.blocksize;
-    let n = data_length(size, custom.blockcount);
+    let n = data_length(custom.blocksize, custom.blockcount);
     let mut p = [0u8; DATA_ROOM];
     payload::carried_into(rev, custom, &whole[..n], &mut p);
     p
@@ -92,18 +89,14 @@ fn tam2_in_mode(
     ensures { (result ≡ length (tam2_in_mode key m words.now draws mode))
         × (room.new ≡ over (tam2_in_mode key m words.now draws mode) room.old) }
 {
-    let enc = key.enc;
-    let mackey = key.mackey;
-    let ichallenge = m.ichallenge;
     let custom = m.custom;
-    let blocksize = custom.blocksize;
-    let n = frames::sizes::blocks_length(blocksize, m.rev, custom.blockcount);
+    let n = frames::sizes::blocks_length(custom.blocksize, m.rev, custom.blockcount);
     let p = carried(m.rev, custom, words);
     let constant = frames::constants::tam2_constant(m.rev, mode);
-    let a = tam_block(enc, constant, draws, ichallenge);
-    authenticated(enc, mode, a, &p[..n], &mut *room);
-    payload::mac_behind(mackey, mode, 16 + n, room);
-    frames::sizes::tam2_reply_length(blocksize, m.rev, custom.blockcount, mode)
+    let a = tam_block(key.enc, constant, draws, m.ichallenge);
+    authenticated(key.enc, mode, a, &p[..n], &mut *room);
+    payload::mac_behind(key.mackey, mode, 16 + n, room);
+    frames::sizes::tam2_reply_length(custom.blocksize, m.rev, custom.blockcount, mode)
 }
 
 /// The reply to TAM2 (9.4.6) into the first bytes of the room; its length.
