@@ -1,6 +1,6 @@
 -- A line of checks with the tag's refusals, Ok at its end: what ground says of any line. And what is settled by one.
 use Rattle.std.specs.Prelude.{Result, Ok, Err}
-use mathlib.Core.Path.{◌≡◌, refl, sym, ap, ◌∙◌}
+use mathlib.Core.Path.{◌≡◌, refl, ap, ◌∙◌}
 use mathlib.Core.Bool.{Bool, true, false}
 use mathlib.Core.List.{List, [], ◌∷◌, ◌++◌}
 use Rattle.ground.specs.Choice.{pick}

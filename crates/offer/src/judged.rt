@@ -18,7 +18,13 @@ const DRAWS: usize = 10;
 ///
 /// Ruled out: a room of exactly 172 bytes refused; an area measured in words.
 #[tactic(auto, unfolding(crate::specs::Judged::lending_checks, ground::specs::Checks::judged_to))]
-pub fn lending(sizes: Sizes, draws: usize, room: usize, identity: usize, user: usize) -> Result<(), TagFault>
+pub fn lending(
+    sizes: Sizes,
+    draws: usize,
+    room: usize,
+    identity: usize,
+    user: usize,
+) -> Result<(), TagFault>
     ensures { result ≡ judged (lending_checks sizes draws room identity user) }
 {
     if draws != DRAWS

@@ -17,7 +17,13 @@ use sheet::{Features, Key, Slot, Terms};
 
 // TAM2, the end of its line: profile, right, memory, ProtMode.
 #[tactic(auto, unfolding(ground::specs::Checks::judged_to))]
-fn tam2_block(features: Features, key: Key, f: Tam2, slot: Slot, block: Block) -> Result<(), TagFault>
+fn tam2_block(
+    features: Features,
+    key: Key,
+    f: Tam2,
+    slot: Slot,
+    block: Block,
+) -> Result<(), TagFault>
     ensures { result ≡ judged (tam2_block_checks features key f slot block) }
 {
     if !slot.present || !memory::permits(key.mpi, f.custom.profile) {
@@ -34,21 +40,27 @@ fn tam2_block(features: Features, key: Key, f: Tam2, slot: Slot, block: Block) -
 
 // TAM2, all but the length: BlockSize, Rev, RFU, key, and the block. Where nothing is refused: the record that the
 // message named.
-#[tactic(
-    auto,
-    unfolding(ground::specs::Checks::judged_to, offer::specs::Records::slot_named, offer::specs::Records::block_asked)
-)]
+#[tactic(auto, unfolding(ground::specs::Checks::judged_to, offer::specs::Records::slot_named))]
 fn tam2_fields(terms: Terms, keys: &[u8], f: Tam2) -> Result<Key, TagFault>
     ensures { result ≡ settled (judged (tam2_field_checks (setup_of terms keys.now) f))
         (Ok (key_with f.keyid (keys_in keys.now))) Err }
 {
     let features = terms.features;
-    if !records::size_offered(features, f.custom.blocksize) || !records::rev_offered(features, f.rev) || f.rfu != 0 {
+    if !records::size_offered(features, f.custom.blocksize)
+        || !records::rev_offered(features, f.rev)
+        || f.rfu != 0
+    {
         return Err(TagFault::NotSupported);
     }
     let key = keytable::find(keys, f.keyid).ok_or(TagFault::NotSupported)?;
     let slot = records::slot(terms.profiles, f.custom.profile);
-    tam2_block(features, key, f, slot, records::block_asked(slot, f.custom))?;
+    tam2_block(
+        features,
+        key,
+        f,
+        slot,
+        records::words_asked(terms.profiles, f.custom),
+    )?;
     Ok(key)
 }
 

@@ -52,7 +52,11 @@ pub fn tam2(
 {
     let key = judged::tam2(terms, keys, message)?;
     let f = tam2_of(message);
-    let words = memory::window(identity, user, records::words_asked(terms.profiles, f.custom));
+    let words = memory::window(
+        identity,
+        user,
+        records::words_asked(terms.profiles, f.custom),
+    );
     let mut room = [0u8; REPLY_ROOM];
     let length = replies::tam2_reply(key, f, words, draws, &mut room);
     Ok(Reply { room, length })

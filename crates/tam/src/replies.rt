@@ -33,7 +33,12 @@ pub fn tam_block(
 pub fn tam1_reply(key: Key, m: Tam1, draws: [u8; 10]) -> [u8; 16]
     ensures { result ≡ tam1_reply key m draws }
 {
-    tam_block(key.enc, frames::constants::tam1_constant(), draws, m.ichallenge)
+    tam_block(
+        key.enc,
+        frames::constants::tam1_constant(),
+        draws,
+        m.ichallenge,
+    )
 }
 
 // The data as they are sent: chained to the block a, or as they are (Table 3).
