@@ -2,7 +2,6 @@
 #![tactic(auto)]
 
 ghost use Rattle.std.specs.Prelude.{◌≡◌};
-ghost use Rattle.field.specs.Sbox.{sbox_table};
 ghost use Rattle.aes.specs.Cipher.{mixed, sub_bytes, shift_rows, mix_columns, add_round_key, cipher};
 ghost use Rattle.aes.specs.KeyExpansion.{key_expansion};
 ghost use Rattle.aes.specs.NextRoundKey.{next_round_key};
@@ -13,8 +12,7 @@ ghost use Rattle.aes.specs.AesEnc.{aes_enc};
 pub fn encrypt(key: [u8; 16], block: [u8; 16]) -> [u8; 16]
     ensures { result ≡ aes_enc key block }
 {
-    let table = field::sbox_table();
-    encipher(&table, expand(&table, key), block)
+    encipher(expand(key), block)
 }
 
 // KeyExpansion (5.2): the round keys of the rounds 0 to 10.
@@ -22,8 +20,7 @@ pub fn encrypt(key: [u8; 16], block: [u8; 16]) -> [u8; 16]
 pub fn key_expansion(key: [u8; 16]) -> [[u8; 16]; 11]
     ensures { result ≡ key_expansion key }
 {
-    let table = field::sbox_table();
-    expand(&table, key)
+    expand(key)
 }
 
 // MixColumns (5.1.3).
@@ -86,23 +83,20 @@ fn shift_rows(s: [u8; 16]) -> [u8; 16]
     t
 }
 
-// SubBytes, the S-box being in the table.
-fn sub_bytes(table: &[u8; 256], s: [u8; 16]) -> [u8; 16]
-    requires { table.now ≡ sbox_table }
+// SubBytes (5.1.1).
+fn sub_bytes(s: [u8; 16]) -> [u8; 16]
     ensures { result ≡ sub_bytes s }
 {
-    field::substitute(table, s)
+    field::substitute(field::sbox_table(), s)
 }
 
-fn round(table: &[u8; 256], s: [u8; 16], k: [u8; 16]) -> [u8; 16]
-    requires { table.now ≡ sbox_table }
+fn round(s: [u8; 16], k: [u8; 16]) -> [u8; 16]
     ensures { result ≡ add_round_key (mix_columns (shift_rows (sub_bytes s))) k }
 {
-    field::xor(mix_columns(shift_rows(sub_bytes(table, s))), k)
+    field::xor(mix_columns(shift_rows(sub_bytes(s))), k)
 }
 
-fn encipher(table: &[u8; 256], w: [[u8; 16]; 11], block: [u8; 16]) -> [u8; 16]
-    requires { table.now ≡ sbox_table }
+fn encipher(w: [[u8; 16]; 11], block: [u8; 16]) -> [u8; 16]
     ensures { result ≡ cipher w block }
 {
     let first = w[0];
@@ -111,36 +105,34 @@ fn encipher(table: &[u8; 256], w: [[u8; 16]; 11], block: [u8; 16]) -> [u8; 16]
     while i < 9 {
         i += 1;
         let k = w[i];
-        let t = round(table, s, k);
+        let t = round(s, k);
         s = t;
     }
     let last = w[10];
-    field::xor(shift_rows(sub_bytes(table, s)), last)
+    field::xor(shift_rows(sub_bytes(s)), last)
 }
 
-fn expand(table: &[u8; 256], key: [u8; 16]) -> [[u8; 16]; 11]
-    requires { table.now ≡ sbox_table }
+fn expand(key: [u8; 16]) -> [[u8; 16]; 11]
     ensures { result ≡ key_expansion key }
 {
-    let k1 = next_round_key(table, key, 0x01);
-    let k2 = next_round_key(table, k1, 0x02);
-    let k3 = next_round_key(table, k2, 0x04);
-    let k4 = next_round_key(table, k3, 0x08);
-    let k5 = next_round_key(table, k4, 0x10);
-    let k6 = next_round_key(table, k5, 0x20);
-    let k7 = next_round_key(table, k6, 0x40);
-    let k8 = next_round_key(table, k7, 0x80);
-    let k9 = next_round_key(table, k8, 0x1b);
-    let k10 = next_round_key(table, k9, 0x36);
+    let k1 = next_round_key(key, 0x01);
+    let k2 = next_round_key(k1, 0x02);
+    let k3 = next_round_key(k2, 0x04);
+    let k4 = next_round_key(k3, 0x08);
+    let k5 = next_round_key(k4, 0x10);
+    let k6 = next_round_key(k5, 0x20);
+    let k7 = next_round_key(k6, 0x40);
+    let k8 = next_round_key(k7, 0x80);
+    let k9 = next_round_key(k8, 0x1b);
+    let k10 = next_round_key(k9, 0x36);
     [key, k1, k2, k3, k4, k5, k6, k7, k8, k9, k10]
 }
 
 // The round key that follows k, at the round constant c.
-fn next_round_key(table: &[u8; 256], k: [u8; 16], c: u8) -> [u8; 16]
-    requires { table.now ≡ sbox_table }
+fn next_round_key(k: [u8; 16], c: u8) -> [u8; 16]
     ensures { result ≡ next_round_key c k }
 {
-    let s = sub_bytes(table, k);
+    let s = sub_bytes(k);
     let a0 = k[0] ^ (s[13] ^ c);
     let a1 = k[1] ^ s[14];
     let a2 = k[2] ^ s[15];

@@ -8,7 +8,7 @@ ghost use Rattle.aes_inverse.specs.InvSbox.{inv_sbox_table};
 ghost use Rattle.aes_inverse.specs.InvCipher.{inv_shift_rows, inv_sub_bytes, inv_mix_columns, inv_cipher};
 ghost use Rattle.aes_inverse.specs.AesDec.{aes_dec};
 
-const INVERSE_SBOX: [u8; 256] = *b"\
+static INVERSE_SBOX: [u8; 256] = *b"\
     \x52\x09\x6a\xd5\x30\x36\xa5\x38\xbf\x40\xa3\x9e\x81\xf3\xd7\xfb\
     \x7c\xe3\x39\x82\x9b\x2f\xff\x87\x34\x8e\x43\x44\xc4\xde\xe9\xcb\
     \x54\x7b\x94\x32\xa6\xc2\x23\x3d\xee\x4c\x95\x0b\x42\xfa\xc3\x4e\
@@ -31,14 +31,13 @@ const INVERSE_SBOX: [u8; 256] = *b"\
 pub fn decrypt(key: [u8; 16], block: [u8; 16]) -> [u8; 16]
     ensures { result ≡ aes_dec key block }
 {
-    let table = inverse_sbox_table();
-    decipher(&table, aes::key_expansion(key), block)
+    decipher(aes::key_expansion(key), block)
 }
 
-fn inverse_sbox_table() -> [u8; 256]
-    ensures { result ≡ inv_sbox_table }
+fn inverse_sbox_table() -> &'static [u8; 256]
+    ensures { result.now ≡ inv_sbox_table }
 {
-    INVERSE_SBOX
+    &INVERSE_SBOX
 }
 
 fn inv_shift_rows(s: [u8; 16]) -> [u8; 16]
@@ -53,12 +52,11 @@ fn inv_shift_rows(s: [u8; 16]) -> [u8; 16]
     t
 }
 
-// InvSubBytes, the inverse S-box being in the table.
-fn inv_sub_bytes(table: &[u8; 256], s: [u8; 16]) -> [u8; 16]
-    requires { table.now ≡ inv_sbox_table }
+// InvSubBytes (5.3.2).
+fn inv_sub_bytes(s: [u8; 16]) -> [u8; 16]
     ensures { result ≡ inv_sub_bytes s }
 {
-    field::substitute(table, s)
+    field::substitute(inverse_sbox_table(), s)
 }
 
 // InvMixColumns, as MixColumns of a column to which 4(s0 + s2) is added in the even rows and 4(s1 + s3) in the odd
@@ -100,15 +98,13 @@ fn times4(b: u8) -> u8
     field::times2(field::times2(b))
 }
 
-fn inv_round(table: &[u8; 256], s: [u8; 16], k: [u8; 16]) -> [u8; 16]
-    requires { table.now ≡ inv_sbox_table }
+fn inv_round(s: [u8; 16], k: [u8; 16]) -> [u8; 16]
     ensures { result ≡ inv_mix_columns (add_round_key (inv_sub_bytes (inv_shift_rows s)) k) }
 {
-    inv_mix_columns(field::xor(inv_sub_bytes(table, inv_shift_rows(s)), k))
+    inv_mix_columns(field::xor(inv_sub_bytes(inv_shift_rows(s)), k))
 }
 
-fn decipher(table: &[u8; 256], w: [[u8; 16]; 11], block: [u8; 16]) -> [u8; 16]
-    requires { table.now ≡ inv_sbox_table }
+fn decipher(w: [[u8; 16]; 11], block: [u8; 16]) -> [u8; 16]
     ensures { result ≡ inv_cipher w block }
 {
     let last = w[10];
@@ -116,10 +112,10 @@ fn decipher(table: &[u8; 256], w: [[u8; 16]; 11], block: [u8; 16]) -> [u8; 16]
     let mut i = 9;
     while 0 < i {
         let k = w[i];
-        let t = inv_round(table, s, k);
+        let t = inv_round(s, k);
         s = t;
         i -= 1;
     }
     let first = w[0];
-    field::xor(inv_sub_bytes(table, inv_shift_rows(s)), first)
+    field::xor(inv_sub_bytes(inv_shift_rows(s)), first)
 }

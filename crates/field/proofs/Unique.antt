@@ -1,6 +1,6 @@
 -- No second answer fits the contracts of this crate's exported functions.
 use mathlib.Core.Path.{refl}
-use Rattle.ground.specs.OneAnswer.{OneAnswer, one}
+use Rattle.ground.specs.OneAnswer.{OneAnswer, OneLent, one}
 use Rattle.field.proofs.sbox_table.Reads as sbox-table
 use Rattle.field.proofs.sbox_table.Kinds as sbox-table-kinds
 use Rattle.field.proofs.substitute.Reads as substitute
@@ -12,7 +12,7 @@ use Rattle.field.proofs.xor.Kinds as xor-kinds
 use Rattle.field.proofs.times2.Reads as times2
 use Rattle.field.proofs.times2.Kinds as times2-kinds
 
-pub sbox_table_one : OneAnswer 0 sbox-table-kinds.ps sbox-table-kinds.r sbox-table.Post
+pub sbox_table_one : OneLent 1 sbox-table-kinds.ps 0 tt sbox-table.Post
 sbox_table_one κs a x y v w p q = (one p q, refl)
 
 pub substitute_one : OneAnswer 1 substitute-kinds.ps substitute-kinds.r substitute.Post

@@ -7,7 +7,7 @@ ghost use Rattle.field.specs.Field.{times};
 ghost use Rattle.field.specs.Sbox.{sbox_table};
 ghost use Rattle.field.specs.Block.{first_block, xor, substituted};
 
-const SBOX: [u8; 256] = *b"\
+static SBOX: [u8; 256] = *b"\
     \x63\x7c\x77\x7b\xf2\x6b\x6f\xc5\x30\x01\x67\x2b\xfe\xd7\xab\x76\
     \xca\x82\xc9\x7d\xfa\x59\x47\xf0\xad\xd4\xa2\xaf\x9c\xa4\x72\xc0\
     \xb7\xfd\x93\x26\x36\x3f\xf7\xcc\x34\xa5\xe5\xf1\x71\xd8\x31\x15\
@@ -25,13 +25,12 @@ const SBOX: [u8; 256] = *b"\
     \xe1\xf8\x98\x11\x69\xd9\x8e\x94\x9b\x1e\x87\xe9\xce\x55\x28\xdf\
     \x8c\xa1\x89\x0d\xbf\xe6\x42\x68\x41\x99\x2d\x0f\xb0\x54\xbb\x16";
 
-// The S-box as a table (5.1.1). It is handed out by value: a caller keeps it for a whole block, and looks entries up in
-// its copy.
+// The S-box as a table (5.1.1).
 // Ruled out: a table with one wrong entry; the inverse table.
-pub fn sbox_table() -> [u8; 256]
-    ensures { result ≡ sbox_table }
+pub fn sbox_table() -> &'static [u8; 256]
+    ensures { result.now ≡ sbox_table }
 {
-    SBOX
+    &SBOX
 }
 
 // Each byte of s through the table: SubBytes with the S-box, InvSubBytes with its inverse.

@@ -15,7 +15,7 @@ follows key n e h = e ∙ ap (next_round_key (round_constant (suc n))) h ∙ sym
 pub returns : goal.returns
 unfolding key_expansion round_constant times remainder polynomial_product
 returns c = let key = c.args.key in
-    let k0 = sym (first_round_key key (array_length 16 key _ c.well_formed.1.0)) in
+    let k0 = sym (first_round_key key (array_length 16 key _ c.well_formed.0)) in
     let k1 = follows key 0 c.next_round_key-k1.ensures k0 in
     let k2 = follows key 1 c.next_round_key-k2.ensures k1 in
     let k3 = follows key 2 c.next_round_key-k3.ensures k2 in

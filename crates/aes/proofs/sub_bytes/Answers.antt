@@ -8,5 +8,5 @@ use Rattle.aes.proofs.sub_bytes.Goals as goal
 pub returns : goal.returns
 unfolding sub_bytes sbox_table
 returns c = let a = c.args in
-    c.substitute.ensures ∙ substituted_by sbox a.table.now a.s c.requires
-    (array_bytes 16 a.s _ c.well_formed.1.0)
+    c.substitute.ensures ∙ substituted_by sbox _ a.s c.sbox_table.ensures
+    (array_bytes 16 a.s _ c.well_formed.0)

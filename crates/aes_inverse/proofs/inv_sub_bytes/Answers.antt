@@ -8,5 +8,5 @@ use Rattle.aes_inverse.proofs.inv_sub_bytes.Goals as goal
 pub returns : goal.returns
 unfolding inv_sub_bytes inv_sbox_table
 returns c = let a = c.args in
-    c.substitute.ensures ∙ substituted_by inv_sbox a.table.now a.s c.requires
-    (array_bytes 16 a.s _ c.well_formed.1.0)
+    c.substitute.ensures ∙ substituted_by inv_sbox _ a.s c.inverse_sbox_table.ensures
+    (array_bytes 16 a.s _ c.well_formed.0)
