@@ -6,7 +6,7 @@ use mathlib.Core.Bool.{Bool, true, false}
 use mathlib.Core.List.{List, ◌++◌}
 use Prim.Native.Nat.{ℕ, ◌≤◌, ◌<◌}
 use native.Mathlib.Omega.{arith}
-use borrow.Author.Tests.{le-leb, lt-leb, lt-ltb, le-ltb, eqb-true}
+use borrow.Author.Tests.{le-leb, leb-true, lt-ltb, eqb-true}
 use lib.Dec.{eqb, leb}
 use lib.ListN.{length, drop}
 use Rattle.ground.specs.Choice.{pick, both}
@@ -40,18 +40,21 @@ decided fit t message room after answer e says holds = record {
   holds = holds ∙ ap (λ (b : Bool). pick b (over message room) room) e;
 }
 
-no_room : (fit : Bool) → both fit false ≡ false
-no_room true = refl
-no_room false = refl
-
 room_enough : (fit : Bool) → both fit true ≡ fit
 room_enough true = refl
 room_enough false = refl
 
-pub short : (fit : Bool) (message room : List ℕ) → length room < message_room
-    → Makes fit message room (Err OwnMessage) room
-short fit message room h = decided fit false message room room (Err OwnMessage)
-    (sym (ap (both fit) (lt-leb message_room (length room) h) ∙ no_room fit)) refl refl
+-- what is let in: all that was asked is fit, and the room has the bytes of the longest message
+pub let_in : (part : Bool) (n : ℕ) (u : Unit) (a : Result Unit ReaderFault)
+    → a ≡ pick (both part (leb message_room n)) (Ok tt) (Err OwnMessage) → a ≡ Ok u
+    → (part ≡ true) × (message_room ≤ n)
+let_in part n u a e w =
+    let t = chosen (both part (leb message_room n)) e w in
+    (both_left part _ t, leb-true message_room n (both_right part _ t))
+  where
+    chosen : (t : Bool) → a ≡ pick t (Ok tt) (Err OwnMessage) → a ≡ Ok u → t ≡ true
+    chosen true e w = refl
+    chosen false e w = cc
 
 pub unfit : (fit : Bool) (message room : List ℕ) → fit ≡ false → Makes fit message room (Err OwnMessage) room
 unfit fit message room e = decided fit false message room room (Err OwnMessage)
@@ -70,16 +73,30 @@ built fit fields b n message room after answer h e l m r says =
     (says ∙ ap₂ {C = (Result ℕ ReaderFault)} (λ x k. pick x (Ok k) (Err OwnMessage)) (r.says ∙ t) (sym l))
     (r.holds ∙ ap₂ {C = List ℕ} (λ x k. pick x (message ++ drop k room) room) t (sym l))
 
+-- what is not let in
+pub left_out : (part fit : Bool) (message room : List ℕ) (f : ReaderFault) (a : Result Unit ReaderFault)
+    → (part ≡ false → fit ≡ false) → a ≡ pick (both part (leb message_room (length room))) (Ok tt) (Err OwnMessage)
+    → a ≡ Err f → Makes fit message room (Err f) room
+left_out part fit message room f a h e w =
+    let c = refused (both part (leb message_room (length room))) e w in
+    rw c.1 (decided fit false message room room (Err OwnMessage)
+    (sym (none part fit (leb message_room (length room)) h c.0)) refl refl)
+  where
+    refused : (t : Bool) → a ≡ pick t (Ok tt) (Err OwnMessage) → a ≡ Err f → (t ≡ false) × (f ≡ OwnMessage)
+    refused true e w = absurd (let w : ⊥ = cc in w)
+    refused false e w = (refl, cc)
+
+    none : (p q l : Bool) → (p ≡ false → q ≡ false) → both p l ≡ false → both q l ≡ false
+    none true true l h e = e
+    none true false l h e = refl
+    none false q l h e = ap (λ (b : Bool). both b l) (h refl)
+
 -- the same message in other words
 pub in_words : (fit : Bool) (l message room after : List ℕ) (answer : Result ℕ ReaderFault) → l ≡ message
     → Makes fit l room answer after → Makes fit message room answer after
 in_words fit l message room after answer e h = rw (← e) h
 
 -- ---- Purpose
-
-pub purpose_over : (purpose : ℕ) → 16 ≤ purpose → purpose_fits purpose ≡ false
-unfolding purpose_fits
-purpose_over purpose h = le-ltb purpose 16 h
 
 pub purpose_in_lem : (purpose : ℕ) → purpose < 16 → true ≡ purpose_fits purpose
 unfolding purpose_fits
@@ -112,18 +129,6 @@ module _ (keys : Keys) (custom : Custom) (protmode purpose n : ℕ) where
   -- all but Profile, Offset and BlockCount
   abbrev pub part_fits : Bool
   part_fits = both (mode_fits keys protmode) (both (purpose_fits purpose) (data_fits custom n))
-
-  pub part_mode : mode_fits keys protmode ≡ false → false ≡ part_fits
-  part_mode e = ap (λ (b : Bool). both b (both (purpose_fits purpose) (data_fits custom n))) (sym e)
-
-  pub part_purpose : mode_fits keys protmode ≡ true → 16 ≤ purpose → false ≡ part_fits
-  part_purpose e h = ap₂ (λ (b d : Bool). both b (both d (data_fits custom n))) (sym e) (sym (purpose_over purpose h))
-
-  pub part_data : (k : ℕ) → mode_fits keys protmode ≡ true → purpose < 16
-      → k ≡ data_length custom.blocksize custom.blockcount → eqb n k ≡ part_fits
-  unfolding data_fits
-  part_data k e h q = ap (eqb n) q ∙ ap₂ (λ (b d : Bool). both b
-      (both d (eqb n (data_length custom.blocksize custom.blockcount)))) (sym e) (purpose_in_lem purpose h)
 
   grouped : (a b c d : Bool) → both (both a (both b c)) d ≡ both a (both b (both c d))
   grouped true true c d = refl

@@ -5,11 +5,10 @@
 
 mod sent; // sent.rt: what only a reader that has the keys can send
 
-ghost use Rattle.std.specs.Prelude.{◌≡◌, true, ◌≤◌, length};
+ghost use Rattle.std.specs.Prelude.{◌≡◌, true, leb, length};
 ghost use Rattle.ground.specs.Choice.{pick, both};
 ghost use Rattle.frames.specs.Fields.{custom_fits};
 ghost use Rattle.frames.specs.Lengths.{message_room};
-ghost use Rattle.frames.specs.Modes.{prot_mode_of};
 ghost use Rattle.reader.specs.Own.{mode_fits};
 ghost use Rattle.reader_build.specs.Builds.{purpose_fits, data_fits, iam3_fits, iam3_made};
 ghost use Rattle.reader_build.specs.Builds.{tam1_made, tam2_made, iam1_made, mam1_made, iam2_made, mam2_made};
@@ -19,54 +18,55 @@ use frames::build::{iam1_into, iam2_into, mam1_into, mam2_into, tam1_into, tam2_
 use frames::constants::{iam2_constant, iam3_constant, mam2_constant};
 use frames::protection::prot_mode;
 use frames::sizes::{DATA_ROOM, MESSAGE_ROOM, blocks_length, data_length};
-use frames::{Custom, Iam1, Iam2, Mam1, Mam2, ProtMode, Tam1, Tam2};
+use frames::{Custom, Iam1, Iam2, Mam1, Mam2, Tam1, Tam2};
 use payload::carried_into;
 use reader::own::mode_fits;
 use reader::{Keys, ReaderFault};
 use sent::{iam3_whole, response};
+
+// Number 24 where what a message says is not fit, or the room has fewer bytes than the longest message.
+fn taken(fit: bool, room: usize) -> Result<(), ReaderFault>
+    ensures { result ≡ pick (both fit (leb message_room room)) (Ok tt) (Err ReaderFault.OwnMessage) }
+{
+    if fit && MESSAGE_ROOM <= room {
+        Ok(())
+    } else {
+        Err(ReaderFault::OwnMessage)
+    }
+}
 
 // What is built of frames' answer: a message of so many bytes, or nothing.
 fn answer(built: bool, n: usize) -> Result<usize, ReaderFault>
     ensures { result ≡ pick built (Ok n) (Err ReaderFault.OwnMessage) }
 {
     if built {
-        return Ok(n);
+        Ok(n)
+    } else {
+        Err(ReaderFault::OwnMessage)
     }
-    Err(ReaderFault::OwnMessage)
 }
 
 // Is what an IAM3 with n bytes of data says fit to be sent, its Profile, Offset and BlockCount aside?
+#[tactic(auto, unfolding(crate::specs::Builds::purpose_fits, crate::specs::Builds::data_fits))]
 fn iam3_fits(keys: Keys, custom: Custom, protmode: u8, purpose: u8, n: usize) -> bool
     ensures { result ≡ both (mode_fits keys protmode) (both (purpose_fits purpose) (data_fits custom n)) }
 {
-    if !mode_fits(keys, protmode) {
-        return false;
-    }
-    if 16 <= purpose {
-        return false;
-    }
-    let blocksize = custom.blocksize;
-    n == data_length(blocksize, custom.blockcount)
+    mode_fits(keys, protmode)
+        && purpose < 16
+        && n == data_length(custom.blocksize, custom.blockcount)
 }
 
 /// TAM1 (9.4.2). Ruled out: a message in a room of 12 bytes; the KeyID of another record.
 pub fn tam1(keyid: u8, ichallenge: [u8; 10], room: &mut [u8]) -> Result<usize, ReaderFault>
     ensures { Makes true (tam1_made keyid ichallenge) room.old result room.new }
 {
-    if room.len() < MESSAGE_ROOM {
-        return Err(ReaderFault::OwnMessage);
-    }
-    answer(
-        tam1_into(
-            Tam1 {
-                rfu: 0,
-                keyid,
-                ichallenge,
-            },
-            room,
-        ),
-        12,
-    )
+    taken(true, room.len())?;
+    let message = Tam1 {
+        rfu: 0,
+        keyid,
+        ichallenge,
+    };
+    answer(tam1_into(message, room), 12)
 }
 
 /// TAM2 (9.4.5). Ruled out: ProtMode 2 asked for without a MAC key; ProtMode 4.
@@ -82,13 +82,8 @@ pub fn tam2(
     ensures { Makes (both (mode_fits keys protmode) (custom_fits custom))
         (tam2_made keyid ichallenge rev custom protmode) room.old result room.new }
 {
-    if room.len() < MESSAGE_ROOM {
-        return Err(ReaderFault::OwnMessage);
-    }
-    if !mode_fits(keys, protmode) {
-        return Err(ReaderFault::OwnMessage);
-    }
-    let f = Tam2 {
+    taken(mode_fits(keys, protmode), room.len())?;
+    let message = Tam2 {
         rev,
         rfu: 0,
         keyid,
@@ -96,16 +91,14 @@ pub fn tam2(
         custom,
         protmode,
     };
-    answer(tam2_into(f, room), 15)
+    answer(tam2_into(message, room), 15)
 }
 
 /// IAM1 (9.5.2). Ruled out: the first byte of MAM1; a room of 175 bytes taken.
 pub fn iam1(keyid: u8, room: &mut [u8]) -> Result<usize, ReaderFault>
     ensures { Makes true (iam1_made keyid) room.old result room.new }
 {
-    if room.len() < MESSAGE_ROOM {
-        return Err(ReaderFault::OwnMessage);
-    }
+    taken(true, room.len())?;
     answer(iam1_into(Iam1 { rfu: 0, keyid }, room), 2)
 }
 
@@ -113,39 +106,34 @@ pub fn iam1(keyid: u8, room: &mut [u8]) -> Result<usize, ReaderFault>
 pub fn mam1(keyid: u8, ichallenge: [u8; 10], room: &mut [u8]) -> Result<usize, ReaderFault>
     ensures { Makes true (mam1_made keyid ichallenge) room.old result room.new }
 {
-    if room.len() < MESSAGE_ROOM {
-        return Err(ReaderFault::OwnMessage);
-    }
-    answer(
-        mam1_into(
-            Mam1 {
-                rfu: 0,
-                keyid,
-                ichallenge,
-            },
-            room,
-        ),
-        12,
-    )
+    taken(true, room.len())?;
+    let message = Mam1 {
+        rfu: 0,
+        keyid,
+        ichallenge,
+    };
+    answer(mam1_into(message, room), 12)
 }
 
 /// IAM2 (9.5.4, 9.5.5). Ruled out: IResponse by AES-ENC; a Purpose of five bits carried into the constant.
-pub fn iam2(keys: Keys, purpose: u8, irnd: [u8; 4], tchallenge: [u8; 10], room: &mut [u8]) -> Result<usize, ReaderFault>
+#[tactic(auto, unfolding(crate::specs::Builds::purpose_fits))]
+pub fn iam2(
+    keys: Keys,
+    purpose: u8,
+    irnd: [u8; 4],
+    tchallenge: [u8; 10],
+    room: &mut [u8],
+) -> Result<usize, ReaderFault>
     ensures { Makes (purpose_fits purpose) (iam2_made keys purpose irnd tchallenge) room.old result
         room.new }
 {
-    if room.len() < MESSAGE_ROOM {
-        return Err(ReaderFault::OwnMessage);
-    }
-    if 16 <= purpose {
-        return Err(ReaderFault::OwnMessage);
-    }
-    let enc = keys.enc;
-    let iresponse = response(enc, iam2_constant(purpose), irnd, tchallenge);
+    taken(purpose < 16, room.len())?;
+    let iresponse = response(keys.enc, iam2_constant(purpose), irnd, tchallenge);
     answer(iam2_into(Iam2 { rfu: 0, iresponse }, room), 17)
 }
 
 /// MAM2 (9.6.5). Ruled out: the first four bytes of IChallenge in place of its last; the tag's challenge left out.
+#[tactic(auto, unfolding(crate::specs::Builds::purpose_fits))]
 pub fn mam2(
     keys: Keys,
     purpose: u8,
@@ -156,45 +144,10 @@ pub fn mam2(
     ensures { Makes (purpose_fits purpose) (mam2_made keys purpose ichallenge tchallenge) room.old result
         room.new }
 {
-    if room.len() < MESSAGE_ROOM {
-        return Err(ReaderFault::OwnMessage);
-    }
-    if 16 <= purpose {
-        return Err(ReaderFault::OwnMessage);
-    }
-    let enc = keys.enc;
+    taken(purpose < 16, room.len())?;
     let last = [ichallenge[6], ichallenge[7], ichallenge[8], ichallenge[9]];
-    let iresponse = response(enc, mam2_constant(purpose), last, tchallenge);
+    let iresponse = response(keys.enc, mam2_constant(purpose), last, tchallenge);
     answer(mam2_into(Mam2 { rfu: 0, iresponse }, room), 17)
-}
-
-// IAM3 in its mode, where all but Profile, Offset and BlockCount fits.
-fn iam3_in_mode(
-    keys: Keys,
-    custom: Custom,
-    protmode: u8,
-    mode: ProtMode,
-    purpose: u8,
-    irnd: [u8; 4],
-    tchallenge: [u8; 10],
-    words: &[u8],
-    room: &mut [u8],
-) -> Result<usize, ReaderFault>
-    requires { (message_room ≤ length room.old) × (prot_mode_of protmode ≡ Some mode)
-        × (both (mode_fits keys protmode) (both (purpose_fits purpose) (data_fits custom (length words.now))) ≡ true) }
-    ensures { Makes (iam3_fits keys custom protmode purpose (length words.now))
-        (iam3_made keys custom protmode purpose irnd tchallenge words.now) room.old result
-        room.new }
-{
-    let mut p = [0u8; DATA_ROOM];
-    if !carried_into(true, custom, words, &mut p) {
-        return Err(ReaderFault::OwnMessage);
-    }
-    let enc = keys.enc;
-    let a = response(enc, iam3_constant(mode, purpose), irnd, tchallenge);
-    let blocksize = custom.blocksize;
-    let n = blocks_length(blocksize, true, custom.blockcount);
-    Ok(iam3_whole(keys, custom, protmode, mode, a, &p[..n], room))
 }
 
 /// IAM3 (9.5.4, 9.5.8). Ruled out: the MAC over the data before they are chained; fewer bytes of data than BlockCount
@@ -213,20 +166,18 @@ pub fn iam3(
         (iam3_made keys custom protmode purpose irnd tchallenge words.now) room.old result
         room.new }
 {
-    if room.len() < MESSAGE_ROOM {
+    taken(
+        iam3_fits(keys, custom, protmode, purpose, words.len()),
+        room.len(),
+    )?;
+    let Some(mode) = prot_mode(protmode) else {
+        return Err(ReaderFault::OwnMessage);
+    };
+    let mut blocks = [0u8; DATA_ROOM];
+    if !carried_into(true, custom, words, &mut blocks) {
         return Err(ReaderFault::OwnMessage);
     }
-    if !iam3_fits(keys, custom, protmode, purpose, words.len()) {
-        return Err(ReaderFault::OwnMessage);
-    }
-    match prot_mode(protmode) {
-        Some(mode) => {
-            return iam3_in_mode(
-                keys, custom, protmode, mode, purpose, irnd, tchallenge, words, room,
-            );
-        }
-        None => {
-            return Err(ReaderFault::OwnMessage);
-        }
-    }
+    let a = response(keys.enc, iam3_constant(mode, purpose), irnd, tchallenge);
+    let n = blocks_length(custom.blocksize, true, custom.blockcount);
+    Ok(iam3_whole(keys, custom, protmode, mode, a, &blocks[..n], room))
 }

@@ -48,11 +48,8 @@ fn iam3_response(keys: Keys, mode: ProtMode, a: [u8; 16], p: &[u8], room: &mut [
     requires { (take 16 room.old ≡ a) × (length p.now % 16 ≡ 0) × (28 + length p.now ≤ length room.old) }
     ensures { room.new ≡ over (iam3_response keys mode a p.now) room.old }
 {
-    let enc = keys.enc;
-    let mackey = keys.mackey;
-    let n = 16 + p.len();
-    sent_data(enc, mode, a, p, &mut room[16..]);
-    mac_behind(mackey, mode, n, room);
+    sent_data(keys.enc, mode, a, p, &mut room[16..]);
+    mac_behind(keys.mackey, mode, 16 + p.len(), room);
 }
 
 /// IAM3 with the block a and the D blocks p, over the room's first bytes; its length (9.5.8, Table 18).
@@ -80,6 +77,5 @@ pub fn iam3_whole(
     };
     iam3_into(f, &mut *room);
     iam3_response(keys, mode, a, p, &mut room[4..]);
-    let blocksize = custom.blocksize;
-    iam3_length(blocksize, custom.blockcount, mode)
+    iam3_length(custom.blocksize, custom.blockcount, mode)
 }

@@ -1,29 +1,47 @@
 -- `reader_build::iam3` meets its contract.
-use mathlib.Core.Path.{sym, ◌∙◌}
+use mathlib.Core.Path.{refl, sym, ◌∙◌}
+use Rattle.std.proofs.lemmas.Result.{err_from_is_err_and}
 use Rattle.ground.proofs.Told.{said}
-use Rattle.reader_build.proofs.Making.{short, unfit, part_unfit, part_mode, no_mode}
+use Rattle.reader_build.specs.Builds.{iam3_fits}
+use Rattle.reader_build.proofs.Making.{let_in, left_out, unfit, part_unfit, no_mode}
+use Rattle.reader_build.proofs.Iam3Made.{iam3_unfit, fields_fit_lem, data_long, iam3_built}
 use Rattle.reader_build.proofs.iam3.Goals as goal
 
-pub returns-then-room-lt-MESSAGE_ROOM : goal.returns-then-room-lt-MESSAGE_ROOM
-returns-then-room-lt-MESSAGE_ROOM c = short _ _ _ c.if-room-lt-MESSAGE_ROOM.true
+pub returns-in_err-taken : goal.returns-in_err-taken
+returns-in_err-taken c =
+    let a = c.args in
+    let p = err_from_is_err_and c.from_residual.result c.from_residual.ensures.1 in
+    rw (p.1, p.2) (left_out _ _ _ _ _ _
+    (λ e. part_unfit a.keys a.custom a.protmode a.purpose _ (said c.iam3_fits.ensures e))
+    c.taken.ensures c.in_err-taken.was)
 
-pub returns-then-not-iam3_fits : goal.returns-then-not-iam3_fits
-returns-then-not-iam3_fits c = let a = c.args in
-    unfit _ _ _ (part_unfit a.keys a.custom a.protmode a.purpose _
-    (said c.iam3_fits.ensures c.if-not-iam3_fits.true))
+pub returns-in_default : goal.returns-in_default
+unfolding iam3_fits
+returns-in_default c = unfit _ _ _ (rw (no_mode c.args.keys c.args.protmode (sym c.prot_mode.ensures ∙ c.in_default.is)))
 
-pub iam3_in_mode-requires : goal.iam3_in_mode-requires
-iam3_in_mode-requires c = (
-  c.if-room-lt-MESSAGE_ROOM.false,
-  sym c.prot_mode.ensures ∙ c.in-Some.is,
-  said c.iam3_fits.ensures c.if-not-iam3_fits.false,
-)
+pub returns-then-not-carried_into : goal.returns-then-not-carried_into
+returns-then-not-carried_into c =
+    let asked = let_in _ _ _ _ c.taken.ensures c.in_ok-taken.was in
+    unfit _ _ _ (iam3_unfit c.args.keys c.args.custom c.args.protmode c.args.purpose
+    c.args.words.now _ _ _ refl (said c.iam3_fits.ensures asked.0) c.carried_into.ensures c.if-not-carried_into.true)
 
-pub returns-in-Some : goal.returns-in-Some
-returns-in-Some c = c.iam3_in_mode.ensures
+pub iam3_whole-requires : goal.iam3_whole-requires
+iam3_whole-requires c =
+    let a = c.args in
+    let asked = let_in _ _ _ _ c.taken.ensures c.in_ok-taken.was in
+    let part = said c.iam3_fits.ensures asked.0 in
+    let b = c.carried_into.ensures in
+    let yes = c.if-not-carried_into.false in (
+      fields_fit_lem a.keys a.custom a.protmode a.purpose a.words.now _ _ _ refl part b yes,
+      data_long a.keys a.custom a.protmode a.purpose a.words.now _ _ _ refl part b yes _ c.blocks_length-n.ensures
+          ∙ c.blocks_length-n.ensures,
+      asked.1,
+    )
 
-pub returns-in-None : goal.returns-in-None
-returns-in-None c = let a = c.args in
-    unfit _ _ _ (part_unfit a.keys a.custom a.protmode a.purpose _
-    (sym (part_mode a.keys a.custom a.protmode a.purpose _
-    (no_mode a.keys a.protmode (sym c.prot_mode.ensures ∙ c.in-None.is)))))
+pub returns : goal.returns
+returns c =
+    let a = c.args in
+    let asked = let_in _ _ _ _ c.taken.ensures c.in_ok-taken.was in
+    iam3_built a.keys a.custom a.protmode a.purpose a.words.now _ _ _ refl (said c.iam3_fits.ensures asked.0)
+    c.carried_into.ensures c.if-not-carried_into.false _ c.blocks_length-n.ensures _ _ _ _ _ _ _ _ (sym c.prot_mode.ensures ∙ c.in-Some.is)
+    c.iam3_constant.ensures c.response-a.ensures asked.1 c.iam3_whole.ensures

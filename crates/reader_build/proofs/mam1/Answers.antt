@@ -1,17 +1,15 @@
 -- `reader_build::mam1` meets its contract.
+use mathlib.Core.Bool.{true}
 use mathlib.Core.Path.{refl}
 use native.Mathlib.Omega.{arith}
 use Rattle.field.proofs.Arrays.{array_length}
 use Rattle.frames.proofs.Shape.{mam1_shape}
 use Rattle.reader_build.specs.Builds.{mam1_made}
-use Rattle.reader_build.proofs.Making.{short, built}
+use Rattle.reader_build.proofs.Making.{let_in, built}
 use Rattle.reader_build.proofs.mam1.Goals as goal
-
-pub returns-then-room-lt-MESSAGE_ROOM : goal.returns-then-room-lt-MESSAGE_ROOM
-returns-then-room-lt-MESSAGE_ROOM c = short _ _ _ c.if-room-lt-MESSAGE_ROOM.true
 
 pub returns : goal.returns
 unfolding mam1_made
-returns c = built _ _ _ _ _ _ _ _ c.if-room-lt-MESSAGE_ROOM.false refl
+returns c = built _ _ _ _ _ _ _ _ (let_in true _ _ _ c.taken.ensures c.in_ok-taken.was).1 refl
     (mam1_shape _ (array_length 10 c.args.ichallenge _ c.well_formed.1.0) (omega arith)).0 (omega arith)
     c.mam1_into.ensures c.answer.ensures
