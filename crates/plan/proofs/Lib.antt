@@ -1,2 +1,1 @@
-pub mod ByMethod
 pub mod Unique

@@ -32,82 +32,59 @@ pub struct Plan {
 }
 
 /// The message that opens an exchange. Ruled out: MAM1 for an IAM; a TAM1 where the trainee picked TAM2.
+#[tactic(auto, unfolding(crate::specs::Drafts::opening))]
 pub fn opening(plan: Plan, room: &mut [u8]) -> Result<usize, ReaderFault>
     ensures { Makes (opening plan plan.method).fit (opening plan plan.method).message
         room.old result room.new }
 {
-    let method = plan.method;
-    match method {
-        Method::Tam1 => {
-            let ichallenge = plan.ichallenge;
-            return reader_build::tam1(plan.keyid, ichallenge, room);
-        }
-        Method::Tam2 => {
-            let keys = plan.keys;
-            let ichallenge = plan.ichallenge;
-            let custom = plan.custom;
-            return reader_build::tam2(
-                keys,
-                plan.keyid,
-                ichallenge,
-                plan.rev,
-                custom,
-                plan.protmode,
-                room,
-            );
-        }
-        Method::Iam2 => {
-            return reader_build::iam1(plan.keyid, room);
-        }
-        Method::Iam3 => {
-            return reader_build::iam1(plan.keyid, room);
-        }
-        Method::Mam => {
-            let ichallenge = plan.ichallenge;
-            return reader_build::mam1(plan.keyid, ichallenge, room);
-        }
+    match plan.method {
+        Method::Tam1 => reader_build::tam1(plan.keyid, plan.ichallenge, room),
+        Method::Tam2 => reader_build::tam2(
+            plan.keys,
+            plan.keyid,
+            plan.ichallenge,
+            plan.rev,
+            plan.custom,
+            plan.protmode,
+            room,
+        ),
+        Method::Iam2 | Method::Iam3 => reader_build::iam1(plan.keyid, room),
+        Method::Mam => reader_build::mam1(plan.keyid, plan.ichallenge, room),
     }
 }
 
 /// The message that proves the reader to the tag, of the tag's challenge. TAM has none.
 /// Ruled out: an IAM2 where the trainee picked IAM3; a message that is sent in TAM.
-pub fn closing(plan: Plan, tchallenge: [u8; 10], words: &[u8], room: &mut [u8]) -> Result<usize, ReaderFault>
+#[tactic(auto, unfolding(crate::specs::Drafts::closing))]
+pub fn closing(
+    plan: Plan,
+    tchallenge: [u8; 10],
+    words: &[u8],
+    room: &mut [u8],
+) -> Result<usize, ReaderFault>
     ensures { Makes (closing plan words.now tchallenge plan.method).fit
         (closing plan words.now tchallenge plan.method).message room.old result
         room.new }
 {
-    let method = plan.method;
-    match method {
-        Method::Tam1 => {
-            return Err(ReaderFault::OwnMessage);
-        }
-        Method::Tam2 => {
-            return Err(ReaderFault::OwnMessage);
-        }
-        Method::Iam2 => {
-            let keys = plan.keys;
-            let irnd = plan.irnd;
-            return reader_build::iam2(keys, plan.purpose, irnd, tchallenge, room);
-        }
-        Method::Iam3 => {
-            let keys = plan.keys;
-            let custom = plan.custom;
-            let irnd = plan.irnd;
-            return reader_build::iam3(
-                keys,
-                custom,
-                plan.protmode,
-                plan.purpose,
-                irnd,
-                tchallenge,
-                words,
-                room,
-            );
-        }
-        Method::Mam => {
-            let keys = plan.keys;
-            let ichallenge = plan.ichallenge;
-            return reader_build::mam2(keys, plan.purpose, ichallenge, tchallenge, room);
-        }
+    match plan.method {
+        Method::Tam1 | Method::Tam2 => Err(ReaderFault::OwnMessage),
+        Method::Iam2 => reader_build::iam2(plan.keys, plan.purpose, plan.irnd, tchallenge, room),
+        Method::Iam3 => reader_build::iam3(
+            plan.keys,
+            plan.custom,
+            plan.protmode,
+            plan.purpose,
+            plan.irnd,
+            tchallenge,
+            words,
+            room,
+        ),
+        Method::Mam => reader_build::mam2(
+            plan.keys,
+            plan.purpose,
+            plan.ichallenge,
+            tchallenge,
+            room,
+        ),
     }
 }
