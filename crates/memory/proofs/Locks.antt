@@ -1,13 +1,18 @@
 -- `some_locked` says yes exactly if a word address lies in the block and in a lock in use, in the same area; and the
 -- steps of `overlaps` and `locked`.
-use mathlib.Core.Path.{◌≡◌, sym, ap, ◌∙◌}
-use mathlib.Core.Logic.{◌⊎◌, ⊎_elim, ◌↔◌}
-use mathlib.Core.Bool.{Bool, true, false, or-true, false≢true}
+use mathlib.Core.Path.{◌≡◌, refl, sym, ap, ◌∙◌}
+use mathlib.Core.Logic.{⊎_elim, ◌↔◌}
+use mathlib.Core.Bool.{Bool, true, false, not, or-true, false≢true}
 use mathlib.Core.List.{List, [], ◌∷◌}
 use Prim.Native.Nat.{ℕ, zero, suc, ◌+◌, ◌-◌, ◌≤◌, ◌<◌, max}
 use native.Mathlib.Omega.{arith}
 use native.Mathlib.Nat.{eq-or-lt_of_le}
-use lib.Dec.{ltb}
+use lib.Dec.{ltb, eqb}
+use denote.Enum.Bare.{sameb}
+use Rattle.std.specs.List.{list_any}
+use Rattle.memory.specs.contracts.Area.{the_type}
+use Rattle.memory.specs.declared.Area.{Area}
+use Rattle.memory.specs.declared.Area.TheVariants.{Identity, User}
 use lib.ListN.{length, take, get_or, length-take}
 use lib.Seq.{get_or-take}
 use borrow.Author.Tests.{eqb-true, leb-true, ltb-true, ltb-false, eq-eqb, le-leb, lt-ltb}
@@ -36,6 +41,22 @@ module _ (test : ℕ → Bool) where
       (λ (l : some test (suc i) n ≡ true). let s = some_where n (suc i) l in
       (s.0, omega (arith, s.1), omega (arith, s.2), s.3))
       (either (test i) (some test (suc i) n) h)
+
+-- `==` of two areas compares their numbers
+told : (a b : Area) → sameb the_type a b ≡ eqb (area_number a) (area_number b)
+unfolding area_number
+told Identity Identity = refl
+told Identity User = refl
+told User Identity = refl
+told User User = refl
+
+not_false : (b : Bool) → not b ≡ false → b ≡ true
+not_false true h = refl
+not_false false h = sym h
+
+not_true : (b : Bool) → not b ≡ true → b ≡ false
+not_true true h = sym h
+not_true false h = refl
 
 -- the word `w` lies in the block and in the lock, in one area
 pub record Common (block : Block) (lock : Lock) (w : ℕ) : Type 0 where
@@ -69,15 +90,18 @@ module _ (block : Block) (lock : Lock) where
       )
 
   -- the steps of `overlaps`
-  pub apart : (area_number lock.area ≡ area_number block.area → ⊥) → false ≡ meets block lock
-  apart n = sym (never (meets block lock) (λ h. n (meets_where h).1.area))
+  pub apart : not (sameb the_type lock.area block.area) ≡ true → false ≡ meets block lock
+  apart n =
+      sym (never (meets block lock) (λ h.
+      let k = (meets_where h).1 in
+      false≢true (sym (not_true _ n) ∙ told lock.area block.area ∙ eq-eqb _ _ k.area)))
 
   pub behind : (w : ℕ) → w ≡ max block.first.0 lock.first.0 → lock.first.0 + lock.words ≤ w
       → false ≡ meets block lock
   behind w e h =
       sym (never (meets block lock) (λ t. let s = meets_where t in let k = s.1 in let z : ⊥ = omega arith in z))
 
-  pub tested : area_number lock.area ≡ area_number block.area → (w : ℕ) → w ≡ max block.first.0 lock.first.0
+  pub tested : not (sameb the_type lock.area block.area) ≡ false → (w : ℕ) → w ≡ max block.first.0 lock.first.0
       → w < lock.first.0 + lock.words → ltb (w - block.first.0) block.words ≡ meets block lock
   tested a w e h =
       alike _ _
@@ -85,7 +109,7 @@ module _ (block : Block) (lock : Lock) where
       let near = ltb-true (w - block.first.0) block.words t in
       meets_at w
       (record {
-        area = a;
+        area = eqb-true _ _ (sym (told lock.area block.area) ∙ not_false _ a);
         lock_from = omega arith;
         lock_to = h;
         block_from = omega arith;
@@ -94,10 +118,6 @@ module _ (block : Block) (lock : Lock) where
       (λ t.
       let far = ltb-false (w - block.first.0) block.words t in
       never (meets block lock) (λ u. let s = meets_where u in let k = s.1 in let z : ⊥ = omega arith in z))
-
--- none of the locks before the i-th has a word in common with the block
-abbrev pub NoneBefore : Block → List Lock → ℕ → Type 0
-NoneBefore block locks i = (k : ℕ) → k < i → meets block (get_or locks k no_lock) ≡ false
 
 module _ (block : Block) where
   any_at : (locks : List Lock) (i : ℕ) → i < length locks → meets block (get_or locks i no_lock) ≡ true
@@ -134,16 +154,6 @@ module _ (block : Block) where
         let p : s.0 < used = omega (arith, s.1) in
         (s.0, p, omega (arith, s.1), simp (get_or-take used locks s.0 no_lock p) at s.2)
 
-    -- the end of `locked`: every lock in use was passed
-    pub locked_none : (i : ℕ) → (used ≤ i) ⊎ (length locks ≤ i) → NoneBefore block locks i
-        → false ≡ some_locked locks used block
-    locked_none i e h =
-        sym (never (some_locked locks used block) (λ t.
-        let s = locked_where t in
-        let p : s.0 < i = ⊎_elim (λ (u : used ≤ i). omega (arith, s.1))
-        (λ (l : length locks ≤ i). omega (arith, s.2)) e in
-        false≢true (sym (h s.0 p) ∙ s.3)))
-
     -- exactly where some word lies in the block and in a lock in use, in one area
     pub locked_exactly : (some_locked locks used block ≡ true)
         ↔ ((i : ℕ) × (w : ℕ) × (i < used) × (i < length locks) × Common block (get_or locks i no_lock) w)
@@ -153,3 +163,9 @@ module _ (block : Block) where
           (s.0, m.0, s.1, s.2, m.1),
       λ k. locked_at k.0 k.2 k.3 (meets_at block (get_or locks k.0 no_lock) k.1 k.4),
     )
+
+-- a search of the locks in use
+pub any_meets : (block : Block) (locks : List Lock) → list_any (meets block) locks ≡ meets_any block locks
+unfolding meets_any
+any_meets block [] = refl
+any_meets block (lock ∷ locks) = simp (any_meets block locks)

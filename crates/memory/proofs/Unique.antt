@@ -1,6 +1,12 @@
 -- No second answer fits the contract of an exported function, as the check reads it from the source.
 use mathlib.Core.Path.{refl}
 use Rattle.ground.specs.OneAnswer.{OneAnswer, OneLent, one, ◌&◌}
+use Rattle.memory.proofs.U8FromArea.from.Reads as area_number
+use Rattle.memory.proofs.U8FromArea.from.Kinds as area_number-kinds
+use Rattle.memory.proofs.BlockSizeFromU8.from.Reads as size
+use Rattle.memory.proofs.BlockSizeFromU8.from.Kinds as size-kinds
+use Rattle.memory.proofs.U8FromBlockSize.from.Reads as size_bit
+use Rattle.memory.proofs.U8FromBlockSize.from.Kinds as size_bit-kinds
 use Rattle.memory.proofs.step.Reads as step
 use Rattle.memory.proofs.step.Kinds as step-kinds
 use Rattle.memory.proofs.address.Reads as address
@@ -15,6 +21,15 @@ use Rattle.memory.proofs.locked.Reads as locked
 use Rattle.memory.proofs.locked.Kinds as locked-kinds
 use Rattle.memory.proofs.permits.Reads as permits
 use Rattle.memory.proofs.permits.Kinds as permits-kinds
+
+pub area_number_one : OneAnswer 0 area_number-kinds.ps area_number-kinds.r area_number.Post
+area_number_one κs a x y v w p q = (one p q, refl)
+
+pub size_one : OneAnswer 0 size-kinds.ps size-kinds.r size.Post
+size_one κs a x y v w p q = (one p q, refl)
+
+pub size_bit_one : OneAnswer 0 size_bit-kinds.ps size_bit-kinds.r size_bit.Post
+size_bit_one κs a x y v w p q = (one p.0 q.0, refl)
 
 pub step_one : OneAnswer 0 step-kinds.ps step-kinds.r step.Post
 step_one κs a x y v w p q = (one p q, refl)

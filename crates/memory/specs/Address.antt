@@ -1,5 +1,6 @@
 -- Which words a message asks for: ISO/IEC 29167-10, 9.2, and the scope paper, "Memory".
 use Rattle.std.specs.Prelude.{ℕ, ◌+◌, ◌-◌, ◌*◌, Bool, ◌&&◌, leb, ltb, eqb}
+use Rattle.ground.specs.Choice.{pick}
 use Rattle.memory.specs.declared.Area.{Area}
 use Rattle.memory.specs.declared.Area.TheVariants.{Identity, User}
 use Rattle.memory.specs.declared.BlockSize.{BlockSize}
@@ -21,6 +22,10 @@ same_area a b = eqb (area_number a) (area_number b)
 unfoldable pub block_size_bit : BlockSize → ℕ
 block_size_bit Bits64 = 0
 block_size_bit Bits16 = 1
+
+-- the same, read from a number
+unfoldable pub size_of : ℕ → BlockSize
+size_of b = pick (eqb b 0) Bits64 Bits16
 
 -- the 16-bit words of one data block: the step by which an Offset counts
 unfoldable pub step_of : BlockSize → ℕ

@@ -1,39 +1,84 @@
 // Where a tag's words are: ISO/IEC 29167-10, 9.2 and clause 11, and the scope paper, "Memory".
 #![tactic(auto)]
 
-ghost use Rattle.std.specs.Prelude.{◌≡◌, not, ◌+◌, max, leb};
-ghost use Rattle.memory.specs.Address.{area_number, step_of, address_of, overruns};
+ghost use Rattle.std.specs.Prelude.{◌≡◌, ◌<◌, not, ◌+◌, leb};
+ghost use Rattle.memory.specs.Address.{area_number, block_size_bit, size_of, step_of, address_of, overruns};
 ghost use Rattle.memory.specs.Areas.{first_byte, byte_count, part_of, window_of, written, stored_in};
 ghost use Rattle.memory.specs.Rights.{meets, some_locked, permitted};
 
 /// The two areas of a tag's memory.
-#[derive(Clone, Copy)]
+#[derive(Clone, Copy, Debug, PartialEq, Eq)]
 pub enum Area {
     Identity,
     User,
 }
 
+/// The number of an area, as a sheet and a stored tag have it.
+///
+/// Ruled out: the numbers of the two areas exchanged; one number for both.
+impl From<Area> for u8 {
+    ghost from_gives = { λ area n. n ≡ area_number area };
+
+    #[tactic(auto, unfolding(crate::specs::Address::area_number))]
+    fn from(area: Area) -> u8 {
+        match area {
+            Area::Identity => 0,
+            Area::User => 1,
+        }
+    }
+}
+
 /// The size of a data block.
-#[derive(Clone, Copy)]
+#[derive(Clone, Copy, Debug, PartialEq, Eq)]
 pub enum BlockSize {
     Bits64,
     Bits16,
 }
 
+/// BlockSize of its bit (9.2). A number that is no bit is read as 1.
+///
+/// Ruled out: 0 for 16-bit blocks; 2 taken for 0.
+impl From<u8> for BlockSize {
+    ghost from_gives = { λ bit size. size ≡ size_of bit };
+
+    #[tactic(auto, unfolding(crate::specs::Address::size_of))]
+    fn from(bit: u8) -> BlockSize {
+        match bit {
+            0 => BlockSize::Bits64,
+            _ => BlockSize::Bits16,
+        }
+    }
+}
+
+/// BlockSize as its bit (9.2).
+///
+/// Ruled out: the bits of the two sizes exchanged; a number that is no bit.
+impl From<BlockSize> for u8 {
+    ghost from_gives = { λ size bit. (bit ≡ block_size_bit size) × (bit < 2) };
+
+    #[tactic(auto, unfolding(crate::specs::Address::block_size_bit))]
+    fn from(size: BlockSize) -> u8 {
+        match size {
+            BlockSize::Bits64 => 0,
+            BlockSize::Bits16 => 1,
+        }
+    }
+}
+
 /// The address of a 16-bit word in its area.
-#[derive(Clone, Copy)]
+#[derive(Clone, Copy, Debug, PartialEq, Eq)]
 pub struct Word(pub u16);
 
 /// A count of data blocks from a profile's first word. It becomes a word address only by the step of the block size.
-#[derive(Clone, Copy)]
+#[derive(Clone, Copy, Debug, PartialEq, Eq)]
 pub struct Offset(pub u16);
 
 /// A word address that may lie past its area: wide enough for every base and Offset.
-#[derive(Clone, Copy)]
+#[derive(Clone, Copy, Debug, PartialEq, Eq)]
 pub struct FarWord(pub usize);
 
 /// The words that a key record may be given the right to: so many from a base word of an area.
-#[derive(Clone, Copy)]
+#[derive(Clone, Copy, Debug, PartialEq, Eq)]
 pub struct Profile {
     pub area: Area,
     pub base: Word,
@@ -41,7 +86,7 @@ pub struct Profile {
 }
 
 /// Words that may not be written: so many from a first word of an area.
-#[derive(Clone, Copy)]
+#[derive(Clone, Copy, Debug, PartialEq, Eq)]
 pub struct Lock {
     pub area: Area,
     pub first: Word,
@@ -49,7 +94,7 @@ pub struct Lock {
 }
 
 /// The words that a message asks for.
-#[derive(Clone, Copy)]
+#[derive(Clone, Copy, Debug, PartialEq, Eq)]
 pub struct Block {
     pub area: Area,
     pub first: FarWord,
@@ -62,6 +107,7 @@ const WORD_BYTES: usize = 2;
 /// The words of one data block.
 ///
 /// Ruled out: the two sizes exchanged; a step of one word for both.
+#[tactic(auto, unfolding(crate::specs::Address::step_of))]
 pub fn step(size: BlockSize) -> usize
     ensures { result ≡ step_of size }
 {
@@ -74,6 +120,7 @@ pub fn step(size: BlockSize) -> usize
 /// The words of `count` data blocks, `offset` data blocks after the profile's first word.
 ///
 /// Ruled out: an Offset of 64-bit blocks taken as one of words; a sum that is cut to 16 bits.
+#[tactic(auto, unfolding(crate::specs::Address::address_of))]
 pub fn address(profile: Profile, size: BlockSize, offset: Offset, count: u16) -> Block
     ensures { result ≡ address_of profile size offset count }
 {
@@ -93,19 +140,12 @@ pub fn address(profile: Profile, size: BlockSize, offset: Offset, count: u16) ->
 /// profile.
 ///
 /// Ruled out: one word past the end allowed; a block of no words behind the end refused.
+#[tactic(auto, using(crate::proofs::Addresses::fits_tested))]
 pub fn fits(profile: Profile, block: Block) -> bool
     ensures { result ≡ not (overruns profile block) }
 {
     let end = profile.base.0 as usize + profile.words as usize;
-    let words = block.words;
-    if words == 0 {
-        return true;
-    }
-    let first = block.first.0;
-    if end <= first {
-        return false;
-    }
-    words - 1 < end - first
+    block.words <= end.saturating_sub(block.first.0)
 }
 
 // Whether an area of `len` bytes has every byte of the block. No sum here wraps, however far the block lies.
@@ -114,13 +154,11 @@ fn inside(block: Block, len: usize) -> bool
 {
     let all = len / WORD_BYTES;
     let first = block.first.0;
-    if all < first {
-        return false;
-    }
-    block.words <= all - first
+    first <= all && block.words <= all - first
 }
 
 // The block's bytes in its area.
+#[tactic(auto, unfolding(crate::specs::Areas::part_of, crate::specs::Areas::within))]
 fn part(area: &[u8], block: Block) -> &[u8]
     ensures { result.now ≡ part_of block area.now }
 {
@@ -136,65 +174,39 @@ fn part(area: &[u8], block: Block) -> &[u8]
 /// runs past the area.
 ///
 /// Ruled out: a part of the other area; a part that starts a word too late.
+#[tactic(auto, unfolding(crate::specs::Areas::window_of, crate::specs::Areas::area_of))]
 pub fn window<'a>(identity: &'a [u8], user: &'a [u8], block: Block) -> &'a [u8]
     ensures { result.now ≡ window_of identity.now user.now block }
 {
-    let area = block.area;
-    if let Area::User = area {
-        return part(user, block);
+    match block.area {
+        Area::Identity => part(identity, block),
+        Area::User => part(user, block),
     }
-    part(identity, block)
 }
 
 // `bytes` over the block's bytes in its area, where they are as many and the block lies in the area.
+#[tactic(auto, unfolding(crate::specs::Areas::written, crate::specs::Areas::within))]
 fn put(area: &mut [u8], block: Block, bytes: &[u8])
     ensures { area.new ≡ written block bytes.now area.old }
 {
-    if !inside(block, area.len()) {
-        return;
+    if inside(block, area.len()) && bytes.len() == block.words * WORD_BYTES {
+        let from = block.first.0 * WORD_BYTES;
+        area[from..from + bytes.len()].copy_from_slice(bytes);
     }
-    let count = block.words * WORD_BYTES;
-    if bytes.len() != count {
-        return;
-    }
-    let from = block.first.0 * WORD_BYTES;
-    let to = from + count;
-    area[from..to].copy_from_slice(bytes);
 }
 
 /// `bytes` over the block's bytes in the one of the two areas in which it lies; every other byte of both stays.
 /// Nothing is stored where the bytes are not as many as the block's, or the block runs past the area.
 ///
 /// Ruled out: a store into the other area; a store that also writes filler past the block.
+#[tactic(auto, unfolding(crate::specs::Areas::stored_in, crate::specs::Address::same_area, crate::specs::Address::area_number))]
 pub fn store(identity: &mut [u8], user: &mut [u8], block: Block, bytes: &[u8])
     ensures { (identity.new ≡ stored_in Area.Identity block bytes.now identity.old)
         × (user.new ≡ stored_in Area.User block bytes.now user.old) }
 {
-    let area = block.area;
-    if let Area::User = area {
-        put(user, block, bytes);
-        return;
-    }
-    put(identity, block, bytes);
-}
-
-// The larger of two numbers.
-fn larger(a: usize, b: usize) -> usize
-    ensures { result ≡ max a b }
-{
-    if a < b {
-        return b;
-    }
-    a
-}
-
-// The number of an area, by which two are told apart.
-fn number(area: Area) -> u8
-    ensures { result ≡ area_number area }
-{
-    match area {
-        Area::Identity => 0,
-        Area::User => 1,
+    match block.area {
+        Area::Identity => put(identity, block, bytes),
+        Area::User => put(user, block, bytes),
     }
 }
 
@@ -202,19 +214,14 @@ fn number(area: Area) -> u8
 fn overlaps(block: Block, lock: Lock) -> bool
     ensures { result ≡ meets block lock }
 {
-    let here = lock.area;
-    let there = block.area;
-    if number(here) != number(there) {
+    if lock.area != block.area {
         return false;
     }
     let from = lock.first.0 as usize;
     let end = from + lock.words as usize;
     let first = block.first.0;
-    let w = larger(first, from);
-    if end <= w {
-        return false;
-    }
-    w - first < block.words
+    let word = first.max(from);
+    word < end && word - first < block.words
 }
 
 /// Whether some word of the block is locked. The first `used` of the locks are in use.
@@ -223,28 +230,17 @@ fn overlaps(block: Block, lock: Lock) -> bool
 pub fn locked(locks: [Lock; 16], used: usize, block: Block) -> bool
     ensures { result ≡ some_locked locks used block }
 {
-    let mut i = 0;
-    while i < 16 {
-        if used <= i {
-            return false;
-        }
-        let lock = locks[i];
-        if overlaps(block, lock) {
-            return true;
-        }
-        i += 1;
-    }
-    false
+    locks[..used.min(16)]
+        .iter()
+        .any(|lock| overlaps(block, *lock))
 }
 
 /// Whether a key record with this MPI may use the profile of this number.
 ///
 /// Ruled out: bits counted from the most significant; a number of 16 or more that is taken modulo 16.
+#[tactic(auto, using(crate::proofs::Masks::permitted_high), unfolding(crate::specs::Rights::permitted))]
 pub fn permits(mpi: u16, profile: u8) -> bool
     ensures { result ≡ permitted mpi profile }
 {
-    if 16 <= profile {
-        return false;
-    }
-    (mpi >> profile) % 2 == 1
+    profile < 16 && (mpi >> profile) % 2 == 1
 }

@@ -1,6 +1,5 @@
 -- `memory::address` meets its contract.
 use native.Mathlib.Omega.{arith}
-use Rattle.memory.specs.Address.{address_of}
 use Rattle.memory.proofs.Addresses.{steps_bound}
 use Rattle.memory.proofs.address.Goals as goal
 
@@ -12,7 +11,3 @@ overflow_add-result c = omega (arith, steps_bound c.args.size c.args.offset.0 _ 
 
 pub overflow_mul-result-2 : goal.overflow_mul-result-2
 overflow_mul-result-2 c = omega (arith, steps_bound c.args.size c.args.count _ c.step-each.ensures)
-
-pub returns : goal.returns
-unfolding address_of
-returns c = rw c.step-each.ensures

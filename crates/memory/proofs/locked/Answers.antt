@@ -1,34 +1,21 @@
-use mathlib.Core.Path.{sym, ◌∙◌}
-use borrow.Author.Count.{below_more}
+-- `memory::locked` meets its contract.
+use mathlib.Core.Path.{◌≡◌, ◌∙◌, ap}
+use Prim.Native.Nat.{ℕ, min}
 use native.Mathlib.Omega.{arith}
-use mathlib.Core.Logic.{inl, inr}
-use Rattle.memory.proofs.Locks.{locked_at, locked_none}
+use lib.ListN.{length, take}
+use Rattle.std.proofs.Common.{rules, tests}
+use Rattle.std.proofs.lemmas.Iterator.{YieldsList-from_slice}
+use Rattle.std.proofs.lemmas.Iterator.Search.{any_from_yields_List}
+use Rattle.std.proofs.lemmas.List.{take_min}
+use Rattle.memory.specs.Rights.{meets, meets_any, some_locked}
+use Rattle.memory.proofs.Locks.{any_meets}
 use Rattle.memory.proofs.locked.Goals as goal
 
-pub loop-i-init : goal.loop-i-init
-loop-i-init c = (omega arith, λ k h. let z : ⊥ = omega arith in absurd z)
-
-pub returns-then-used-i : goal.returns-then-used-i
-returns-then-used-i c = locked_none c.args.block c.args.locks c.args.used _ (inl c.if-used-i.true) c.loop-i.invariant.1
-
-pub returns-then-overlaps : goal.returns-then-overlaps
-returns-then-overlaps c = sym (locked_at c.args.block c.args.locks c.args.used _ c.if-used-i.false
-    (omega (arith, c.well_formed.0.1.0.1))
-    (sym c.overlaps.ensures ∙ c.if-overlaps.true))
-
-pub overflow_add-i : goal.overflow_add-i
-overflow_add-i c = omega arith
-
-pub loop-i-smaller : goal.loop-i-smaller
-loop-i-smaller c = omega arith
-
-pub loop-i-preserved : goal.loop-i-preserved
-loop-i-preserved c = (
-  omega arith,
-  below_more _ _ c.loop-i.invariant.1
-      (sym c.overlaps.ensures ∙ c.if-overlaps.false),
-)
-
 pub returns : goal.returns
-returns c = locked_none c.args.block c.args.locks c.args.used c.loop-i.i
-    (inr (omega (arith, c.well_formed.0.1.0.1))) c.loop-i.invariant.1
+unfolding some_locked
+returns c =
+    let used : c.min.result ≡ min c.args.used (length c.args.locks) = omega (arith, c.well_formed.0.1.0.1) in
+    any_from_yields_List (meets c.args.block) _ _ c.any.result c.any.ensures.ran
+    (YieldsList-from_slice (take c.min.result c.args.locks) cc) (λ x b q k. search (rules, tests))
+    ∙ any_meets c.args.block (take c.min.result c.args.locks)
+    ∙ ap (meets_any c.args.block) (ap (λ (n : ℕ). take n c.args.locks) used ∙ take_min c.args.used c.args.locks)
