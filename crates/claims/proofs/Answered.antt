@@ -23,12 +23,10 @@ use Rattle.sheet.specs.declared.Kind.TheVariants.{
   ProfileRecord,
   LockRecord,
   EndRecord,
-  NoRecord,
 }
 use Rattle.sheet.specs.declared.Judged.{Judged}
 use Rattle.sheet.specs.declared.Reading.{Reading}
 use Rattle.sheet.specs.Kinds as sheet
-use Rattle.sheet.specs.Kinds.{kind_of, body_length}
 use Rattle.sheet.specs.Setups.{empty_terms}
 use Rattle.sheet.specs.Records.{features_rule, sizes_rule, key_rule, profile_rule, lock_rule}
 use Rattle.sheet.specs.Judgement.{
@@ -37,7 +35,7 @@ use Rattle.sheet.specs.Judgement.{
   record_of,
   taken,
   refused,
-  only_if,
+  record_in,
   with_features,
   with_sizes,
   with_key,
@@ -117,16 +115,15 @@ kind_leaves ProfileRecord b k = record_leaves (profile_rule k.marks.number k.ter
 kind_leaves LockRecord b k = record_leaves (lock_rule k.marks.area k.marks.word k.terms.sizes b) LockRecord k
     (with_lock k b)
 kind_leaves EndRecord b k = λ f e. refl
-kind_leaves NoRecord b k = λ f e. refl
 
-opened_leaves : (o : Result Unit SheetFault) (k : Gathered) (j : Judged) → Leaves k j → Leaves k (only_if o k j)
-opened_leaves (Ok tt) k j h = h
-opened_leaves (Err g) k j h = λ f e. refl
+opened_leaves : (o : Result Kind SheetFault) (t : List ℕ) (k : Gathered) → Leaves k (record_in o t k)
+opened_leaves (Ok q) t k = kind_leaves q _ k
+opened_leaves (Err g) t k = λ f e. refl
 
 judged_leaves : (s : List ℕ) (k : Gathered) → Leaves k (judged_of key_limit s k)
 unfolding judged_of
 judged_leaves [] k = λ f e. refl
-judged_leaves (b ∷ t) k = opened_leaves (opened_of key_limit b (length t) k) k _ (kind_leaves (kind_of b) _ k)
+judged_leaves (b ∷ t) k = opened_leaves (opened_of key_limit b (length t) k) t k
 
 pub record_answers : RecordAnswers
 record_answers s k f e = (sheet_number f, judged_leaves s k f e)

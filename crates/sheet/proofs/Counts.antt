@@ -10,14 +10,13 @@ use lib.ListN.{drop}
 use lib.Dec.{leb}
 use Rattle.ground.specs.Bytes.{byte_at}
 use Rattle.sheet.specs.Limits.{profile_limit, lock_limit}
-use Rattle.sheet.specs.Kinds.{kind_of}
 use Rattle.sheet.specs.Setups.{empty_terms, no_marks, nothing_gathered}
 use Rattle.sheet.specs.Judgement.{too_many, judged_of, with_features, with_sizes, with_key, with_profile, with_lock}
 use Rattle.sheet.specs.Refusals.{InTurn, begins, goes_on, kinds_taken, how_many}
 use Rattle.sheet.specs.PaperNumbers.{all_stand}
 use Rattle.sheet.specs.declared.Kind.{Kind}
 use Rattle.sheet.specs.declared.Kind.TheVariants.{FeatureRecord, SizeRecord, KeyRecord, ProfileRecord}
-use Rattle.sheet.specs.declared.Kind.TheVariants.{LockRecord, EndRecord, NoRecord}
+use Rattle.sheet.specs.declared.Kind.TheVariants.{LockRecord, EndRecord}
 use Rattle.sheet.specs.declared.Gathered.{Gathered}
 use Rattle.sheet.specs.declared.Judged.{Judged}
 use Rattle.sheet.proofs.Walks.{Took, took_features, took_sizes, took_key, took_profile, took_lock}
@@ -55,10 +54,10 @@ one_counted limit n k k' kinds [] j c =
     absurd (omega arith)
 one_counted limit n k k' kinds (b ∷ t) j c =
     let one = step limit b t k n (ap (λ (x : Judged). x.finding) j) in
-    let code = kind_code b one.passed_checks.known in
+    let code = kind_code b one.kind one.passed_checks.known in
     let more = took_counted kinds one.took c in
     subst (λ (x : ℕ). Counted k' (x ∷ kinds)) (sym code)
-    (subst (λ (x : Gathered). Counted x (code_of (kind_of b) ∷ kinds)) (ap (λ (x : Judged). x.gathered) j) more)
+    (subst (λ (x : Gathered). Counted x (code_of one.kind ∷ kinds)) (ap (λ (x : Judged). x.gathered) j) more)
 
 -- 34: as many of its kind stand before it as there may be
 pub many_stand : (limit : ℕ) (q : Kind) (k : Gathered) (kinds : List ℕ) → Counted k kinds
@@ -70,7 +69,6 @@ many_stand limit KeyRecord k kinds c = ap (leb limit) c.keys
 many_stand limit ProfileRecord k kinds c = ap (leb profile_limit) c.profiles
 many_stand limit LockRecord k kinds c = ap (leb lock_limit) c.locks
 many_stand limit EndRecord k kinds c = refl
-many_stand limit NoRecord k kinds c = refl
 
 module _ (limit : ℕ) (s : List ℕ) where
   pub counted : {p : ℕ} {k : Gathered} (h : InTurn limit s 0 nothing_gathered p k) → Counted k (kinds_taken h)

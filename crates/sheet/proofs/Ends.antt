@@ -1,5 +1,5 @@
 -- The end record: it is 06, and leaves what was gathered.
-use Rattle.std.specs.Prelude.{Result, Ok, Err}
+use Rattle.std.specs.Prelude.{Option, Some, None, Result, Ok, Err}
 use Rattle.sheet.specs.declared.Finding.TheVariants.{Ended}
 use Rattle.sheet.specs.declared.SheetFault.{SheetFault}
 use mathlib.Core.Path.{◌≡◌, refl, ap, ◌∙◌}
@@ -11,16 +11,16 @@ use lib.ListN.{length, take}
 use lib.Dec.{eqb}
 use borrow.Author.Tests.{eqb-true}
 use Rattle.ground.specs.Choice.{pick}
-use Rattle.sheet.specs.Kinds.{kind_of, is_unknown, body_length, in_order}
+use Rattle.sheet.specs.Kinds.{kind_of, body_length, in_order}
 use Rattle.sheet.specs.Records.{features_rule, sizes_rule, key_rule, profile_rule, lock_rule}
-use Rattle.sheet.specs.Judgement.{opened_of, only_if, taken_if, record_of, judged_of}
+use Rattle.sheet.specs.Judgement.{opened_of, record_in, taken_if, record_of, judged_of}
 use Rattle.sheet.specs.Judgement.{with_features, with_sizes, with_key, with_profile, with_lock}
 use Rattle.sheet.specs.declared.Kind.{Kind}
 use Rattle.sheet.specs.declared.Kind.TheVariants.{FeatureRecord, SizeRecord, KeyRecord, ProfileRecord}
-use Rattle.sheet.specs.declared.Kind.TheVariants.{LockRecord, EndRecord, NoRecord}
+use Rattle.sheet.specs.declared.Kind.TheVariants.{LockRecord, EndRecord}
 use Rattle.sheet.specs.declared.Gathered.{Gathered}
 use Rattle.sheet.proofs.Openings.{passed}
-use Rattle.sheet.proofs.Walks.{ahead, nothing_there}
+use Rattle.sheet.proofs.Walks.{nothing_there}
 
 -- the byte of a kind
 abbrev pub code_of : Kind → ℕ
@@ -30,35 +30,37 @@ code_of KeyRecord = 3
 code_of ProfileRecord = 4
 code_of LockRecord = 5
 code_of EndRecord = 6
-code_of NoRecord = 0
 
-abbrev chosen : Bool → Bool → Bool → Bool → Bool → Bool → Kind
+same : {p q : Kind} → ◌≡◌ {A = Option Kind} (Some p) (Some q) → p ≡ q
+same e = cc
+
+abbrev chosen : Bool → Bool → Bool → Bool → Bool → Bool → Option Kind
 chosen a b c d e f =
-    pick a FeatureRecord
-    (pick b SizeRecord
-    (pick c KeyRecord
-    (pick d ProfileRecord
-    (pick e LockRecord
-    (pick f EndRecord
-    NoRecord)))))
+    pick a (Some FeatureRecord)
+    (pick b (Some SizeRecord)
+    (pick c (Some KeyRecord)
+    (pick d (Some ProfileRecord)
+    (pick e (Some LockRecord)
+    (pick f (Some EndRecord)
+    None)))))
 
-code_is : (x : ℕ) (a b c d e f : Bool)
+code_is : (x : ℕ) (q : Kind) (a b c d e f : Bool)
     → eqb x 1 ≡ a → eqb x 2 ≡ b → eqb x 3 ≡ c → eqb x 4 ≡ d → eqb x 5 ≡ e → eqb x 6 ≡ f
-    → is_unknown (chosen a b c d e f) ≡ false → x ≡ code_of (chosen a b c d e f)
-code_is x true b c d e f p1 p2 p3 p4 p5 p6 h = eqb-true x 1 p1
-code_is x false true c d e f p1 p2 p3 p4 p5 p6 h = eqb-true x 2 p2
-code_is x false false true d e f p1 p2 p3 p4 p5 p6 h = eqb-true x 3 p3
-code_is x false false false true e f p1 p2 p3 p4 p5 p6 h = eqb-true x 4 p4
-code_is x false false false false true f p1 p2 p3 p4 p5 p6 h = eqb-true x 5 p5
-code_is x false false false false false true p1 p2 p3 p4 p5 p6 h = eqb-true x 6 p6
-code_is x false false false false false false p1 p2 p3 p4 p5 p6 h =
+    → chosen a b c d e f ≡ Some q → x ≡ code_of q
+code_is x q true b c d e f p1 p2 p3 p4 p5 p6 h = eqb-true x 1 p1 ∙ ap code_of (same h)
+code_is x q false true c d e f p1 p2 p3 p4 p5 p6 h = eqb-true x 2 p2 ∙ ap code_of (same h)
+code_is x q false false true d e f p1 p2 p3 p4 p5 p6 h = eqb-true x 3 p3 ∙ ap code_of (same h)
+code_is x q false false false true e f p1 p2 p3 p4 p5 p6 h = eqb-true x 4 p4 ∙ ap code_of (same h)
+code_is x q false false false false true f p1 p2 p3 p4 p5 p6 h = eqb-true x 5 p5 ∙ ap code_of (same h)
+code_is x q false false false false false true p1 p2 p3 p4 p5 p6 h = eqb-true x 6 p6 ∙ ap code_of (same h)
+code_is x q false false false false false false p1 p2 p3 p4 p5 p6 h =
     let z : ◌≡◌ {A = ℕ} 0 1 = cc in
     absurd (omega arith)
 
-pub kind_code : (x : ℕ) → is_unknown (kind_of x) ≡ false → x ≡ code_of (kind_of x)
+pub kind_code : (x : ℕ) (q : Kind) → kind_of x ≡ Some q → x ≡ code_of q
 unfolding kind_of
-kind_code x h =
-    code_is x (eqb x 1) (eqb x 2) (eqb x 3) (eqb x 4) (eqb x 5) (eqb x 6) refl refl refl refl refl refl h
+kind_code x q h =
+    code_is x q (eqb x 1) (eqb x 2) (eqb x 3) (eqb x 4) (eqb x 5) (eqb x 6) refl refl refl refl refl refl h
 
 -- the end record leaves what was gathered
 pick_end : (q : Kind) (k k' : Gathered) (r : Bool) → (taken_if r q k k').finding ≡ (Ok Ended) → ⊥
@@ -78,7 +80,6 @@ record_end LockRecord b k e =
     let fits = lock_rule k.marks.area k.marks.word k.terms.sizes b in
     absurd (pick_end LockRecord k (with_lock k b) fits e)
 record_end EndRecord b k e = (refl, refl)
-record_end NoRecord b k e = let z : ◌≡◌ {A = ℕ} 0 1 = cc in absurd (omega arith)
 
 -- the record that ends a sheet
 pub record End (limit b : ℕ) (t : List ℕ) (k : Gathered) : Type 0 where
@@ -86,17 +87,18 @@ pub record End (limit b : ℕ) (t : List ℕ) (k : Gathered) : Type 0 where
   pub ordered : in_order k.marks.last 6 ≡ true
   pub same : (judged_of limit (b ∷ t) k).gathered ≡ k
 
-ended : (limit b : ℕ) (t : List ℕ) (k : Gathered) (o : Result Unit SheetFault) → opened_of limit b (length t) k ≡ o
-    → (only_if o k (ahead (kind_of b) t k)).finding ≡ (Ok Ended)
-    → (b ≡ 6) × (in_order k.marks.last 6 ≡ true) × ((only_if o k (ahead (kind_of b) t k)).gathered ≡ k)
-ended limit b t k (Ok tt) o e =
-    let h = record_end (kind_of b) (take (body_length (kind_of b)) t) k e in
-    let p = passed limit b (length t) k o in
-    let six = kind_code b p.known ∙ ap code_of h.0 in
+ended : (limit b : ℕ) (t : List ℕ) (k : Gathered) (o : Result Kind SheetFault) → opened_of limit b (length t) k ≡ o
+    → (record_in o t k).finding ≡ (Ok Ended)
+    → (b ≡ 6) × (in_order k.marks.last 6 ≡ true) × ((record_in o t k).gathered ≡ k)
+ended limit b t k (Ok q) o e =
+    let h = record_end q (take (body_length q) t) k e in
+    let p = passed limit b (length t) k q o in
+    let six = kind_code b q p.known ∙ ap code_of h.0 in
     (six, rw six at p.ordered, h.1)
 ended limit b t k (Err f) o e = let z : ◌≡◌ {A = ℕ} 0 1 = cc in absurd (omega arith)
 
-pub end : (limit b : ℕ) (t : List ℕ) (k : Gathered) → (judged_of limit (b ∷ t) k).finding ≡ (Ok Ended) → End limit b t k
+pub end : (limit b : ℕ) (t : List ℕ) (k : Gathered) → (judged_of limit (b ∷ t) k).finding ≡ (Ok Ended)
+    → End limit b t k
 unfolding judged_of
 end limit b t k e =
     let h = ended limit b t k (opened_of limit b (length t) k) refl e in

@@ -8,17 +8,17 @@ use native.Mathlib.Omega.{arith}
 use lib.ListN.{length, get_or, take, drop, length-take, length-drop}
 use borrow.Author.Tests.{leb-false}
 use Rattle.sheet.specs.Limits.{profile_limit, lock_limit}
-use Rattle.sheet.specs.Kinds.{kind_of, body_length}
+use Rattle.sheet.specs.Kinds.{body_length}
 use Rattle.sheet.specs.Judgement.{too_many, opened_of, refused, record_of, judged_of}
 use Rattle.sheet.specs.PaperNumbers.{keeps_rule}
 use Rattle.sheet.specs.declared.Kind.{Kind}
 use Rattle.sheet.specs.declared.Kind.TheVariants.{FeatureRecord, SizeRecord, KeyRecord, ProfileRecord}
-use Rattle.sheet.specs.declared.Kind.TheVariants.{LockRecord, EndRecord, NoRecord}
+use Rattle.sheet.specs.declared.Kind.TheVariants.{LockRecord, EndRecord}
 use Rattle.sheet.specs.declared.SheetFault.{SheetFault}
 use Rattle.sheet.specs.declared.SheetFault.TheVariants.{Cut, Value}
 use Rattle.sheet.specs.declared.Gathered.{Gathered}
 use Rattle.sheet.specs.declared.Judged.{Judged}
-use Rattle.sheet.proofs.Openings.{passed}
+use Rattle.sheet.proofs.Openings.{Passed, passed}
 
 -- there is room for one more of its kind
 module _ (limit : ℕ) (q : Kind) (k : Gathered) where
@@ -43,15 +43,15 @@ rule_broken KeyRecord b k h = rw h
 rule_broken ProfileRecord b k h = rw h
 rule_broken LockRecord b k h = rw h
 rule_broken EndRecord b k h = let z : ◌≡◌ {A = ℕ} 0 1 = cc in absurd (omega arith)
-rule_broken NoRecord b k h = let z : ◌≡◌ {A = ℕ} 0 1 = cc in absurd (omega arith)
 
 pub judged_none : (limit : ℕ) (r : List ℕ) (k : Gathered) → length r ≡ 0 → refused Cut k ≡ judged_of limit r k
 unfolding judged_of
 judged_none limit [] k e = refl
 judged_none limit (b ∷ t) k e = absurd (omega arith)
 
-pub judged_shut : (limit : ℕ) (r : List ℕ) (k : Gathered) (o : Result Unit SheetFault) (f : SheetFault) → (length r ≡ 0 → ⊥)
-    → o ≡ opened_of limit (get_or r 0 0) (length r - 1) k → o ≡ Err f → refused f k ≡ judged_of limit r k
+pub judged_shut : (limit : ℕ) (r : List ℕ) (k : Gathered) (o : Result Kind SheetFault) (f : SheetFault)
+    → (length r ≡ 0 → ⊥) → o ≡ opened_of limit (get_or r 0 0) (length r - 1) k → o ≡ Err f
+    → refused f k ≡ judged_of limit r k
 unfolding judged_of
 judged_shut limit [] k o f n e h = absurd (n refl)
 judged_shut limit (b ∷ t) k o f n e h =
@@ -59,25 +59,27 @@ judged_shut limit (b ∷ t) k o f n e h =
     rw (sym (rw l at e) ∙ h)
 
 -- q and n are the kind and the body's length
-module _ (limit : ℕ) (r : List ℕ) (k : Gathered) (o : Result Unit SheetFault) (q : Kind) (n : ℕ) (some : length r ≡ 0 → ⊥)
-    (eo : o ≡ opened_of limit (get_or r 0 0) (length r - 1) k) (eop : o ≡ Ok tt)
-    (eq : q ≡ kind_of (get_or r 0 0)) (en : n ≡ body_length q) where
+module _ (limit : ℕ) (r : List ℕ) (k : Gathered) (o : Result Kind SheetFault) (q : Kind) (n : ℕ)
+    (some : length r ≡ 0 → ⊥) (eo : o ≡ opened_of limit (get_or r 0 0) (length r - 1) k) (eop : o ≡ Ok q)
+    (en : n ≡ body_length q) where
+  opened : Passed limit (get_or r 0 0) (length r - 1) k q
+  opened = passed limit (get_or r 0 0) (length r - 1) k q (sym eo ∙ eop)
+
   pub body_fits : n ≤ length r - 1
-  body_fits = rw (en, eq) (passed limit (get_or r 0 0) (length r - 1) k (sym eo ∙ eop)).whole
+  body_fits = rw en opened.whole
 
   pub body_few : too_many limit q k ≡ false
-  body_few = rw eq (passed limit (get_or r 0 0) (length r - 1) k (sym eo ∙ eop)).few
+  body_few = opened.few
 
   pub body_long : length (take (1 + n - 1) (drop 1 r)) ≡ body_length q
   body_long = simp (length-take, length-drop) (omega (arith, body_fits, en))
 
-pub judged_open : (limit : ℕ) (r : List ℕ) (k : Gathered) (o : Result Unit SheetFault) (q : Kind) (n : ℕ) (j : Judged)
-    → (length r ≡ 0 → ⊥) → o ≡ opened_of limit (get_or r 0 0) (length r - 1) k → o ≡ Ok tt
-    → q ≡ kind_of (get_or r 0 0) → n ≡ body_length q → j ≡ record_of q (take (1 + n - 1) (drop 1 r)) k
-    → j ≡ judged_of limit r k
+pub judged_open : (limit : ℕ) (r : List ℕ) (k : Gathered) (o : Result Kind SheetFault) (q : Kind) (n : ℕ) (j : Judged)
+    → (length r ≡ 0 → ⊥) → o ≡ opened_of limit (get_or r 0 0) (length r - 1) k → o ≡ Ok q
+    → n ≡ body_length q → j ≡ record_of q (take (1 + n - 1) (drop 1 r)) k → j ≡ judged_of limit r k
 unfolding judged_of
-judged_open limit [] k o q n j some eo eop eq en ej = absurd (some refl)
-judged_open limit (b ∷ t) k o q n j some eo eop eq en ej =
+judged_open limit [] k o q n j some eo eop en ej = absurd (some refl)
+judged_open limit (b ∷ t) k o q n j some eo eop en ej =
     let l : suc (length t) - 1 ≡ length t = omega arith in
     let m : 1 + n - 1 ≡ n = omega arith in
-    rw (sym (rw l at eo) ∙ eop, ← eq, ← en) (rw m at ej)
+    rw (sym (rw l at eo) ∙ eop, ← en) (rw m at ej)

@@ -1,34 +1,45 @@
 -- The four checks before a body's values: what holds where none of them refuses.
-use Rattle.std.specs.Prelude.{Ok}
-use mathlib.Core.Path.{◌≡◌, refl}
+use Rattle.std.specs.Prelude.{Option, Some, None, Ok}
+use mathlib.Core.Path.{◌≡◌, refl, sym, ap, ◌∙◌}
 use mathlib.Core.Bool.{Bool, true, false, not}
 use Prim.Native.Nat.{ℕ, ◌≤◌}
 use native.Mathlib.Omega.{arith}
 use lib.Dec.{ltb}
 use borrow.Author.Tests.{ltb-false}
-use Rattle.sheet.specs.Kinds.{kind_of, is_unknown, body_length, in_order}
-use Rattle.sheet.specs.Judgement.{too_many, shut_if, opened_of}
-use Rattle.sheet.specs.declared.SheetFault.TheVariants.{Cut, Unknown, Order, Many}
+use Rattle.sheet.specs.Kinds.{kind_of, body_length, in_order}
+use Rattle.sheet.specs.Judgement.{too_many, shut_if, opened_as, opened_of}
+use Rattle.sheet.specs.declared.Kind.{Kind}
+use Rattle.sheet.specs.declared.SheetFault.TheVariants.{Cut, Order, Many}
 use Rattle.sheet.specs.declared.Gathered.{Gathered}
 
 -- what an opened record has passed
-pub record Passed (limit b left : ℕ) (k : Gathered) : Type 0 where
-  pub known : is_unknown (kind_of b) ≡ false
+pub record Passed (limit b left : ℕ) (k : Gathered) (q : Kind) : Type 0 where
+  pub known : kind_of b ≡ Some q
   pub ordered : in_order k.marks.last b ≡ true
-  pub few : too_many limit (kind_of b) k ≡ false
-  pub whole : body_length (kind_of b) ≤ left
+  pub few : too_many limit q k ≡ false
+  pub whole : body_length q ≤ left
 
-all_open : (u o m c : Bool) → shut_if u Unknown (shut_if (not o) Order (shut_if m Many (shut_if c Cut (Ok tt)))) ≡ Ok tt
-    → (u ≡ false) × (o ≡ true) × (m ≡ false) × (c ≡ false)
-all_open true o m c e = let z : ◌≡◌ {A = ℕ} 0 1 = cc in absurd (omega arith)
-all_open false false m c e = let z : ◌≡◌ {A = ℕ} 0 1 = cc in absurd (omega arith)
-all_open false true true c e = let z : ◌≡◌ {A = ℕ} 0 1 = cc in absurd (omega arith)
-all_open false true false true e = let z : ◌≡◌ {A = ℕ} 0 1 = cc in absurd (omega arith)
-all_open false true false false e = (refl, refl, refl, refl)
+all_open : (o m c : Bool) (p q : Kind) → shut_if (not o) Order (shut_if m Many (shut_if c Cut (Ok p))) ≡ Ok q
+    → (o ≡ true) × (m ≡ false) × (c ≡ false) × (p ≡ q)
+all_open false m c p q e = let z : ◌≡◌ {A = ℕ} 0 1 = cc in absurd (omega arith)
+all_open true true c p q e = let z : ◌≡◌ {A = ℕ} 0 1 = cc in absurd (omega arith)
+all_open true false true p q e = let z : ◌≡◌ {A = ℕ} 0 1 = cc in absurd (omega arith)
+all_open true false false p q e = (refl, refl, refl, cc)
 
-pub passed : (limit b left : ℕ) (k : Gathered) → opened_of limit b left k ≡ Ok tt → Passed limit b left k
+passed_as : (limit b left : ℕ) (k : Gathered) (o : Option Kind) (q : Kind) → kind_of b ≡ o
+    → opened_as limit b left k o ≡ Ok q → Passed limit b left k q
+passed_as limit b left k None q g e = let z : ◌≡◌ {A = ℕ} 0 1 = cc in absurd (omega arith)
+passed_as limit b left k (Some p) q g e =
+    let n = body_length p in
+    let h = all_open (in_order k.marks.last b) (too_many limit p k) (ltb left n) p q e in
+    let i = h.3 in
+    record {
+      known = g ∙ ap Some i;
+      ordered = h.0;
+      few = ap (λ (x : Kind). too_many limit x k) (sym i) ∙ h.1;
+      whole = rw (← i) (ltb-false left n h.2);
+    }
+
+pub passed : (limit b left : ℕ) (k : Gathered) (q : Kind) → opened_of limit b left k ≡ Ok q → Passed limit b left k q
 unfolding opened_of
-passed limit b left k e =
-    let n = body_length (kind_of b) in
-    let h = all_open (is_unknown (kind_of b)) (in_order k.marks.last b) (too_many limit (kind_of b) k) (ltb left n) e in
-    record { known = h.0; ordered = h.1; few = h.2; whole = ltb-false left n h.3 }
+passed limit b left k q e = passed_as limit b left k (kind_of b) q refl e

@@ -1,5 +1,5 @@
 -- The numbers 30 to 35 and their places are those of the scope paper's list.
-use Rattle.std.specs.Prelude.{Result, Ok, Err}
+use Rattle.std.specs.Prelude.{Option, Some, None, Result, Ok, Err}
 use Rattle.sheet.specs.declared.Finding.TheVariants.{Taken, Ended}
 use Rattle.sheet.specs.declared.Finding.{Finding}
 use mathlib.Core.Path.{◌≡◌, refl, sym, ap, subst, subst₂, ◌∙◌}
@@ -11,24 +11,23 @@ use native.Mathlib.Omega.{arith}
 use lib.ListN.{length, take, drop}
 use lib.Dec.{ltb}
 use Rattle.ground.specs.Choice.{pick}
-use Rattle.sheet.specs.Kinds.{kind_of, is_unknown, body_length, in_order, number_of}
+use Rattle.sheet.specs.Kinds.{kind_of, body_length, in_order, number_of}
 use Rattle.sheet.specs.Records.{features_rule, sizes_rule, key_rule, profile_rule, lock_rule}
 use Rattle.sheet.specs.Setups.{nothing_gathered}
-use Rattle.sheet.specs.Judgement.{too_many, shut_if, opened_of, taken_if, record_of, only_if, judged_of}
+use Rattle.sheet.specs.Judgement.{too_many, shut_if, opened_as, opened_of, taken_if, record_of, record_in, judged_of}
 use Rattle.sheet.specs.Judgement.{with_features, with_sizes, with_key, with_profile, with_lock}
 use Rattle.sheet.specs.Judgement.{finding_number, judged_number}
 use Rattle.sheet.specs.Sheet.{read_of, verdict_of, verdict_number, verdict_place, read_number, read_place, RefusedBy}
 use Rattle.sheet.specs.Refusals.{InTurn, kinds_taken, FirstFault, there, behind}
-use Rattle.sheet.specs.PaperNumbers.{keeps_rule, paper_number, PaperSays, line, bytes_follow}
+use Rattle.sheet.specs.PaperNumbers.{keeps_rule, listed_as, paper_number, PaperSays, line, bytes_follow}
 use Rattle.sheet.specs.declared.Kind.{Kind}
 use Rattle.sheet.specs.declared.Kind.TheVariants.{FeatureRecord, SizeRecord, KeyRecord, ProfileRecord}
-use Rattle.sheet.specs.declared.Kind.TheVariants.{LockRecord, EndRecord, NoRecord}
+use Rattle.sheet.specs.declared.Kind.TheVariants.{LockRecord, EndRecord}
 use Rattle.sheet.specs.declared.SheetFault.{SheetFault}
 use Rattle.sheet.specs.declared.SheetFault.TheVariants.{Cut, Unknown, Order, Value, Many, Tail}
 use Rattle.sheet.specs.declared.SheetRefusal.{SheetRefusal}
 use Rattle.sheet.specs.declared.Reading.{Reading}
 use Rattle.sheet.specs.declared.Gathered.{Gathered}
-use Rattle.sheet.specs.declared.Judged.{Judged}
 use Rattle.sheet.proofs.Verdicts.{refused_told}
 use Rattle.sheet.proofs.Refusals.{sheet_refused, sheet_stops}
 use Rattle.sheet.proofs.Counts.{Counted, many_stand, counted}
@@ -39,40 +38,42 @@ rule_number : (r : Bool) (q : Kind) (k k' : Gathered)
 rule_number true q k k' = refl
 rule_number false q k k' = refl
 
-value_number : (q : Kind) (b : List ℕ) (k : Gathered) → is_unknown q ≡ false
+value_number : (q : Kind) (b : List ℕ) (k : Gathered)
     → finding_number (record_of q b k).finding ≡ pick (not (keeps_rule q b k)) 33 0
 unfolding record_of
-value_number FeatureRecord b k e = rule_number (features_rule b) FeatureRecord k (with_features k b)
-value_number SizeRecord b k e = rule_number (sizes_rule b) SizeRecord k (with_sizes k b)
-value_number KeyRecord b k e = rule_number (key_rule k.marks.id b) KeyRecord k (with_key k b)
-value_number ProfileRecord b k e =
+value_number FeatureRecord b k = rule_number (features_rule b) FeatureRecord k (with_features k b)
+value_number SizeRecord b k = rule_number (sizes_rule b) SizeRecord k (with_sizes k b)
+value_number KeyRecord b k = rule_number (key_rule k.marks.id b) KeyRecord k (with_key k b)
+value_number ProfileRecord b k =
     rule_number (profile_rule k.marks.number k.terms.sizes b) ProfileRecord k (with_profile k b)
-value_number LockRecord b k e =
+value_number LockRecord b k =
     rule_number (lock_rule k.marks.area k.marks.word k.terms.sizes b) LockRecord k (with_lock k b)
-value_number EndRecord b k e = refl
-value_number NoRecord b k e = let z : ◌≡◌ {A = ℕ} 0 1 = cc in absurd (omega arith)
+value_number EndRecord b k = refl
 
--- 31, 32, 34, 30, and n behind them
-line_by_line : (u o m c : Bool) (k : Gathered) (j : Judged) (n : ℕ) → (u ≡ false → finding_number j.finding ≡ n)
-    → finding_number
-    (only_if (shut_if u Unknown (shut_if (not o) Order (shut_if m Many (shut_if c Cut (Ok tt))))) k j).finding
-    ≡ pick u 31 (pick (not o) 32 (pick m 34 (pick c 30 n)))
-line_by_line true o m c k j n h = refl
-line_by_line false false m c k j n h = refl
-line_by_line false true true c k j n h = refl
-line_by_line false true false true k j n h = refl
-line_by_line false true false false k j n h = h refl
+-- 32, 34, 30, and n behind them
+line_by_line : (o m c : Bool) (q : Kind) (t : List ℕ) (k : Gathered) (n : ℕ)
+    → finding_number (record_of q (take (body_length q) t) k).finding ≡ n
+    → finding_number (record_in (shut_if (not o) Order (shut_if m Many (shut_if c Cut (Ok q)))) t k).finding
+    ≡ pick (not o) 32 (pick m 34 (pick c 30 n))
+line_by_line false m c q t k n h = refl
+line_by_line true true c q t k n h = refl
+line_by_line true false true q t k n h = refl
+line_by_line true false false q t k n h = h
+
+-- and 31 before them
+number_as : (limit b : ℕ) (t kinds : List ℕ) (k : Gathered) → Counted k kinds → (o : Option Kind)
+    → finding_number (record_in (opened_as limit b (length t) k o) t k).finding ≡ listed_as limit b t kinds k o
+number_as limit b t kinds k c None = refl
+number_as limit b t kinds k c (Some q) =
+    rw (← c.last, ← many_stand limit q k kinds c)
+    (line_by_line (in_order k.marks.last b) (too_many limit q k) (ltb (length t) (body_length q)) q t k _
+    (value_number q (take (body_length q) t) k))
 
 pub judged_number_lem : (limit : ℕ) (s kinds : List ℕ) (k : Gathered) → Counted k kinds
     → judged_number limit s k ≡ paper_number limit s kinds k
 unfolding judged_number judged_of opened_of
 judged_number_lem limit [] kinds k c = refl
-judged_number_lem limit (b ∷ t) kinds k c =
-    let q = kind_of b in
-    let body = take (body_length q) t in
-    rw (← c.last, ← many_stand limit q k kinds c)
-    (line_by_line (is_unknown q) (in_order k.marks.last b) (too_many limit q k) (ltb (length t) (body_length q)) k
-    (record_of q body k) (pick (not (keeps_rule q body k)) 33 0) (value_number q body k))
+judged_number_lem limit (b ∷ t) kinds k c = number_as limit b t kinds k c (kind_of b)
 
 some_number : (f : SheetFault) → 0 < number_of f
 some_number Cut = omega arith

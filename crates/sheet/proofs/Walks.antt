@@ -9,15 +9,15 @@ use native.Mathlib.Omega.{arith}
 use native.Mathlib.Nat.{le_of_suc-le-suc, not-suc-le-zero, min-eq_left, min-eq_right}
 use lib.ListN.{length, take, drop, length-drop}
 use lib.Seq.{take_all, drop-drop, drop-length}
-use Rattle.sheet.specs.Kinds.{kind_of, body_length, record_length}
+use Rattle.sheet.specs.Kinds.{kind_of, body_length, length_behind, record_length}
 use Rattle.sheet.specs.Records.{features_rule, sizes_rule, key_rule, profile_rule, lock_rule}
-use Rattle.sheet.specs.Judgement.{opened_of, only_if, taken_if, record_of, judged_of}
+use Rattle.sheet.specs.Judgement.{opened_of, record_in, taken_if, record_of, judged_of}
 use Rattle.sheet.specs.Judgement.{with_features, with_sizes, with_key, with_profile, with_lock}
 use Rattle.sheet.specs.Setups.{nothing_gathered}
 use Rattle.sheet.specs.Sheet.{walk, after, ends, refused_at, read_from, read_of}
 use Rattle.sheet.specs.declared.Kind.{Kind}
 use Rattle.sheet.specs.declared.Kind.TheVariants.{FeatureRecord, SizeRecord, KeyRecord, ProfileRecord}
-use Rattle.sheet.specs.declared.Kind.TheVariants.{LockRecord, EndRecord, NoRecord}
+use Rattle.sheet.specs.declared.Kind.TheVariants.{LockRecord, EndRecord}
 use Rattle.sheet.specs.declared.SheetFault.{SheetFault}
 use Rattle.sheet.specs.declared.SheetFault.TheVariants.{Cut, Tail}
 use Rattle.sheet.specs.declared.Gathered.{Gathered}
@@ -62,26 +62,22 @@ record_took LockRecord b k n e =
     let fits = lock_rule k.marks.area k.marks.word k.terms.sizes b in
     picked LockRecord b k (with_lock k b) fits n took_lock e
 record_took EndRecord b k n e = let z : ◌≡◌ {A = ℕ} 0 1 = cc in absurd (omega arith)
-record_took NoRecord b k n e = let z : ◌≡◌ {A = ℕ} 0 1 = cc in absurd (omega arith)
 
 -- The same of the record at which the bytes b ∷ t start.
 pub record Step (limit b : ℕ) (t : List ℕ) (k k' : Gathered) (n : ℕ) : Type 0 where
-  pub passed_checks : Passed limit b (length t) k
-  pub size : n ≡ record_length (kind_of b)
-  pub took : Took (kind_of b) (take (body_length (kind_of b)) t) k k'
+  pub kind : Kind
+  pub passed_checks : Passed limit b (length t) k kind
+  pub size : n ≡ record_length kind
+  pub took : Took kind (take (body_length kind) t) k k'
   pub judged : judged_of limit (b ∷ t) k ≡ record { finding = Ok (Taken n); gathered = k' }
 
--- the record of kind q with which the body in front of t starts, were it opened
-abbrev pub ahead : Kind → List ℕ → Gathered → Judged
-ahead q t k = record_of q (take (body_length q) t) k
-
-stepped : (limit b : ℕ) (t : List ℕ) (k : Gathered) (n : ℕ) (o : Result Unit SheetFault) → opened_of limit b (length t) k ≡ o
-    → (only_if o k (ahead (kind_of b) t k)).finding ≡ Ok (Taken n)
-    → Passed limit b (length t) k × (n ≡ record_length (kind_of b))
-    × Took (kind_of b) (take (body_length (kind_of b)) t) k (only_if o k (ahead (kind_of b) t k)).gathered
-stepped limit b t k n (Ok tt) o e =
-    let h = record_took (kind_of b) (take (body_length (kind_of b)) t) k n e in
-    (passed limit b (length t) k o, h.0, h.1)
+stepped : (limit b : ℕ) (t : List ℕ) (k : Gathered) (n : ℕ) (o : Result Kind SheetFault)
+    → opened_of limit b (length t) k ≡ o → (record_in o t k).finding ≡ Ok (Taken n)
+    → (q : Kind) × Passed limit b (length t) k q × (n ≡ record_length q)
+    × Took q (take (body_length q) t) k (record_in o t k).gathered
+stepped limit b t k n (Ok q) o e =
+    let h = record_took q (take (body_length q) t) k n e in
+    (q, passed limit b (length t) k q o, h.0, h.1)
 stepped limit b t k n (Err f) o e = let z : ◌≡◌ {A = ℕ} 0 1 = cc in absurd (omega arith)
 
 pub step : (limit b : ℕ) (t : List ℕ) (k : Gathered) (n : ℕ) → (judged_of limit (b ∷ t) k).finding ≡ Ok (Taken n)
@@ -90,11 +86,17 @@ unfolding judged_of
 step limit b t k n e =
     let h = stepped limit b t k n (opened_of limit b (length t) k) refl e in
     record {
-      passed_checks = h.0;
-      size = h.1;
-      took = h.2;
+      kind = h.0;
+      passed_checks = h.1;
+      size = h.2;
+      took = h.3;
       judged = λ i. record { finding = e i; gathered = (judged_of limit (b ∷ t) k).gathered };
     }
+
+-- of a record of a known kind so many bytes follow the kind byte
+pub behind_kind : {limit b left : ℕ} {k : Gathered} {q : Kind} → Passed limit b left k q
+    → length_behind (kind_of b) ≡ body_length q
+behind_kind p = ap length_behind p.known
 
 -- where no byte is left
 pub nothing_there : (limit : ℕ) (k : Gathered) → (judged_of limit [] k).finding ≡ Err Cut
@@ -141,9 +143,12 @@ module _ (limit at : ℕ) (k : Gathered) where
       let s = step limit b t k n e in
       let w = s.passed_checks.whole in
       let z = s.size in
-      let m = body_length (kind_of b) in
-      let q : at + 1 + m ≡ at + suc m = omega arith in
-      (omega arith, omega arith, rw (e, z, pass limit m t (at + 1) (judged_of limit (b ∷ t) k).gathered w, q))
+      let m = body_length s.kind in
+      let q : at + 1 + m ≡ at + suc m = omega arith in (
+        omega arith,
+        omega arith,
+        rw (e, z, behind_kind s.passed_checks, pass limit m t (at + 1) (judged_of limit (b ∷ t) k).gathered w, q),
+      )
 
 -- A part of a sheet that reaches to its end is all that follows the place.
 pub rest : (s : List ℕ) (at : ℕ) → take (length s - at) (drop at s) ≡ drop at s

@@ -1,12 +1,13 @@
 -- The scope paper, "The tag sheet": one record judged against those before it. `limit` is how many key records there
 -- may be.
-use Rattle.std.specs.Prelude.{◌≡◌, ℕ, ◌+◌, Bool, true, false, not, List, [], ◌∷◌, length, take, set, leb, ltb, Result, Ok, Err}
+use Rattle.std.specs.Prelude.{◌≡◌, ℕ, ◌+◌, Bool, true, false, not, List, [], ◌∷◌, length, take, set, leb, ltb}
+use Rattle.std.specs.Prelude.{Option, Some, None, Result, Ok, Err}
 use Rattle.sheet.specs.declared.Finding.TheVariants.{Taken, Ended}
 use Rattle.sheet.specs.declared.Finding.{Finding}
 use Rattle.ground.specs.Choice.{pick}
 use Rattle.ground.specs.Bytes.{byte_at, word_at}
 use Rattle.sheet.specs.Limits.{profile_limit, lock_limit}
-use Rattle.sheet.specs.Kinds.{kind_of, is_unknown, body_length, record_length, in_order, number_of}
+use Rattle.sheet.specs.Kinds.{kind_of, body_length, record_length, in_order, number_of}
 use Rattle.sheet.specs.Records.{
   features_rule,
   features_of,
@@ -26,7 +27,6 @@ use Rattle.sheet.specs.declared.Kind.TheVariants.{
   ProfileRecord,
   LockRecord,
   EndRecord,
-  NoRecord,
 }
 use Rattle.sheet.specs.declared.SheetFault.{SheetFault}
 use Rattle.sheet.specs.declared.SheetFault.TheVariants.{Cut, Unknown, Order, Value, Many}
@@ -41,20 +41,22 @@ too_many limit KeyRecord k = leb limit k.marks.keys
 too_many limit ProfileRecord k = leb profile_limit k.marks.profiles
 too_many limit LockRecord k = leb lock_limit k.terms.locks.count
 too_many limit EndRecord k = false
-too_many limit NoRecord k = false
 
-abbrev pub shut_if : Bool → SheetFault → Result Unit SheetFault → Result Unit SheetFault
+abbrev pub shut_if : Bool → SheetFault → Result Kind SheetFault → Result Kind SheetFault
 shut_if true f o = Err f
 shut_if false f o = o
 
--- What a kind byte b and the number of bytes after it decide, in the paper's order: 31, 32, 34, 30.
-unfoldable pub opened_of : ℕ → ℕ → ℕ → Gathered → Result Unit SheetFault
-opened_of limit b left k =
-    shut_if (is_unknown (kind_of b)) Unknown
-    (shut_if (not (in_order k.marks.last b)) Order
-    (shut_if (too_many limit (kind_of b) k) Many
-    (shut_if (ltb left (body_length (kind_of b))) Cut
-    (Ok tt))))
+-- What a kind byte b and the number of bytes after it decide, in the paper's order: 31, 32, 34, 30; or the kind.
+abbrev pub opened_as : ℕ → ℕ → ℕ → Gathered → Option Kind → Result Kind SheetFault
+opened_as limit b left k None = Err Unknown
+opened_as limit b left k (Some q) =
+    shut_if (not (in_order k.marks.last b)) Order
+    (shut_if (too_many limit q k) Many
+    (shut_if (ltb left (body_length q)) Cut
+    (Ok q)))
+
+unfoldable pub opened_of : ℕ → ℕ → ℕ → Gathered → Result Kind SheetFault
+opened_of limit b left k = opened_as limit b left k (kind_of b)
 
 -- A record that is refused leaves what was gathered; one that is taken takes its kind byte and its body.
 abbrev pub refused : SheetFault → Gathered → Judged
@@ -160,8 +162,7 @@ with_lock k b = record {
   };
 }
 
--- A whole record of kind q with the body b. 33: a value against its rule; else it is taken. (A byte of no kind was
--- refused before.)
+-- A whole record of kind q with the body b. 33: a value against its rule; else it is taken.
 abbrev pub taken_if : Bool → Kind → Gathered → Gathered → Judged
 taken_if fits q k next = pick fits (taken q next) (refused Value k)
 
@@ -174,17 +175,16 @@ record_of ProfileRecord b k =
 record_of LockRecord b k =
     taken_if (lock_rule k.marks.area k.marks.word k.terms.sizes b) LockRecord k (with_lock k b)
 record_of EndRecord b k = record { finding = (Ok Ended); gathered = k }
-record_of NoRecord b k = refused Unknown k
 
-abbrev pub only_if : Result Unit SheetFault → Gathered → Judged → Judged
-only_if (Ok tt) k j = j
-only_if (Err f) k j = refused f k
+-- the record of the kind that was opened, with its body in front of t
+abbrev pub record_in : Result Kind SheetFault → List ℕ → Gathered → Judged
+record_in (Ok q) t k = record_of q (take (body_length q) t) k
+record_in (Err f) t k = refused f k
 
 -- The record with which these bytes start. 30 also where the kind byte is missing.
 unfoldable pub judged_of : ℕ → List ℕ → Gathered → Judged
 judged_of limit [] k = refused Cut k
-judged_of limit (b ∷ t) k =
-    only_if (opened_of limit b (length t) k) k (record_of (kind_of b) (take (body_length (kind_of b)) t) k)
+judged_of limit (b ∷ t) k = record_in (opened_of limit b (length t) k) t k
 
 -- the number of a finding; 0 for a record that is taken or that ends the sheet
 abbrev pub finding_number : Result Finding SheetFault → ℕ

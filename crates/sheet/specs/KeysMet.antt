@@ -1,9 +1,9 @@
 -- The keys of a sheet as the walk over it meets them, record by record. Those of an accepted sheet are its key table's.
-use Rattle.std.specs.Prelude.{ℕ, zero, suc, List, [], ◌∷◌, ◌++◌, take, Result, Ok, Err}
+use Rattle.std.specs.Prelude.{ℕ, zero, suc, List, [], ◌∷◌, ◌++◌, take, Option, Some, None, Result, Ok, Err}
 use Rattle.sheet.specs.declared.Finding.TheVariants.{Taken, Ended}
 use Rattle.sheet.specs.declared.Finding.{Finding}
 use Rattle.sheet.specs.declared.SheetFault.{SheetFault}
-use Rattle.sheet.specs.Kinds.{kind_of, body_length}
+use Rattle.sheet.specs.Kinds.{kind_of, length_behind}
 use Rattle.sheet.specs.Records.{key_of}
 use Rattle.sheet.specs.Setups.{nothing_gathered}
 use Rattle.sheet.specs.Judgement.{judged_of}
@@ -15,20 +15,19 @@ use Rattle.sheet.specs.declared.Kind.TheVariants.{
   ProfileRecord,
   LockRecord,
   EndRecord,
-  NoRecord,
 }
 use Rattle.sheet.specs.declared.Key.{Key}
 use Rattle.sheet.specs.declared.Gathered.{Gathered}
 
 -- a record of kind 03 says a key, and no other does
-abbrev pub key_said : Kind → List ℕ → List Key
-key_said FeatureRecord b = []
-key_said SizeRecord b = []
-key_said KeyRecord b = key_of b ∷ []
-key_said ProfileRecord b = []
-key_said LockRecord b = []
-key_said EndRecord b = []
-key_said NoRecord b = []
+abbrev pub key_said : Option Kind → List ℕ → List Key
+key_said (Some FeatureRecord) b = []
+key_said (Some SizeRecord) b = []
+key_said (Some KeyRecord) b = key_of b ∷ []
+key_said (Some ProfileRecord) b = []
+key_said (Some LockRecord) b = []
+key_said (Some EndRecord) b = []
+key_said None b = []
 
 -- of a record that is taken, and those behind it
 abbrev pub met_in : Result Finding SheetFault → List Key → List Key → List Key
@@ -42,7 +41,7 @@ met_from limit [] body k = []
 met_from limit (b ∷ t) (suc body) k = met_from limit t body k
 met_from limit (b ∷ t) zero k =
     let j = judged_of limit (b ∷ t) k in
-    let n = body_length (kind_of b) in
+    let n = length_behind (kind_of b) in
     met_in j.finding (key_said (kind_of b) (take n t)) (met_from limit t n j.gathered)
 
 unfoldable pub keys_met : ℕ → List ℕ → List Key

@@ -1,5 +1,5 @@
 -- The scope paper, "The tag sheet": the kinds of records, and the numbers of the refusals.
-use Rattle.std.specs.Prelude.{ℕ, suc, ◌+◌, Bool, true, false, eqb, leb}
+use Rattle.std.specs.Prelude.{ℕ, suc, ◌+◌, Bool, eqb, leb, Option, Some, None}
 use Rattle.ground.specs.Choice.{pick, both}
 use Rattle.sheet.specs.declared.Kind.{Kind}
 use Rattle.sheet.specs.declared.Kind.TheVariants.{
@@ -9,30 +9,20 @@ use Rattle.sheet.specs.declared.Kind.TheVariants.{
   ProfileRecord,
   LockRecord,
   EndRecord,
-  NoRecord,
 }
 use Rattle.sheet.specs.declared.SheetFault.{SheetFault}
 use Rattle.sheet.specs.declared.SheetFault.TheVariants.{Cut, Unknown, Order, Value, Many, Tail}
 
--- the kind of a record, by its first byte
-unfoldable pub kind_of : ℕ → Kind
+-- the kind of a record, by its first byte; other bytes have none
+unfoldable pub kind_of : ℕ → Option Kind
 kind_of b =
-    pick (eqb b 1) FeatureRecord
-    (pick (eqb b 2) SizeRecord
-    (pick (eqb b 3) KeyRecord
-    (pick (eqb b 4) ProfileRecord
-    (pick (eqb b 5) LockRecord
-    (pick (eqb b 6) EndRecord
-    NoRecord)))))
-
-abbrev pub is_unknown : Kind → Bool
-is_unknown FeatureRecord = false
-is_unknown SizeRecord = false
-is_unknown KeyRecord = false
-is_unknown ProfileRecord = false
-is_unknown LockRecord = false
-is_unknown EndRecord = false
-is_unknown NoRecord = true
+    pick (eqb b 1) (Some FeatureRecord)
+    (pick (eqb b 2) (Some SizeRecord)
+    (pick (eqb b 3) (Some KeyRecord)
+    (pick (eqb b 4) (Some ProfileRecord)
+    (pick (eqb b 5) (Some LockRecord)
+    (pick (eqb b 6) (Some EndRecord)
+    None)))))
 
 -- how many bytes follow the kind byte
 abbrev pub body_length : Kind → ℕ
@@ -42,7 +32,11 @@ body_length KeyRecord = 36
 body_length ProfileRecord = 6
 body_length LockRecord = 5
 body_length EndRecord = 0
-body_length NoRecord = 0
+
+-- the same by what the kind byte is; none where it has no kind
+abbrev pub length_behind : Option Kind → ℕ
+length_behind (Some q) = body_length q
+length_behind None = 0
 
 -- a record is its kind byte and its body
 abbrev pub record_length : Kind → ℕ

@@ -1,11 +1,12 @@
 -- The scope paper, "The tag sheet": its list of refusals with their numbers, line by line in its order. `number_of` (in
 -- Kinds) names no condition; here each number stands beside its own.
-use Rattle.std.specs.Prelude.{◌≡◌, ℕ, ◌+◌, ◌<◌, Bool, true, false, not, List, [], ◌∷◌, length, take, drop, leb, ltb, Ok}
+use Rattle.std.specs.Prelude.{◌≡◌, ℕ, ◌+◌, ◌<◌, Bool, true, false, not, List, [], ◌∷◌, length, take, drop, leb, ltb}
+use Rattle.std.specs.Prelude.{Option, Some, None, Ok}
 use Rattle.sheet.specs.declared.Finding.TheVariants.{Ended}
 use Rattle.ground.specs.Choice.{pick}
 use Rattle.ground.specs.Bytes.{byte_at}
 use Rattle.sheet.specs.Limits.{profile_limit, lock_limit}
-use Rattle.sheet.specs.Kinds.{kind_of, is_unknown, body_length, in_order}
+use Rattle.sheet.specs.Kinds.{kind_of, body_length, in_order}
 use Rattle.sheet.specs.Records.{features_rule, sizes_rule, key_rule, profile_rule, lock_rule}
 use Rattle.sheet.specs.Setups.{nothing_gathered}
 use Rattle.sheet.specs.Judgement.{judged_of}
@@ -18,7 +19,6 @@ use Rattle.sheet.specs.declared.Kind.TheVariants.{
   ProfileRecord,
   LockRecord,
   EndRecord,
-  NoRecord,
 }
 use Rattle.sheet.specs.declared.Gathered.{Gathered}
 
@@ -30,7 +30,6 @@ keeps_rule KeyRecord b k = key_rule k.marks.id b
 keeps_rule ProfileRecord b k = profile_rule k.marks.number k.terms.sizes b
 keeps_rule LockRecord b k = lock_rule k.marks.area k.marks.word k.terms.sizes b
 keeps_rule EndRecord b k = true
-keeps_rule NoRecord b k = true
 
 -- whether as many of a kind as there may be stand before, where these are the kind bytes there
 abbrev pub all_stand : ℕ → Kind → List ℕ → Bool
@@ -40,19 +39,21 @@ all_stand limit KeyRecord kinds = leb limit (how_many 3 kinds)
 all_stand limit ProfileRecord kinds = leb profile_limit (how_many 4 kinds)
 all_stand limit LockRecord kinds = leb lock_limit (how_many 5 kinds)
 all_stand limit EndRecord kinds = false
-all_stand limit NoRecord kinds = false
 
 -- "in order for each record: 31 unknown kind, 32 kind out of order, 34 a seventeenth of its kind, 30 cut short, 33 a
 -- value against its rule": b is its kind byte, t what follows, and `kinds` the kind bytes of the records before it, the
 -- last first. 0 where no line applies.
+abbrev pub listed_as : ℕ → ℕ → List ℕ → List ℕ → Gathered → Option Kind → ℕ
+listed_as limit b t kinds k None = 31
+listed_as limit b t kinds k (Some q) =
+    pick (not (in_order (byte_at kinds 0) b)) 32
+    (pick (all_stand limit q kinds) 34
+    (pick (ltb (length t) (body_length q)) 30
+    (pick (not (keeps_rule q (take (body_length q) t) k)) 33
+    0)))
+
 abbrev pub listed : ℕ → ℕ → List ℕ → List ℕ → Gathered → ℕ
-listed limit b t kinds k =
-    pick (is_unknown (kind_of b)) 31
-    (pick (not (in_order (byte_at kinds 0) b)) 32
-    (pick (all_stand limit (kind_of b) kinds) 34
-    (pick (ltb (length t) (body_length (kind_of b))) 30
-    (pick (not (keeps_rule (kind_of b) (take (body_length (kind_of b)) t) k)) 33
-    0))))
+listed limit b t kinds k = listed_as limit b t kinds k (kind_of b)
 
 -- "30 .. also where a kind byte is missing"
 abbrev pub paper_number : ℕ → List ℕ → List ℕ → Gathered → ℕ

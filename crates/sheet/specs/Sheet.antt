@@ -2,7 +2,7 @@
 use Rattle.std.specs.Prelude.{◌≡◌, ℕ, zero, suc, ◌+◌, min, List, [], ◌∷◌, length, drop, Result, Ok, Err}
 use Rattle.sheet.specs.declared.Finding.TheVariants.{Taken, Ended}
 use Rattle.sheet.specs.declared.Finding.{Finding}
-use Rattle.sheet.specs.Kinds.{kind_of, body_length, number_of}
+use Rattle.sheet.specs.Kinds.{kind_of, length_behind, number_of}
 use Rattle.sheet.specs.KeyTable.{key_table}
 use Rattle.sheet.specs.Setups.{Setup, setup_of, empty_terms, nothing_gathered}
 use Rattle.sheet.specs.Judgement.{judged_of}
@@ -41,7 +41,7 @@ walk limit [] body at k = refused_at Cut at
 walk limit (b ∷ t) (suc body) at k = walk limit t body (at + 1) k
 walk limit (b ∷ t) zero at k =
     let j = judged_of limit (b ∷ t) k in
-    after j.finding j.gathered at t (walk limit t (body_length (kind_of b)) (at + 1) j.gathered)
+    after j.finding j.gathered at t (walk limit t (length_behind (kind_of b)) (at + 1) j.gathered)
 
 -- The place that is asked for, and the sheet's end where that would lie behind it: no place is past the sheet.
 abbrev pub place_in : List ℕ → ℕ → ℕ

@@ -1,7 +1,7 @@
 // The kinds of records, and the four checks before a record's values.
 ghost use Rattle.std.specs.Prelude.{◌≡◌};
 ghost use Rattle.sheet.specs.Limits.{key_limit};
-ghost use Rattle.sheet.specs.Kinds.{kind_of, is_unknown, body_length, in_order};
+ghost use Rattle.sheet.specs.Kinds.{kind_of, body_length, in_order};
 ghost use Rattle.sheet.specs.Judgement.{too_many, opened_of};
 
 use crate::{
@@ -10,24 +10,18 @@ use crate::{
 };
 
 #[tactic(auto, unfolding(crate::specs::Kinds::kind_of))]
-pub(crate) fn kind_of(b: u8) -> Kind
+fn kind_of(b: u8) -> Option<Kind>
     ensures { result ≡ kind_of b }
 {
     match b {
-        1 => Kind::FeatureRecord,
-        2 => Kind::SizeRecord,
-        3 => Kind::KeyRecord,
-        4 => Kind::ProfileRecord,
-        5 => Kind::LockRecord,
-        6 => Kind::EndRecord,
-        _ => Kind::NoRecord,
+        1 => Some(Kind::FeatureRecord),
+        2 => Some(Kind::SizeRecord),
+        3 => Some(Kind::KeyRecord),
+        4 => Some(Kind::ProfileRecord),
+        5 => Some(Kind::LockRecord),
+        6 => Some(Kind::EndRecord),
+        _ => None,
     }
-}
-
-fn is_unknown(k: Kind) -> bool
-    ensures { result ≡ is_unknown k }
-{
-    matches!(k, Kind::NoRecord)
 }
 
 pub(crate) fn body_length(k: Kind) -> usize
@@ -39,7 +33,7 @@ pub(crate) fn body_length(k: Kind) -> usize
         Kind::KeyRecord => KEY_BODY,
         Kind::ProfileRecord => PROFILE_BODY,
         Kind::LockRecord => LOCK_BODY,
-        Kind::EndRecord | Kind::NoRecord => 0,
+        Kind::EndRecord => 0,
     }
 }
 
@@ -62,19 +56,18 @@ fn too_many(q: Kind, gathered: Gathered) -> bool
         Kind::KeyRecord => KEY_LIMIT <= gathered.marks.keys,
         Kind::ProfileRecord => PROFILE_LIMIT <= gathered.marks.profiles,
         Kind::LockRecord => LOCK_LIMIT <= gathered.terms.locks.count,
-        Kind::FeatureRecord | Kind::SizeRecord | Kind::EndRecord | Kind::NoRecord => false,
+        Kind::FeatureRecord | Kind::SizeRecord | Kind::EndRecord => false,
     }
 }
 
 // The four checks before the body's values, in the paper's order.
 #[tactic(auto, unfolding(crate::specs::Judgement::opened_of))]
-pub(crate) fn opening(b: u8, left: usize, gathered: Gathered) -> Result<(), SheetFault>
+pub(crate) fn opening(b: u8, left: usize, gathered: Gathered) -> Result<Kind, SheetFault>
     ensures { result ≡ opened_of key_limit b left gathered }
 {
-    let q = kind_of(b);
-    if is_unknown(q) {
+    let Some(q) = kind_of(b) else {
         return Err(SheetFault::Unknown);
-    }
+    };
     if !in_order(gathered.marks.last, b) {
         return Err(SheetFault::Order);
     }
@@ -84,5 +77,5 @@ pub(crate) fn opening(b: u8, left: usize, gathered: Gathered) -> Result<(), Shee
     if left < body_length(q) {
         return Err(SheetFault::Cut);
     }
-    Ok(())
+    Ok(q)
 }

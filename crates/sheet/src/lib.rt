@@ -63,7 +63,7 @@ pub enum SheetFault {
     Tail,
 }
 
-// The kind of a record, by its first byte: 01 to 06, or none of them.
+// The kind of a record, by its first byte: 01 to 06.
 #[derive(Clone, Copy)]
 pub enum Kind {
     FeatureRecord,
@@ -72,7 +72,6 @@ pub enum Kind {
     ProfileRecord,
     LockRecord,
     EndRecord,
-    NoRecord,
 }
 
 // Record 01: BlockSize 1, Rev 0, Rev 1, IAM1 and IAM2, IAM3, MAM, and the ProtModes.
@@ -230,11 +229,9 @@ pub fn judge(rest: &[u8], gathered: Gathered) -> Judged
     if rest.len() == 0 {
         return records::refused(SheetFault::Cut, gathered);
     }
-    let b = rest[0];
-    match kinds::opening(b, rest.len() - 1, gathered) {
+    match kinds::opening(rest[0], rest.len() - 1, gathered) {
         Err(fault) => records::refused(fault, gathered),
-        Ok(()) => {
-            let q = kinds::kind_of(b);
+        Ok(q) => {
             let e = 1 + kinds::body_length(q);
             records::judge_body(q, &rest[1..e], gathered)
         }

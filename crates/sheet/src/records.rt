@@ -43,7 +43,7 @@ fn keeps_rule(q: Kind, b: &[u8], gathered: Gathered) -> bool
         Kind::KeyRecord => bodies::key_fits(b, marks.id),
         Kind::ProfileRecord => bodies::profile_fits(b, marks.number, terms.sizes),
         Kind::LockRecord => bodies::lock_fits(b, marks.area, marks.word, terms.sizes),
-        Kind::EndRecord | Kind::NoRecord => true,
+        Kind::EndRecord => true,
     }
 }
 
@@ -154,6 +154,5 @@ pub(crate) fn judge_body(q: Kind, b: &[u8], gathered: Gathered) -> Judged
             finding: Ok(Finding::Ended),
             gathered,
         },
-        Kind::NoRecord => refused(SheetFault::Unknown, gathered),
     }
 }

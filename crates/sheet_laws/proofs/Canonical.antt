@@ -1,4 +1,5 @@
 -- One record more that is taken: what holds of the records read so far holds with it.
+use Rattle.std.specs.Prelude.{Some}
 use mathlib.Core.Path.{◌≡◌, refl, sym, ap, subst₂, ◌∙◌}
 use mathlib.Core.Bool.{true, false}
 use mathlib.Core.Logic.{inr}
@@ -14,7 +15,7 @@ use Rattle.ground.specs.Bytes.{Bytes, byte_at}
 use Rattle.ground.proofs.Bytes.{bytes_tail, bytes_take, bytes_drop}
 use Rattle.ground.proofs.Choice.{both_true}
 use Rattle.sheet.specs.Limits.{profile_limit, lock_limit}
-use Rattle.sheet.specs.Kinds.{kind_of, body_length, in_order}
+use Rattle.sheet.specs.Kinds.{kind_of, body_length, length_behind, in_order}
 use Rattle.sheet.specs.Setups.{no_lock, empty_terms, no_marks, nothing_gathered}
 use Rattle.sheet.specs.Records.{features_rule, features_of, sizes_rule, sizes_of, key_rule, key_of}
 use Rattle.sheet.specs.Records.{profile_rule, slot_of, lock_rule, lock_of}
@@ -254,7 +255,7 @@ module _ (limit : ℕ) where
   by_kind_lem : (q : Kind) (b c : List ℕ) (k k' : Gathered) (ks : List Key) → Took q b k k' → Sound limit c k ks
       → Bytes b
       → length b ≡ body_length q → in_order k.marks.last (code_of q) ≡ true → too_many limit q k ≡ false
-      → Sound limit (c ++ (code_of q ∷ b)) k' (ks ++ key_said q b)
+      → Sound limit (c ++ (code_of q ∷ b)) k' (ks ++ key_said (Some q) b)
   by_kind_lem q b c k k' ks (took_features r) s y l o t = rw (append-nil ks) (sound_features c b k ks s l r o)
   by_kind_lem q b c k k' ks (took_sizes r) s y l o t = rw (append-nil ks) (sound_sizes c b k ks s y l r o)
   by_kind_lem q b c k k' ks (took_key r) s y l o t =
@@ -269,15 +270,16 @@ module _ (limit : ℕ) where
 
   pub sound_step : (s : List ℕ) → Bytes s → (c : List ℕ) (b : ℕ) (t : List ℕ) (k k' : Gathered) (n : ℕ) (ks : List Key)
       → c ++ (b ∷ t) ≡ s → Step limit b t k k' n → Sound limit c k ks
-      → Sound limit (c ++ take n (b ∷ t)) k' (ks ++ key_said (kind_of b) (take (body_length (kind_of b)) t))
+      → Sound limit (c ++ take n (b ∷ t)) k' (ks ++ key_said (kind_of b) (take (length_behind (kind_of b)) t))
   sound_step s y c b t k k' n ks e p h =
-      let q = kind_of b in
+      let q = p.kind in
       let d = take (body_length q) t in
-      let code = kind_code b p.passed_checks.known in
+      let code = kind_code b q p.passed_checks.known in
       let long : length d ≡ body_length q = length-take-le (body_length q) t p.passed_checks.whole in
       let tail = bytes_take (body_length q) t (bytes_tail b t (bytes_behind c (b ∷ t) s e y)) in
       let order = ap (in_order k.marks.last) (sym code) ∙ p.passed_checks.ordered in
-      moved
+      rw p.passed_checks.known
+      (moved
       (ap (λ (x : ℕ). c ++ (x ∷ d)) (sym code) ∙ ap (λ (x : ℕ). c ++ take x (b ∷ t)) (sym p.size))
       refl
-      (by_kind_lem q d c k k' ks p.took h tail long order p.passed_checks.few)
+      (by_kind_lem q d c k k' ks p.took h tail long order p.passed_checks.few))

@@ -72,7 +72,7 @@ module _ (limit f m : ℕ) where
   unfolding read_of kind_of in_order too_many record_of nothing_gathered no_marks
   says x e q =
       go_on limit 1 FeatureRecord body (0x02 ∷ 0x00 ∷ 0x00 ∷ 0x00 ∷ 0x00 ∷ 0x06 ∷ []) nothing_gathered
-      (with_features nothing_gathered body) refl refl refl refl refl (rw e) 0
+      (with_features nothing_gathered body) refl refl refl refl (rw e) 0
       ∙ rest_read
       ∙ ap featured q
 
@@ -81,7 +81,7 @@ module _ (limit f m : ℕ) where
   unfolding read_of kind_of in_order too_many record_of nothing_gathered no_marks
   refuses t e =
       refused_told limit (0x01 ∷ f ∷ m ∷ t) Value 0
-      (stop_at limit 1 FeatureRecord body t nothing_gathered refl refl refl refl refl 0 (rw e))
+      (stop_at limit 1 FeatureRecord body t nothing_gathered refl refl refl refl 0 (rw e))
 
 -- each feature bit alone; IAM3, which needs bit 3, with it; and each ProtMode alone
 pub blocksize_1 : Says 0x01 0x00 (flags true false false false false false false false false false)

@@ -82,7 +82,7 @@ profile_taken limit n t k h w =
         next = le_refl (n + 1);
         sizes = w.sizes;
       },
-      go_on limit 4 ProfileRecord c t k k' refl refl (order_on k.marks.last 4 w.behind w.low (omega arith))
+      go_on limit 4 ProfileRecord c t k k' refl (order_on k.marks.last 4 w.behind w.low (omega arith))
           (lt-leb 16 k.marks.profiles room) refl (rw fine) (8 + 7 * n)
           ∙ ap (λ (m : ℕ). walk limit t 0 m k') e,
     )
@@ -103,7 +103,7 @@ seventeenth_profile limit t =
     refused_told limit (opening (rows profile 0 16 (0x04 ∷ t))) Many 120
     (behind_opening limit (rows profile 0 16 (0x04 ∷ t))
     ∙ r.2
-    ∙ one_too_many limit 4 120 k t refl (order_on k.marks.last 4 r.1.behind r.1.low (omega arith))
+    ∙ one_too_many limit 4 ProfileRecord 120 k t refl (order_on k.marks.last 4 r.1.behind r.1.low (omega arith))
     (le-leb 16 k.marks.profiles (omega (arith, r.1.count))))
 
 -- lock n: word n of area 0
@@ -143,7 +143,7 @@ lock_taken limit n t k h w =
         word = omega arith;
         sizes = w.sizes;
       },
-      go_on limit 5 LockRecord c t k k' refl refl (order_on k.marks.last 5 w.behind w.low (omega arith))
+      go_on limit 5 LockRecord c t k k' refl (order_on k.marks.last 5 w.behind w.low (omega arith))
           (lt-leb 16 k.terms.locks.count room) refl (rw fine) (8 + 6 * n)
           ∙ ap (λ (m : ℕ). walk limit t 0 m k') e,
     )
@@ -164,5 +164,5 @@ seventeenth_lock limit t =
     refused_told limit (opening (rows lock 0 16 (0x05 ∷ t))) Many 104
     (behind_opening limit (rows lock 0 16 (0x05 ∷ t))
     ∙ r.2
-    ∙ one_too_many limit 5 104 k t refl (order_on k.marks.last 5 r.1.behind r.1.low (omega arith))
+    ∙ one_too_many limit 5 LockRecord 104 k t refl (order_on k.marks.last 5 r.1.behind r.1.low (omega arith))
     (le-leb 16 k.terms.locks.count (omega (arith, r.1.count))))

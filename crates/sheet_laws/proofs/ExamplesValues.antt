@@ -51,7 +51,7 @@ unfolding read_of judged_of opened_of kind_of in_order too_many record_of nothin
 again_at_once limit t =
     let k = with_features nothing_gathered (0 ∷ 0 ∷ []) in
     refused_told limit (0x01 ∷ 0x00 ∷ 0x00 ∷ 0x01 ∷ t) Order 3
-    (go_on limit 1 FeatureRecord (0 ∷ 0 ∷ []) (1 ∷ t) nothing_gathered k refl refl refl refl refl refl 0
+    (go_on limit 1 FeatureRecord (0 ∷ 0 ∷ []) (1 ∷ t) nothing_gathered k refl refl refl refl refl 0
     ∙ walk_faulty limit 3 k (1 ∷ t) Order refl)
 
 -- 32: 01 or 02 again behind both
@@ -76,7 +76,7 @@ unfolding kind_of in_order too_many record_of
 key_refused limit c t h l e =
     refused_told limit (opening (0x03 ∷ c ++ t)) Value 8
     (behind_opening limit (0x03 ∷ c ++ t)
-    ∙ stop_at limit 3 KeyRecord c t begun refl refl refl (lt-leb limit 0 h) l 8 (rw e))
+    ∙ stop_at limit 3 KeyRecord c t begun refl refl (lt-leb limit 0 h) l 8 (rw e))
 
 -- a MAC flag of 2 or above, whatever the keys are
 pub mac_flag : (limit id mac : ℕ) (c t : List ℕ) → 1 ≤ limit → 2 ≤ mac → length c ≡ 34
@@ -122,7 +122,7 @@ module _ (limit a f c a' f' c' : ℕ) (first : lock_rule 0 0 sixteen (lock_body_
 
   one_taken : (t : List ℕ) → walk limit (lock a f c t) 0 8 begun ≡ walk limit t 0 14 one_lock
   unfolding kind_of in_order too_many record_of lock_limit one_lock
-  one_taken t = go_on limit 5 LockRecord (lock_body_lem a f c) t begun one_lock refl refl refl refl refl (rw first) 8
+  one_taken t = go_on limit 5 LockRecord (lock_body_lem a f c) t begun one_lock refl refl refl refl (rw first) 8
 
   -- against its rule, which has the end of the first: 33 at 14
   falls : (t : List ℕ) → lock_rule a (0 * 256 + f + (0 * 256 + c)) sixteen (lock_body_lem a' f' c') ≡ false
@@ -132,7 +132,7 @@ module _ (limit a f c a' f' c' : ℕ) (first : lock_rule 0 0 sixteen (lock_body_
       refused_told limit (opening (lock a f c (lock a' f' c' t))) Value 14
       (behind_opening limit (lock a f c (lock a' f' c' t))
       ∙ one_taken (lock a' f' c' t)
-      ∙ stop_at limit 5 LockRecord (lock_body_lem a' f' c') t one_lock refl refl refl refl refl 14 (rw e))
+      ∙ stop_at limit 5 LockRecord (lock_body_lem a' f' c') t one_lock refl refl refl refl 14 (rw e))
 
   rises : lock_rule a (0 * 256 + f + (0 * 256 + c)) sixteen (lock_body_lem a' f' c') ≡ true
       → Accepted limit (opening (lock a f c (lock a' f' c' (0x06 ∷ []))))
@@ -142,7 +142,7 @@ module _ (limit a f c a' f' c' : ℕ) (first : lock_rule 0 0 sixteen (lock_body_
       ap verdict_of
       (behind_opening limit (lock a f c (lock a' f' c' (0x06 ∷ [])))
       ∙ one_taken (lock a' f' c' (0x06 ∷ []))
-      ∙ go_on limit 5 LockRecord (lock_body_lem a' f' c') (0x06 ∷ []) one_lock k refl refl refl refl refl (rw e) 14
+      ∙ go_on limit 5 LockRecord (lock_body_lem a' f' c') (0x06 ∷ []) one_lock k refl refl refl refl (rw e) 14
       ∙ end_walk limit 20 k (omega arith) (omega arith))
 
 -- words 0 and 1, then 1 and 2: the second starts before the end of the first

@@ -68,7 +68,7 @@ module _ (limit : ℕ) (f : Features) (z : Sizes) (R : Result Reading SheetRefus
     keys_walk (x ∷ ks) n at last id e p w l h =
         let k = keyed last n id in
         let fine = key_fine x w.1 id w.0 in
-        let g = go_on limit 3 KeyRecord (key_body x) (keys_written ks ++ r) k (with_key k (key_body x)) refl refl
+        let g = go_on limit 3 KeyRecord (key_body x) (keys_written ks ++ r) k (with_key k (key_body x)) refl
         (order_on last 3 l h (omega arith)) (lt-leb limit n (omega arith)) (key_length x w.1) (rw fine) at in
         rw (append_assoc (key_body x) (keys_written ks) r, g)
         (keys_walk ks (n + 1) (at + 1 + 36) 3 (x.id + 1) (omega arith) (omega arith) w.2 (omega arith)
@@ -100,7 +100,7 @@ module _ (limit : ℕ) (f : Features) (z : Sizes) (R : Result Reading SheetRefus
         let c = profile_body n x.profile in
         let fine = profile_fine number n z x.profile b p w.1 in
         let g =
-        go_on limit 4 ProfileRecord c (t ++ r) k (with_profile k c) refl refl (order_on last 4 l h (omega arith))
+        go_on limit 4 ProfileRecord c (t ++ r) k (with_profile k c) refl (order_on last 4 l h (omega arith))
         (lt-leb profile_limit profiles (omega arith)) (profile_length n x.profile) (rw fine) at in
         rw (
           w.0,
@@ -142,7 +142,7 @@ module _ (limit : ℕ) (f : Features) (z : Sizes) (R : Result Reading SheetRefus
         let k = state f z m ss before in
         let p = room before ls all x lock_limit e fits in
         let fine = lock_fine area word z x w.0 in
-        let g = go_on limit 5 LockRecord (lock_body x) (locks_written ls ++ r) k (with_lock k (lock_body x)) refl refl
+        let g = go_on limit 5 LockRecord (lock_body x) (locks_written ls ++ r) k (with_lock k (lock_body x)) refl
         (order_on last 5 l h (omega arith)) (lt-leb lock_limit (length before) p) (lock_length x) (rw fine) at in
         rw (
           append_assoc (lock_body x) (locks_written ls) r,
@@ -164,9 +164,9 @@ unfolding read_of kind_of in_order too_many record_of nothing_gathered no_marks 
     profile_limit lock_limit
 opened limit f z r h a b =
     let k = with_features nothing_gathered (features_body f) in
-    go_on limit 1 FeatureRecord (features_body f) (2 ∷ sizes_body z ++ r) nothing_gathered k refl refl refl refl
+    go_on limit 1 FeatureRecord (features_body f) (2 ∷ sizes_body z ++ r) nothing_gathered k refl refl refl
     (features_length f) (rw (features_fine f h)) 0
-    ∙ go_on limit 2 SizeRecord (sizes_body z) r k (with_sizes k (sizes_body z)) refl refl refl refl
+    ∙ go_on limit 2 SizeRecord (sizes_body z) r k (with_sizes k (sizes_body z)) refl refl refl
     (sizes_length z) (rw (sizes_fine z a b)) 3
     ∙ rw (features_back f, sizes_back z)
 
@@ -247,7 +247,7 @@ pub past : (limit at : ℕ) (k : Gathered) (t : List ℕ) → 2 ≤ k.marks.last
     → walk limit (3 ∷ t) 0 at k ≡ refused_at Many at
 unfolding kind_of too_many
 past limit at k t l h e =
-    one_too_many limit 3 at k t refl (order_on k.marks.last 3 l h (omega arith))
+    one_too_many limit 3 KeyRecord at k t refl (order_on k.marks.last 3 l h (omega arith))
     (le-leb limit k.marks.keys (le_of_eq (sym e)))
 
 -- One key record more than there may be is 34 where it stands, whatever follows its kind byte: before 30 and 33.

@@ -12,7 +12,7 @@ use lib.ListN.{length, take, drop, replicate, length-append, length-replicate, t
 use lib.Seq.{take-append_seam, drop-append_seam}
 use Rattle.ground.specs.Bytes.{Bytes}
 use Rattle.sheet.specs.Limits.{profile_limit, lock_limit}
-use Rattle.sheet.specs.Kinds.{kind_of, body_length, in_order}
+use Rattle.sheet.specs.Kinds.{kind_of, body_length, length_behind, in_order}
 use Rattle.sheet.specs.KeyTable.{keys_in, key_table}
 use Rattle.sheet.specs.Setups.{Setup, no_slot, no_lock, no_marks, nothing_gathered}
 use Rattle.sheet.specs.Judgement.{judged_of, opened_of, too_many, record_of, with_features}
@@ -128,10 +128,10 @@ module _ (limit : ℕ) where
 
   met_step : (b : ℕ) (t : List ℕ) (k k' : Gathered) (n : ℕ) → Step limit b t k k' n
       → met_from limit (b ∷ t) 0 k
-      ≡ key_said (kind_of b) (take (body_length (kind_of b)) t) ++ met_from limit (drop n (b ∷ t)) 0 k'
+      ≡ key_said (kind_of b) (take (length_behind (kind_of b)) t) ++ met_from limit (drop n (b ∷ t)) 0 k'
   unfolding met_from
   met_step b t k k' n p =
-      rw (p.judged, p.size, met_pass (body_length (kind_of b)) t k' p.passed_checks.whole)
+      rw (p.judged, p.size, p.passed_checks.known, met_pass (body_length p.kind) t k' p.passed_checks.whole)
 
   -- of the bytes read so far: what is gathered of them, the keys they say, and that the walk met just these
   record Sofar (s c : List ℕ) (k : Gathered) : Type 0 where
@@ -151,7 +151,7 @@ module _ (limit : ℕ) where
   further : (s : List ℕ) → Bytes s → (c : List ℕ) (b : ℕ) (t : List ℕ) (k k' : Gathered) (n : ℕ) → c ++ (b ∷ t) ≡ s
       → Step limit b t k k' n → Sofar s c k → Sofar s (c ++ take n (b ∷ t)) k'
   further s y c b t k k' n e p h =
-      let said = key_said (kind_of b) (take (body_length (kind_of b)) t) in
+      let said = key_said (kind_of b) (take (length_behind (kind_of b)) t) in
       record {
         keys = h.keys ++ said;
         sound = sound_step limit s y c b t k k' n h.keys e p h.sound;

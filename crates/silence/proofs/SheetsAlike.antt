@@ -1,7 +1,7 @@
 -- Two sheets that are alike but for key bytes of records that are not named: the reader finds the same in both, record
 -- by record, and keeps the same of it; the keys that it meets are alike.
 use Rattle.sheet.specs.declared.SheetRefusal.{SheetRefusal}
-use Rattle.std.specs.Prelude.{Result}
+use Rattle.std.specs.Prelude.{Option, Some, None, Result, Ok, Err}
 use mathlib.Core.Path.{◌≡◌, refl, ap, ◌∙◌}
 use mathlib.Core.Bool.{Bool, true, false}
 use mathlib.Core.List.{List, [], ◌∷◌, ◌++◌}
@@ -14,14 +14,16 @@ use Rattle.ground.specs.Choice.{both, implies}
 use Rattle.sheet.specs.declared.Key.{Key}
 use Rattle.sheet.specs.declared.Kind.{Kind}
 use Rattle.sheet.specs.declared.Kind.TheVariants.{FeatureRecord, SizeRecord, KeyRecord, ProfileRecord, LockRecord}
-use Rattle.sheet.specs.declared.Kind.TheVariants.{EndRecord, NoRecord}
+use Rattle.sheet.specs.declared.Kind.TheVariants.{EndRecord}
+use Rattle.sheet.specs.declared.SheetFault.{SheetFault}
 use Rattle.sheet.specs.declared.Gathered.{Gathered}
+use Rattle.sheet.proofs.Openings.{passed}
 use Rattle.sheet.specs.declared.Reading.{Reading}
-use Rattle.sheet.specs.Kinds.{kind_of, body_length}
+use Rattle.sheet.specs.Kinds.{kind_of, body_length, length_behind}
 use Rattle.sheet.specs.Limits.{key_limit}
 use Rattle.octets.specs.Alike.{all_zero}
 use Rattle.sheet.specs.Records.{key_rule, key_of}
-use Rattle.sheet.specs.Judgement.{opened_of, taken_if, with_key, record_of, only_if, judged_of}
+use Rattle.sheet.specs.Judgement.{opened_of, taken_if, with_key, record_of, record_in, judged_of}
 use Rattle.sheet.specs.KeysMet.{key_said}
 use Rattle.sheet.specs.Sheet.{read_of, said_of, terms_read}
 use Rattle.silence.specs.Silence.{RecordAlike, RecordsAlike, SetupsAlike}
@@ -78,7 +80,8 @@ module _ (named : ℕ → Bool) where
 
   -- ---- any record
 
-  record_alike : (q : Kind) (b c : List ℕ) (k : Gathered) → BodiesAlike named q b c → record_of q b k ≡ record_of q c k
+  record_alike : (q : Kind) (b c : List ℕ) (k : Gathered) → BodiesAlike named (Some q) b c
+      → record_of q b k ≡ record_of q c k
   unfolding record_of
   record_alike FeatureRecord b c k h = ap (λ (z : List ℕ). record_of FeatureRecord z k) h
   record_alike SizeRecord b c k h = ap (λ (z : List ℕ). record_of SizeRecord z k) h
@@ -86,27 +89,32 @@ module _ (named : ℕ → Bool) where
   record_alike ProfileRecord b c k h = ap (λ (z : List ℕ). record_of ProfileRecord z k) h
   record_alike LockRecord b c k h = ap (λ (z : List ℕ). record_of LockRecord z k) h
   record_alike EndRecord b c k h = refl
-  record_alike NoRecord b c k h = refl
 
-  pub said_alike : (q : Kind) (b c : List ℕ) → BodiesAlike named q b c
+  pub said_alike : (q : Option Kind) (b c : List ℕ) → BodiesAlike named q b c
       → RecordsAlike named (key_said q b) (key_said q c)
   unfolding RecordsAlike
-  said_alike FeatureRecord b c h = tt
-  said_alike SizeRecord b c h = tt
-  said_alike KeyRecord b c h = (key_alike b c h, tt)
-  said_alike ProfileRecord b c h = tt
-  said_alike LockRecord b c h = tt
-  said_alike EndRecord b c h = tt
-  said_alike NoRecord b c h = tt
+  said_alike (Some FeatureRecord) b c h = tt
+  said_alike (Some SizeRecord) b c h = tt
+  said_alike (Some KeyRecord) b c h = (key_alike b c h, tt)
+  said_alike (Some ProfileRecord) b c h = tt
+  said_alike (Some LockRecord) b c h = tt
+  said_alike (Some EndRecord) b c h = tt
+  said_alike None b c h = tt
 
   -- the record with which two sheets go on, both with the same kind byte and as long
   pub judged_alike : (limit b : ℕ) (u v : List ℕ) (k : Gathered) → length u ≡ length v
-      → BodiesAlike named (kind_of b) (take (body_length (kind_of b)) u) (take (body_length (kind_of b)) v)
+      → BodiesAlike named (kind_of b) (take (length_behind (kind_of b)) u) (take (length_behind (kind_of b)) v)
       → judged_of limit (b ∷ u) k ≡ judged_of limit (b ∷ v) k
   unfolding judged_of
   judged_alike limit b u v k e h =
-      let body : List ℕ → List ℕ = take (body_length (kind_of b)) in
-      λ j. only_if (opened_of limit b (e j) k) k (record_alike (kind_of b) (body u) (body v) k h j)
+      opened_alike (opened_of limit b (length u) k) refl ∙ (λ j. record_in (opened_of limit b (e j) k) v k)
+    where
+      opened_alike : (o : Result Kind SheetFault) → opened_of limit b (length u) k ≡ o
+          → record_in o u k ≡ record_in o v k
+      opened_alike (Ok q) o =
+          let known = (passed limit b (length u) k q o).known in
+          record_alike q (take (body_length q) u) (take (body_length q) v) k (rw known at h)
+      opened_alike (Err f) o = refl
 
   -- two sheets that are read the same and whose keys are alike set two tags up alike
   pub setup_alike : (u v : List ℕ) → read_of key_limit u ≡ read_of key_limit v

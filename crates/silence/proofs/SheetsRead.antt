@@ -14,7 +14,7 @@ use Rattle.sheet.specs.declared.Judged.{Judged}
 use Rattle.sheet.specs.declared.Gathered.{Gathered}
 use Rattle.sheet.specs.declared.Key.{Key}
 use Rattle.sheet.specs.declared.Reading.{Reading}
-use Rattle.sheet.specs.Kinds.{kind_of, body_length}
+use Rattle.sheet.specs.Kinds.{kind_of, length_behind}
 use Rattle.sheet.specs.Limits.{key_limit}
 use Rattle.sheet.specs.Setups.{nothing_gathered}
 use Rattle.sheet.specs.Judgement.{judged_of}
@@ -36,7 +36,7 @@ module _ (named : ℕ → Bool) where
   alike_length [] (c ∷ v) body h = absurd h
   alike_length (b ∷ u) [] body h = absurd h
   alike_length (b ∷ u) (c ∷ v) (suc body) h = ap suc (alike_length u v body h)
-  alike_length (b ∷ u) (c ∷ v) zero h = ap suc (alike_length u v (body_length (kind_of b)) h.2)
+  alike_length (b ∷ u) (c ∷ v) zero h = ap suc (alike_length u v (length_behind (kind_of b)) h.2)
 
   -- whether bytes follow the end record
   after_alike : (u v : List ℕ) (body at : ℕ) (k : Gathered) (r : Result Reading SheetRefusal)
@@ -57,7 +57,7 @@ module _ (named : ℕ → Bool) where
   walk_alike (b ∷ u) [] body at k h = absurd h
   walk_alike (b ∷ u) (c ∷ v) (suc body) at k h = walk_alike u v body (at + 1) k h
   walk_alike (b ∷ u) (c ∷ v) zero at k (e, h, more) =
-      let n = body_length (kind_of b) in
+      let n = length_behind (kind_of b) in
       let judged = judged_alike named key_limit b u v k (alike_length u v n more) h in
       let i = judged_of key_limit (b ∷ u) k in
       let rest = walk_alike u v n (at + 1) i.gathered more in
@@ -76,7 +76,7 @@ module _ (named : ℕ → Bool) where
   met_alike (b ∷ u) [] body k h = absurd h
   met_alike (b ∷ u) (c ∷ v) (suc body) k h = met_alike u v body k h
   met_alike (b ∷ u) (c ∷ v) zero k (e, h, more) =
-      let n = body_length (kind_of b) in
+      let n = length_behind (kind_of b) in
       let judged = judged_alike named key_limit b u v k (alike_length u v n more) h in
       let i = judged_of key_limit (b ∷ u) k in
       let rest = met_alike u v n i.gathered more in

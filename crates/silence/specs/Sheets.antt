@@ -1,5 +1,5 @@
 -- Demand 3, from the sheets on: which sheets set two tags up alike.
-use Rattle.std.specs.Prelude.{◌≡◌, Bool, true, List, [], ◌∷◌, ℕ, zero, suc, take, drop}
+use Rattle.std.specs.Prelude.{◌≡◌, Bool, true, List, [], ◌∷◌, ℕ, zero, suc, take, drop, Option, Some, None}
 use Rattle.sheet.specs.declared.Kind.{Kind}
 use Rattle.sheet.specs.declared.Kind.TheVariants.{
   FeatureRecord,
@@ -8,9 +8,8 @@ use Rattle.sheet.specs.declared.Kind.TheVariants.{
   ProfileRecord,
   LockRecord,
   EndRecord,
-  NoRecord,
 }
-use Rattle.sheet.specs.Kinds.{kind_of, body_length}
+use Rattle.sheet.specs.Kinds.{kind_of, length_behind}
 use Rattle.ground.specs.Bytes.{byte_at, word_at, Bytes}
 use Rattle.sheet.specs.Limits.{key_limit}
 use Rattle.sheet.specs.Sheet.{read_of, said_of, verdict_of}
@@ -29,14 +28,14 @@ pub record KeyBodiesAlike (named : ℕ → Bool) (b c : List ℕ) : Type 0 where
   pub absent : byte_at b 1 ≡ 0 → take 16 (drop 20 b) ≡ take 16 (drop 20 c)
 
 -- Any other record's body is the same.
-abbrev pub BodiesAlike : (ℕ → Bool) → Kind → List ℕ → List ℕ → Type 0
-BodiesAlike named FeatureRecord b c = b ≡ c
-BodiesAlike named SizeRecord b c = b ≡ c
-BodiesAlike named KeyRecord b c = KeyBodiesAlike named b c
-BodiesAlike named ProfileRecord b c = b ≡ c
-BodiesAlike named LockRecord b c = b ≡ c
-BodiesAlike named EndRecord b c = b ≡ c
-BodiesAlike named NoRecord b c = b ≡ c
+abbrev pub BodiesAlike : (ℕ → Bool) → Option Kind → List ℕ → List ℕ → Type 0
+BodiesAlike named (Some FeatureRecord) b c = b ≡ c
+BodiesAlike named (Some SizeRecord) b c = b ≡ c
+BodiesAlike named (Some KeyRecord) b c = KeyBodiesAlike named b c
+BodiesAlike named (Some ProfileRecord) b c = b ≡ c
+BodiesAlike named (Some LockRecord) b c = b ≡ c
+BodiesAlike named (Some EndRecord) b c = b ≡ c
+BodiesAlike named None b c = b ≡ c
 
 -- The bytes from a place on, of which the first `body` belong to a record whose kind byte stands before: so long, with
 -- the same kind bytes, and alike bodies.
@@ -46,8 +45,8 @@ AlikeFrom named [] (c ∷ v) body = ⊥
 AlikeFrom named (b ∷ u) [] body = ⊥
 AlikeFrom named (b ∷ u) (c ∷ v) (suc body) = AlikeFrom named u v body
 AlikeFrom named (b ∷ u) (c ∷ v) zero =
-    (b ≡ c) × BodiesAlike named (kind_of b) (take (body_length (kind_of b)) u) (take (body_length (kind_of b)) v)
-    × AlikeFrom named u v (body_length (kind_of b))
+    (b ≡ c) × BodiesAlike named (kind_of b) (take (length_behind (kind_of b)) u) (take (length_behind (kind_of b)) v)
+    × AlikeFrom named u v (length_behind (kind_of b))
 
 abbrev pub SheetsAlike : (ℕ → Bool) → List ℕ → List ℕ → Type 0
 SheetsAlike named u v = AlikeFrom named u v 0

@@ -14,22 +14,22 @@ returns-then-rest-eq0 c =
 pub overflow_add-e : goal.overflow_add-e
 overflow_add-e c =
     let h = body_fits key_limit c.args.rest.now c.args.gathered _ _ _ c.if-rest-eq0.false c.opening.ensures
-    c.in-Ok.is c.kind_of-q.ensures c.body_length-e.ensures in
+    c.in-Ok.is c.body_length-e.ensures in
     omega arith
 
 pub slice_bounds-judge_body-end : goal.slice_bounds-judge_body-end
 slice_bounds-judge_body-end c =
     let h = body_fits key_limit c.args.rest.now c.args.gathered _ _ _ c.if-rest-eq0.false c.opening.ensures
-    c.in-Ok.is c.kind_of-q.ensures c.body_length-e.ensures in
+    c.in-Ok.is c.body_length-e.ensures in
     omega arith
 
 pub judge_body-requires : goal.judge_body-requires
 judge_body-requires c =
     let opened = c.in-Ok.is in (
       body_long key_limit c.args.rest.now c.args.gathered _ _ _ c.if-rest-eq0.false c.opening.ensures opened
-          c.kind_of-q.ensures c.body_length-e.ensures,
+          c.body_length-e.ensures,
       body_few key_limit c.args.rest.now c.args.gathered _ _ _ c.if-rest-eq0.false c.opening.ensures opened
-          c.kind_of-q.ensures c.body_length-e.ensures,
+          c.body_length-e.ensures,
     )
 
 pub returns-in-Err : goal.returns-in-Err
@@ -43,6 +43,6 @@ pub returns-in-Ok : goal.returns-in-Ok
 returns-in-Ok c =
     let told = judge_told key_limit c.args.rest.now c.args.gathered _
     (judged_open key_limit c.args.rest.now c.args.gathered _ _ _ _ c.if-rest-eq0.false c.opening.ensures
-    c.in-Ok.is c.kind_of-q.ensures c.body_length-e.ensures
+    c.in-Ok.is c.body_length-e.ensures
     c.judge_body.ensures) in
     record { value = told.0; finding_value = told.1 }

@@ -53,7 +53,3 @@ returns-in-LockRecord c =
 pub returns-in-EndRecord : goal.returns-in-EndRecord
 unfolding record_of
 returns-in-EndRecord c = cc
-
-pub returns-in-NoRecord : goal.returns-in-NoRecord
-unfolding record_of
-returns-in-NoRecord c = cc
