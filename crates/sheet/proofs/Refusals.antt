@@ -74,8 +74,8 @@ module _ (limit : ℕ) (s : List ℕ) (from : ℕ) (before : Gathered) (start : 
   fault_ends h = subst Ending (sym (refused_there h).1) (refuses h)
 
   -- the end record, with or without a byte behind it
-  last_ends : (p : ℕ) (k : Gathered) → InTurn limit s from before p k → (judged_of limit (drop p s) k).finding ≡ (Ok Ended)
-      → (t : Bool) → ltb (p + 1) (length s) ≡ t → Ends
+  last_ends : (p : ℕ) (k : Gathered) → InTurn limit s from before p k
+      → (judged_of limit (drop p s) k).finding ≡ (Ok Ended) → (t : Bool) → ltb (p + 1) (length s) ≡ t → Ends
   last_ends p k h e true l = fault_ends (behind h e (ltb-true (p + 1) (length s) l))
   last_ends p k h e false l =
       let i = ended_same limit (drop p s) k e in
@@ -111,7 +111,8 @@ module _ (limit : ℕ) (s : List ℕ) (from : ℕ) (before : Gathered) (start : 
       subst (λ (y : SheetRefusal). FirstFault limit s from before y.fault y.at) x h
   to_fault f p (completes c) e = let z : ◌≡◌ {A = ℕ} 0 1 = cc in absurd (omega arith)
 
-  to_whole : {r : Result Reading SheetRefusal} → Ending r → verdict_of r ≡ Ok tt → (k : Gathered) × Complete limit s from before k
+  to_whole : {r : Result Reading SheetRefusal} → Ending r → verdict_of r ≡ Ok tt
+      → (k : Gathered) × Complete limit s from before k
   to_whole (refuses h) e = let z : ◌≡◌ {A = ℕ} 0 1 = cc in absurd (omega arith)
   to_whole (completes {k = k} c) e = (k, c)
 

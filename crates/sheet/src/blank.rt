@@ -5,7 +5,6 @@ ghost use Rattle.sheet.specs.Setups.{empty_terms};
 use crate::{Features, LOCK_LIMIT, Locks, PROFILE_LIMIT, Sizes, Slot, Terms};
 use memory::{Area, Lock, Profile, Word};
 
-#[tactic(auto, unfolding(crate::specs::Setups::empty_terms, crate::specs::Setups::no_features, crate::specs::Setups::no_slot, crate::specs::Setups::no_lock, crate::specs::Limits::profile_limit, crate::specs::Limits::lock_limit))]
 pub(crate) fn empty() -> Terms
     ensures { result ≡ empty_terms }
 {

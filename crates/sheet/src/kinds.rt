@@ -48,7 +48,7 @@ fn in_order(last: u8, b: u8) -> bool
     }
 }
 
-#[tactic(auto, unfolding(crate::specs::Judgement::too_many, crate::specs::Limits::key_limit, crate::specs::Limits::profile_limit, crate::specs::Limits::lock_limit))]
+#[tactic(auto, unfolding(crate::specs::Judgement::too_many))]
 fn too_many(q: Kind, gathered: Gathered) -> bool
     ensures { result ≡ too_many key_limit q gathered }
 {
