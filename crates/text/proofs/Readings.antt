@@ -31,9 +31,12 @@ dash_bytes (c ∷ (d ∷ w)) h = absurd (false≢true h)
 
 -- an answer, and what it leaves in the room
 module _ (w room : List ℕ) where
-  answered : (r : Result ℕ HexFault) (after : List ℕ) → hex_read w (length room) ≡ r → after ≡ hex_room r (bytes_of w) room
-      → ReadsHex w room r after
-  answered r after e f = record { says = sym e; holds = f ∙ ap (λ (a : Result ℕ HexFault). hex_room a (bytes_of w) room) (sym e) }
+  answered : (r : Result ℕ HexFault) (after : List ℕ) → hex_read w (length room) ≡ r
+      → after ≡ hex_room r (bytes_of w) room → ReadsHex w room r after
+  answered r after e f = record {
+    says = sym e;
+    holds = f ∙ ap (λ (a : Result ℕ HexFault). hex_room a (bytes_of w) room) (sym e);
+  }
 
   pub no_bytes : is_dash w ≡ true → ReadsHex w room (Ok 0) room
   unfolding hex_read

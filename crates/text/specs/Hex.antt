@@ -1,5 +1,26 @@
 -- Bytes as hex digits, two to a byte, the high one first; `-` for no bytes.
-use Rattle.std.specs.Prelude.{ℕ, ◌+◌, ◌*◌, ◌/◌, ◌%◌, ◌≡◌, Bool, false, not, List, [], ◌∷◌, ◌++◌, eqb, ltb, length, drop, Result, Ok, Err}
+use Rattle.std.specs.Prelude.{
+  ℕ,
+  ◌+◌,
+  ◌*◌,
+  ◌/◌,
+  ◌%◌,
+  ◌≡◌,
+  Bool,
+  false,
+  not,
+  List,
+  [],
+  ◌∷◌,
+  ◌++◌,
+  eqb,
+  ltb,
+  length,
+  drop,
+  Result,
+  Ok,
+  Err,
+}
 use Rattle.text.specs.declared.HexFault.TheVariants.{NotHex, Odd, Over}
 use Rattle.text.specs.declared.HexFault.{HexFault}
 use Rattle.ground.specs.Choice.{pick}
