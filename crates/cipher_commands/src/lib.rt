@@ -1,150 +1,82 @@
 // The cipher's commands: aes, cbc, cmac.
 #![tactic(auto)]
 
+use console::answer::Hex;
+use console::bytes::{Bytes, FIELD_LIMIT};
+use console::fields::Fields;
+use console::reason::{Fault, Reason};
+use console::words::Words;
 use modes::ChainingFault;
-use console::answer::within;
-use console::fields::sixteen;
-use console::words::word;
-use console::{answer, fields};
-use lines::print;
 use std::io;
 
-pub fn aes(rt: &impl Print, line: &[u8]) -> io::Result<()> {
-    let form = word(line, 1);
-    if form.len() == 0 {
-        return print::text(rt, b"error: word missing\n");
+pub fn aes(rt: &impl Print, words: Words<'_>) -> Result<(), Fault> {
+    let mut words = words;
+    match words.next().ok_or(Reason::WordMissing)? {
+        b"enc" => ciphered(rt, words, aes::encrypt),
+        b"dec" => ciphered(rt, words, aes_inverse::decrypt),
+        _ => Err(Fault::from(Reason::UnknownForm)),
     }
-    if octets::same(form, b"enc") {
-        if fields::read(rt, line, 2, b"kk", 0)? {
-            answer::out(rt, &aes::encrypt(sixteen(line, 2), sixteen(line, 3)))?;
-        }
-        return Ok(());
-    }
-    if octets::same(form, b"dec") {
-        if fields::read(rt, line, 2, b"kk", 0)? {
-            answer::out(
-                rt,
-                &aes_inverse::decrypt(sixteen(line, 2), sixteen(line, 3)),
-            )?;
-        }
-        return Ok(());
-    }
-    print::text(rt, b"error: unknown form\n")
+}
+
+// A block under a key, as the cipher has it.
+fn ciphered<C: Fn([u8; 16], [u8; 16]) -> [u8; 16]>(
+    rt: &impl Print,
+    words: Words<'_>,
+    cipher: C,
+) -> Result<(), Fault>
+    requires { C.IsAlwaysCallable cipher }
+{
+    let mut fields = Fields::exactly(words, 2)?;
+    let key = fields.sixteen()?;
+    let block = fields.sixteen()?;
+    println!(rt; "out {}", Hex(&cipher(key, block)))?;
+    Ok(())
 }
 
 // The forms of 3.1.8 to 3.1.11.
-#[derive(Clone, Copy)]
-enum Form {
-    EncAes,
-    DecAes,
-    EncAesInv,
-    DecAesInv,
-    NoForm,
+pub fn cbc(rt: &impl Print, words: Words<'_>) -> Result<(), Fault> {
+    let mut words = words;
+    match words.next().ok_or(Reason::WordMissing)? {
+        b"enc_aes" => chained(rt, words, modes::cbc_enc_aes),
+        b"dec_aes" => chained(rt, words, modes::cbc_dec_aes),
+        b"enc_aes_inv" => chained(rt, words, modes_inverse::cbc_enc_aes_inv),
+        b"dec_aes_inv" => chained(rt, words, modes_inverse::cbc_dec_aes_inv),
+        _ => Err(Fault::from(Reason::UnknownForm)),
+    }
 }
 
-fn form_of(name: &[u8]) -> Form {
-    if octets::same(name, b"enc_aes") {
-        return Form::EncAes;
-    }
-    if octets::same(name, b"dec_aes") {
-        return Form::DecAes;
-    }
-    if octets::same(name, b"enc_aes_inv") {
-        return Form::EncAesInv;
-    }
-    if octets::same(name, b"dec_aes_inv") {
-        return Form::DecAesInv;
-    }
-    Form::NoForm
-}
-
-pub fn cbc(rt: &impl Print, line: &[u8]) -> io::Result<()> {
-    let name = word(line, 1);
-    if name.len() == 0 {
-        return print::text(rt, b"error: word missing\n");
-    }
-    let form = form_of(name);
-    if let Form::NoForm = form {
-        return print::text(rt, b"error: unknown form\n");
-    }
-    if !fields::read(rt, line, 2, b"kkhr", 0)? {
-        return Ok(());
-    }
-    let mut input = [0u8; 4096];
-    let n = within(fields::bytes(line, 4, &mut input), &input);
-    let mut room = [0u8; 4096];
-    let r = within(fields::number(line, 5) as usize, &room);
-    chained(rt, form, line, &input[..n], &mut room[..r])
-}
-
-fn chained(
+// Data in blocks, as the form chains them.
+fn chained<F: Fn([u8; 16], [u8; 16], &[u8], &mut [u8]) -> Result<(), ChainingFault>>(
     rt: &impl Print,
-    form: Form,
-    line: &[u8],
-    input: &[u8],
-    room: &mut [u8],
-) -> io::Result<()> {
-    let iv = sixteen(line, 2);
-    let key = sixteen(line, 3);
-    match form {
-        Form::EncAes => {
-            told(
-                rt,
-                modes::cbc_enc_aes(iv, key, input, room),
-                room,
-                input.len(),
-            )
-        }
-        Form::DecAes => {
-            told(
-                rt,
-                modes::cbc_dec_aes(iv, key, input, room),
-                room,
-                input.len(),
-            )
-        }
-        Form::EncAesInv => {
-            told(
-                rt,
-                modes_inverse::cbc_enc_aes_inv(iv, key, input, room),
-                room,
-                input.len(),
-            )
-        }
-        Form::DecAesInv => {
-            told(
-                rt,
-                modes_inverse::cbc_dec_aes_inv(iv, key, input, room),
-                room,
-                input.len(),
-            )
-        }
-        Form::NoForm => Ok(()),
-    }
+    words: Words<'_>,
+    form: F,
+) -> Result<(), Fault>
+    requires { F.IsAlwaysCallable form }
+{
+    let mut fields = Fields::exactly(words, 4)?;
+    let iv = fields.sixteen()?;
+    let key = fields.sixteen()?;
+    let input = fields.bytes()?;
+    let mut room = Bytes::<FIELD_LIMIT>::zeros(fields.room()?);
+    let done = form(iv, key, input.as_slice(), room.as_mut_slice());
+    told(rt, done, octets::front(room.as_slice(), input.as_slice().len()))?;
+    Ok(())
 }
 
-pub fn cmac(rt: &impl Print, line: &[u8]) -> io::Result<()> {
-    if !fields::read(rt, line, 1, b"khr", 0)? {
-        return Ok(());
-    }
-    let mut input = [0u8; 4096];
-    let n = within(fields::bytes(line, 2, &mut input), &input);
-    let mut room = [0u8; 4096];
-    let r = within(fields::number(line, 3) as usize, &room);
-    authenticated(rt, sixteen(line, 1), &input[..n], &mut room[..r])
+pub fn cmac(rt: &impl Print, words: Words<'_>) -> Result<(), Fault> {
+    let mut fields = Fields::exactly(words, 3)?;
+    let key = fields.sixteen()?;
+    let input = fields.bytes()?;
+    let mut room = Bytes::<FIELD_LIMIT>::zeros(fields.room()?);
+    let done = modes::cmac_96(key, input.as_slice(), room.as_mut_slice());
+    told(rt, done, octets::front(room.as_slice(), 12))?;
+    Ok(())
 }
 
-fn authenticated(rt: &impl Print, key: [u8; 16], input: &[u8], room: &mut [u8]) -> io::Result<()> {
-    told(rt, modes::cmac_96(key, input, room), room, 12)
-}
-
-// The room's first n bytes where the call is done.
-fn told(rt: &impl Print, c: Result<(), ChainingFault>, room: &[u8], n: usize) -> io::Result<()> {
-    match c {
-        Ok(()) => {
-            let e = within(n, room);
-            answer::out(rt, &room[..e])
-        }
-        Err(ChainingFault::BlocksOrRoom) => answer::refused(rt, modes::number(c)),
+// The bytes that a call wrote, where it is done.
+fn told(rt: &impl Print, done: Result<(), ChainingFault>, written: &[u8]) -> io::Result<()> {
+    match done {
+        Ok(()) => println!(rt; "out {}", Hex(written)),
+        Err(_) => println!(rt; "refused {}", modes::number(done)),
     }
 }

@@ -1,188 +1,72 @@
 // The bench's commands: which one a line is, and what is kept from one to the next.
 #![tactic(auto)]
 
-use console::fields;
-use console::words::word;
-use lines::print;
-use octets::same;
-use reader_commands::Keyring;
+use console::fields::Fields;
+use console::reason::{Fault, Reason};
+use console::words::Words;
+use reader_commands::Reader;
 use std::io;
 use std::random::RandomSource;
 use tag_commands::Place;
 use texts::explain;
 
-// What is kept from one command to the next, of each half. The bytes of the key table and of both areas stand beside
-// it.
+/// What is kept from one command to the next, of each half.
 #[derive(Clone, Copy)]
 pub struct Desk {
     place: Place,
-    keyring: Keyring,
+    reader: Reader,
 }
 
-pub fn empty() -> Desk {
-    Desk {
-        place: tag_commands::empty(),
-        keyring: reader_commands::empty(),
+impl Desk {
+    /// Before the first command.
+    pub fn empty() -> Desk {
+        Desk {
+            place: Place::empty(),
+            reader: Reader::empty(),
+        }
     }
-}
 
-fn with_place(d: Desk, place: Place) -> Desk {
-    let keyring = d.keyring;
-    Desk { place, keyring }
-}
+    /// The answer to a line; none to one that has no word.
+    pub fn answer(&mut self, rt: &(impl Print + RandomSource), line: &[u8]) -> io::Result<()> {
+        match self.follow(rt, Words::of(line)) {
+            Ok(()) => Ok(()),
+            Err(Fault::Refused(reason)) => println!(rt; "error: {reason}"),
+            Err(Fault::Unwritten(error)) => Err(error),
+        }
+    }
 
-fn with_keyring(d: Desk, keyring: Keyring) -> Desk {
-    let place = d.place;
-    Desk { place, keyring }
-}
-
-#[derive(Clone, Copy)]
-enum Command {
-    Sheet,
-    Area,
-    Areas,
-    Power,
-    Message,
-    Keys,
-    Build,
-    Judge,
-    Aes,
-    Cbc,
-    Cmac,
-    Explain,
-    Help,
-    Unknown,
-}
-
-fn named(name: &[u8]) -> Command {
-    if same(name, b"sheet") {
-        return Command::Sheet;
-    }
-    if same(name, b"area") {
-        return Command::Area;
-    }
-    if same(name, b"areas") {
-        return Command::Areas;
-    }
-    if same(name, b"power") {
-        return Command::Power;
-    }
-    if same(name, b"message") {
-        return Command::Message;
-    }
-    if same(name, b"keys") {
-        return Command::Keys;
-    }
-    if same(name, b"build") {
-        return Command::Build;
-    }
-    if same(name, b"judge") {
-        return Command::Judge;
-    }
-    named_else(name)
-}
-
-fn named_else(name: &[u8]) -> Command {
-    if same(name, b"aes") {
-        return Command::Aes;
-    }
-    if same(name, b"cbc") {
-        return Command::Cbc;
-    }
-    if same(name, b"cmac") {
-        return Command::Cmac;
-    }
-    if same(name, b"explain") {
-        return Command::Explain;
-    }
-    if same(name, b"help") {
-        return Command::Help;
-    }
-    Command::Unknown
-}
-
-// The answer to a line that has a word, and the desk after it.
-pub fn answered(
-    rt: &(impl Print + RandomSource),
-    d: Desk,
-    line: &[u8],
-    keys: &mut [u8],
-    identity: &mut [u8],
-    user: &mut [u8],
-) -> io::Result<Desk> {
-    let place = d.place;
-    let keyring = d.keyring;
-    match named(word(line, 0)) {
-        Command::Sheet => {
-            return Ok(with_place(
-                d,
-                tag_commands::sheet(rt, place, line, keys, identity, user)?,
-            ));
-        }
-        Command::Area => {
-            return Ok(with_place(d, tag_commands::area(rt, place, line, identity, user)?));
-        }
-        Command::Areas => {
-            tag_commands::areas(rt, place, line, identity, user)?;
-            return Ok(d);
-        }
-        Command::Power => {
-            return Ok(with_place(d, tag_commands::power(rt, place, line)?));
-        }
-        Command::Message => {
-            return Ok(with_place(
-                d,
-                tag_commands::message(rt, place, line, keys, identity, user)?,
-            ));
-        }
-        Command::Keys => {
-            return Ok(with_keyring(d, reader_commands::keys(rt, keyring, line)?));
-        }
-        Command::Build => {
-            reader_commands::build(rt, keyring, line)?;
-            return Ok(d);
-        }
-        Command::Judge => {
-            reader_commands::judged(rt, keyring, line)?;
-            return Ok(d);
-        }
-        Command::Aes => {
-            cipher_commands::aes(rt, line)?;
-            return Ok(d);
-        }
-        Command::Cbc => {
-            cipher_commands::cbc(rt, line)?;
-            return Ok(d);
-        }
-        Command::Cmac => {
-            cipher_commands::cmac(rt, line)?;
-            return Ok(d);
-        }
-        Command::Explain => {
-            explained(rt, line)?;
-            return Ok(d);
-        }
-        Command::Help => {
-            helped(rt, line)?;
-            return Ok(d);
-        }
-        Command::Unknown => {
-            print::text(rt, b"error: unknown command\n")?;
-            return Ok(d);
+    fn follow(&mut self, rt: &(impl Print + RandomSource), words: Words<'_>) -> Result<(), Fault> {
+        let mut words = words;
+        let Some(name) = words.next() else {
+            return Ok(());
+        };
+        match name {
+            b"sheet" => self.place.sheet(rt, words),
+            b"area" => self.place.area(rt, words),
+            b"areas" => self.place.areas(rt, words),
+            b"power" => self.place.power(rt, words),
+            b"message" => self.place.message(rt, words),
+            b"keys" => self.reader.keys(rt, words),
+            b"build" => self.reader.build(rt, words),
+            b"judge" => self.reader.judge(rt, words),
+            b"aes" => cipher_commands::aes(rt, words),
+            b"cbc" => cipher_commands::cbc(rt, words),
+            b"cmac" => cipher_commands::cmac(rt, words),
+            b"explain" => explained(rt, words),
+            b"help" => helped(rt, words),
+            _ => Err(Fault::from(Reason::UnknownCommand)),
         }
     }
 }
 
-fn explained(rt: &impl Print, line: &[u8]) -> io::Result<()> {
-    if fields::read(rt, line, 1, b"n", 0)? {
-        explain::number(rt, fields::number(line, 1))?;
-    }
+fn explained(rt: &impl Print, words: Words<'_>) -> Result<(), Fault> {
+    let number = Fields::exactly(words, 1)?.number()?;
+    println!(rt; "{}", explain::number(number).ok_or(Reason::NoSuchNumber)?)?;
     Ok(())
 }
 
-fn helped(rt: &impl Print, line: &[u8]) -> io::Result<()> {
-    if fields::read(rt, line, 1, b"", 0)? {
-        explain::commands(rt)?;
-    }
+fn helped(rt: &impl Print, words: Words<'_>) -> Result<(), Fault> {
+    Fields::exactly(words, 0)?;
+    println!(rt; "{}", explain::COMMANDS)?;
     Ok(())
 }

@@ -1,184 +1,89 @@
-// The fields of a line. First they are all looked at, from left to right, and the first that can't be read is answered
-// with its reason; then a command takes those it needs.
-use text::{DecimalFault, HexFault};
-use crate::words::{count, word};
-use lines::numbers::sum;
-use lines::print;
-use std::io;
+// The fields of a line, each taken as what it stands for. A line is refused for the number of its words, and then for
+// the first field from the left that can't be read.
+use crate::bytes::{Bytes, FIELD_LIMIT};
+use crate::reason::Reason;
+use crate::words::Words;
 
-
-// Are there words for all fields but the last `optional` ones, no word too many, and can each be read? Fields begin at
-// word `from`, and `kinds` has a letter for each: n a number, h bytes, k sixteen bytes, m sixteen bytes or none, a an
-// area, r a room, d draws.
-pub fn read(
-    rt: &impl Print,
-    line: &[u8],
-    from: usize,
-    kinds: &[u8],
-    optional: usize,
-) -> io::Result<bool> {
-    let words = count(line);
-    if sum(words, optional) < sum(from, kinds.len()) {
-        return wrong(rt, b"error: word missing\n");
-    }
-    if sum(from, kinds.len()) < words {
-        return wrong(rt, b"error: word too many\n");
-    }
-    each(rt, line, from, words, kinds)
+/// The fields of a line that are left.
+#[derive(Clone, Copy)]
+pub struct Fields<'a> {
+    words: Words<'a>,
 }
 
-fn each(rt: &impl Print, line: &[u8], from: usize, words: usize, kinds: &[u8]) -> io::Result<bool> {
-    let mut i: usize = 0;
-    while i < kinds.len() {
-        let at = sum(from, i);
-        if words <= at {
-            break;
+impl<'a> Fields<'a> {
+    /// The fields behind the words that were taken, of which there must be so many.
+    pub fn exactly(words: Words<'a>, count: usize) -> Result<Fields<'a>, Reason> {
+        Fields::between(words, count, count)
+    }
+
+    /// The same, at least and at most so many.
+    pub fn between(words: Words<'a>, least: usize, most: usize) -> Result<Fields<'a>, Reason> {
+        let count = words.count();
+        if count < least {
+            return Err(Reason::WordMissing);
         }
-        if !one(rt, word(line, at), kinds[i])? {
-            return Ok(false);
+        if most < count {
+            return Err(Reason::WordTooMany);
         }
-        i += 1;
+        Ok(Fields { words })
     }
-    Ok(true)
-}
 
-fn one(rt: &impl Print, field: &[u8], kind: u8) -> io::Result<bool> {
-    match kind {
-        b'n' => number_read(rt, field),
-        b'k' => sixteen_read(rt, field),
-        b'm' => mac_read(rt, field),
-        b'a' => area_read(rt, field),
-        b'r' => room_read(rt, field),
-        b'd' => draws_read(rt, field),
-        _ => bytes_read(rt, field),
+    /// The next field as it stands, where there is one.
+    pub fn word(&mut self) -> Option<&'a [u8]> {
+        self.words.next()
     }
-}
 
-fn number_read(rt: &impl Print, field: &[u8]) -> io::Result<bool> {
-    match text::read_decimal(field) {
-        Ok(_) => Ok(true),
-        Err(DecimalFault::NotNumber) => wrong(rt, b"error: not a number\n"),
-        Err(DecimalFault::Over) => wrong(rt, b"error: number over 65535\n"),
+    fn wanted(&mut self) -> Result<&'a [u8], Reason> {
+        self.word().ok_or(Reason::WordMissing)
     }
-}
 
-fn bytes_read(rt: &impl Print, field: &[u8]) -> io::Result<bool> {
-    let mut room = [0u8; 4096];
-    match text::read_hex(field, &mut room) {
-        Ok(_) => Ok(true),
-        Err(HexFault::NotHex) => wrong(rt, b"error: not hex\n"),
-        Err(HexFault::Odd) => wrong(rt, b"error: odd number of hex digits\n"),
-        Err(HexFault::Over) => wrong(rt, b"error: over 4096 bytes\n"),
+    pub fn number(&mut self) -> Result<u16, Reason> {
+        Ok(text::read_decimal(self.wanted()?)?)
     }
-}
 
-fn sixteen_read(rt: &impl Print, field: &[u8]) -> io::Result<bool> {
-    if !bytes_read(rt, field)? {
-        return Ok(false);
+    pub fn bytes(&mut self) -> Result<Bytes<FIELD_LIMIT>, Reason> {
+        Bytes::read(self.wanted()?)
     }
-    if length(field) == 16 {
-        return Ok(true);
-    }
-    wrong(rt, b"error: not 16 bytes\n")
-}
 
-fn mac_read(rt: &impl Print, field: &[u8]) -> io::Result<bool> {
-    if octets::same(field, b"-") {
-        return Ok(true);
+    /// The bytes, where they are N.
+    pub fn array<const N: usize>(&mut self) -> Result<Option<[u8; N]>, Reason> {
+        array(self.wanted()?)
     }
-    sixteen_read(rt, field)
-}
 
-fn area_read(rt: &impl Print, field: &[u8]) -> io::Result<bool> {
-    if !number_read(rt, field)? {
-        return Ok(false);
+    /// A key, a block or an IV.
+    pub fn sixteen(&mut self) -> Result<[u8; 16], Reason> {
+        sixteen(self.wanted()?)
     }
-    if value(field) < 2 {
-        return Ok(true);
-    }
-    wrong(rt, b"error: area 0 or 1\n")
-}
 
-fn room_read(rt: &impl Print, field: &[u8]) -> io::Result<bool> {
-    if !number_read(rt, field)? {
-        return Ok(false);
+    /// A key, or `-` for none.
+    pub fn sixteen_or_none(&mut self) -> Result<Option<[u8; 16]>, Reason> {
+        match self.wanted()? {
+            b"-" => Ok(None),
+            field => Ok(Some(sixteen(field)?)),
+        }
     }
-    if value(field) <= 4096 {
-        return Ok(true);
-    }
-    wrong(rt, b"error: room over 4096\n")
-}
 
-fn draws_read(rt: &impl Print, field: &[u8]) -> io::Result<bool> {
-    if octets::same(field, b"*") {
-        return Ok(true);
-    }
-    bytes_read(rt, field)
-}
-
-fn wrong(rt: &impl Print, reason: &[u8]) -> io::Result<bool> {
-    print::text(rt, reason)?;
-    Ok(false)
-}
-
-// The number of a field, 0 where it is none.
-fn value(field: &[u8]) -> u16 {
-    match text::read_decimal(field) {
-        Ok(n) => n,
-        Err(DecimalFault::NotNumber) => 0,
-        Err(DecimalFault::Over) => 0,
+    /// The length of a room.
+    pub fn room(&mut self) -> Result<usize, Reason> {
+        room(self.wanted()?)
     }
 }
 
-// How many bytes a field has.
-fn length(field: &[u8]) -> usize {
-    let mut room = [0u8; 4096];
-    read_into(field, &mut room)
+// The bytes of a field, where they are N.
+fn array<const N: usize>(field: &[u8]) -> Result<Option<[u8; N]>, Reason> {
+    let bytes = Bytes::read(field)?;
+    Ok(bytes.as_slice().try_into().ok())
 }
 
-// The bytes of a field over the first bytes of a room; 0 where the field has none, or the room too few.
-pub fn read_into(field: &[u8], room: &mut [u8]) -> usize {
-    match text::read_hex(field, room) {
-        Ok(n) => n,
-        Err(HexFault::NotHex) => 0,
-        Err(HexFault::Odd) => 0,
-        Err(HexFault::Over) => 0,
+fn sixteen(field: &[u8]) -> Result<[u8; 16], Reason> {
+    array(field)?.ok_or(Reason::NotSixteen)
+}
+
+/// The length of a room that a field asks for.
+pub fn room(field: &[u8]) -> Result<usize, Reason> {
+    let length = usize::from(text::read_decimal(field)?);
+    if FIELD_LIMIT < length {
+        return Err(Reason::RoomOver);
     }
-}
-
-// What follows takes the fields of a line that was read.
-
-pub fn number(line: &[u8], k: usize) -> u16 {
-    value(word(line, k))
-}
-
-// A number of one byte; 255 for all above. Only a KeyID can be 255.
-pub fn small(line: &[u8], k: usize) -> u8 {
-    let n = number(line, k);
-    if n < 256 {
-        return n as u8;
-    }
-    255
-}
-
-// The bytes over the first bytes of a room, and how many.
-pub fn bytes(line: &[u8], k: usize, room: &mut [u8]) -> usize {
-    read_into(word(line, k), room)
-}
-
-// The bytes into a room that they must fill. Do they?
-pub fn fill(line: &[u8], k: usize, room: &mut [u8]) -> bool {
-    match text::read_hex(word(line, k), room) {
-        Ok(n) => n == room.len(),
-        Err(HexFault::NotHex) => false,
-        Err(HexFault::Odd) => false,
-        Err(HexFault::Over) => false,
-    }
-}
-
-// A key, a block or an IV.
-pub fn sixteen(line: &[u8], k: usize) -> [u8; 16] {
-    let mut b = [0u8; 16];
-    fill(line, k, &mut b);
-    b
+    Ok(length)
 }

@@ -2,209 +2,89 @@
 #![tactic(auto)]
 
 use commands::Desk;
-use console::answer;
-use console::words::{before_comment, count};
-use lines::print;
+use console::reason::Reason;
+use console::words::Words;
 use std::io;
 use std::io::Read;
 use std::random::RandomSource;
 
-// How much of a line there is, whether it has more than its room, and whether it is shown before its answer.
-#[derive(Clone, Copy)]
+// The bytes of the longest line.
+const LINE_LIMIT: usize = 65536;
+
+// A line as far as it came in, its end not counted. Of a line over the limit the bytes behind it are counted alone.
+#[derive(Drop)]
 struct Line {
-    n: usize,
-    cut: bool,
-    shown: bool,
+    room: [u8; LINE_LIMIT],
+    length: usize,
+}
+
+impl Line {
+    fn empty() -> Line {
+        Line {
+            room: [0; LINE_LIMIT],
+            length: 0,
+        }
+    }
+
+    fn push(&mut self, byte: u8) {
+        if let Some(place) = self.room.get_mut(self.length) {
+            *place = byte;
+        }
+        self.length = self.length.saturating_add(1);
+    }
+
+    // The answer to the line, and the next line's beginning.
+    fn end(&mut self, rt: &(impl Print + RandomSource), desk: &mut Desk) -> io::Result<()> {
+        let length = self.length;
+        self.length = 0;
+        match self.room.get(..length) {
+            Some(line) => desk.answer(rt, line),
+            None => println!(rt; "error: {}", Reason::LineOver),
+        }
+    }
 }
 
 // A proved loop has to end, and nothing says that the input does. No input has as many parts.
 const PARTS: u64 = 1000000000000000000;
 
+/// The commands of standard input, each line answered.
 pub fn lines(rt: &(impl Input + Print + RandomSource)) -> io::Result<()> {
     let mut input = rt.reader();
-    let mut line = [0u8; 65536];
-    let mut keys = tag_commands::key_room();
-    let mut identity = [0u8; 4096];
-    let mut user = [0u8; 4096];
-    let h = whole(
-        rt,
-        &mut input,
-        &mut line,
-        &mut keys,
-        &mut identity,
-        &mut user,
-    )?;
-    let d = h.desk;
-    let l = h.line;
-    ended(rt, d, l, &line, &mut keys, &mut identity, &mut user)?; // the last line may have no end
-    Ok(())
-}
-
-// A script, each line of it shown before its answer.
-pub fn script(rt: &(impl Print + RandomSource), text: &[u8]) -> io::Result<()> {
-    let mut line = [0u8; 65536];
-    let mut keys = tag_commands::key_room();
-    let mut identity = [0u8; 4096];
-    let mut user = [0u8; 4096];
-    let begun = Heard {
-        desk: commands::empty(),
-        line: fresh(true),
-        over: false,
-    };
-    fed(
-        rt,
-        begun,
-        text,
-        &mut line,
-        &mut keys,
-        &mut identity,
-        &mut user,
-    )?;
-    Ok(())
-}
-
-// The whole input, and each line of it that has an end.
-fn whole(
-    rt: &(impl Print + RandomSource),
-    input: &mut impl Read,
-    line: &mut [u8],
-    keys: &mut [u8],
-    identity: &mut [u8],
-    user: &mut [u8],
-) -> io::Result<Heard> {
-    let mut h = Heard {
-        desk: commands::empty(),
-        line: fresh(false),
-        over: false,
-    };
-    let mut left = PARTS;
-    while 0 < left {
-        h = next(rt, input, h, line, keys, identity, user)?;
-        if h.over {
+    let mut desk = Desk::empty();
+    let mut line = Line::empty();
+    for _ in 0..PARTS {
+        let mut part = [0; 4096];
+        let n = match input.read(&mut part) {
+            Ok(n) => n,
+            Err(_) => {
+                println!(rt; "error: standard input can't be read")?;
+                0
+            }
+        };
+        if n == 0 {
             break;
         }
-        left -= 1;
-    }
-    Ok(h)
-}
-
-// What was heard so far: the desk, the line that has begun, and whether the input is over.
-#[derive(Clone, Copy)]
-struct Heard {
-    desk: Desk,
-    line: Line,
-    over: bool,
-}
-
-// The next part of the input.
-fn next(
-    rt: &(impl Print + RandomSource),
-    input: &mut impl Read,
-    h: Heard,
-    line: &mut [u8],
-    keys: &mut [u8],
-    identity: &mut [u8],
-    user: &mut [u8],
-) -> io::Result<Heard> {
-    let mut part = [0u8; 4096];
-    let n = match input.read(&mut part) {
-        Ok(n) => n,
-        Err(_) => {
-            print::text(rt, b"error: standard input can't be read\n")?;
-            0
+        for byte in &part[..n] {
+            if *byte == b'\n' {
+                line.end(rt, &mut desk)?;
+            } else {
+                line.push(*byte);
+            }
         }
-    };
-    if n == 0 {
-        let mut end = h;
-        end.over = true;
-        return Ok(end);
     }
-    fed(rt, h, &part[..n], line, keys, identity, user)
+    line.end(rt, &mut desk) // the last line may have no end
 }
 
-fn fresh(shown: bool) -> Line {
-    Line {
-        n: 0,
-        cut: false,
-        shown,
-    }
-}
-
-fn fed(
-    rt: &(impl Print + RandomSource),
-    h: Heard,
-    part: &[u8],
-    line: &mut [u8],
-    keys: &mut [u8],
-    identity: &mut [u8],
-    user: &mut [u8],
-) -> io::Result<Heard> {
-    let mut d = h.desk;
-    let mut l = h.line;
-    let mut i: usize = 0;
-    while i < part.len() {
-        let c = part[i];
-        i += 1;
-        if c != b'\n' {
-            l = longer(l, c, line);
-            continue;
-        }
-        d = ended(rt, d, l, line, keys, identity, user)?;
-        l = fresh(l.shown);
-    }
-    Ok(Heard {
-        desk: d,
-        line: l,
-        over: false,
-    })
-}
-
-fn longer(l: Line, c: u8, line: &mut [u8]) -> Line {
-    let n = l.n;
-    if n < line.len() {
-        line[n] = c;
-        return Line {
-            n: n + 1,
-            cut: l.cut,
-            shown: l.shown,
+/// The commands of a script, each line shown before its answer, behind a mark where it is a command.
+pub fn script(rt: &(impl Print + RandomSource), script: &str) -> io::Result<()> {
+    let mut desk = Desk::empty();
+    for line in script.lines() {
+        let mark = match Words::of(line.as_bytes()).next() {
+            Some(_) => "> ",
+            None => "",
         };
+        println!(rt; "{mark}{line}")?;
+        desk.answer(rt, line.as_bytes())?;
     }
-    Line {
-        n,
-        cut: true,
-        shown: l.shown,
-    }
-}
-
-fn ended(
-    rt: &(impl Print + RandomSource),
-    d: Desk,
-    l: Line,
-    line: &[u8],
-    keys: &mut [u8],
-    identity: &mut [u8],
-    user: &mut [u8],
-) -> io::Result<Desk> {
-    if l.cut {
-        print::text(rt, b"error: line over 65536 bytes\n")?;
-        return Ok(d);
-    }
-    let n = answer::within(l.n, line);
-    if l.shown {
-        show(rt, &line[..n])?;
-    }
-    let command = before_comment(&line[..n]);
-    if count(command) == 0 {
-        return Ok(d);
-    }
-    commands::answered(rt, d, command, keys, identity, user)
-}
-
-// A line as one types it, behind a mark where it is a command.
-fn show(rt: &impl Print, line: &[u8]) -> io::Result<()> {
-    if count(before_comment(line)) != 0 {
-        print::text(rt, b"> ")?;
-    }
-    print::text(rt, line)?;
-    print::text(rt, b"\n")
+    Ok(())
 }

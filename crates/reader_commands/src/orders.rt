@@ -1,214 +1,251 @@
-// A message to build: its kind, its fields as they stand in the line, and the call that builds it. A field out of its
-// range is the reader's own refusal.
-use console::answer::within;
-use console::fields;
-use console::fields::{fill, number, small};
-use frames::{Custom, Kind};
-use lines::numbers::sum;
+// A message to build: its fields as they stand in the line, and the call that builds it. A field out of its range is
+// the reader's own refusal.
+use console::bytes::{Bytes, FIELD_LIMIT};
+use console::fields::Fields;
+use console::reason::Reason;
+use console::words::Words;
+use frames::Custom;
 use memory::{BlockSize, Offset};
-use octets::same;
 use reader::{Keys, ReaderFault};
-use std::io;
 
-pub fn kind_of(name: &[u8]) -> Kind {
-    if same(name, b"tam1") {
-        return Kind::Tam1;
-    }
-    if same(name, b"tam2") {
-        return Kind::Tam2;
-    }
-    if same(name, b"iam1") {
-        return Kind::Iam1;
-    }
-    if same(name, b"iam2") {
-        return Kind::Iam2;
-    }
-    if same(name, b"iam3") {
-        return Kind::Iam3;
-    }
-    if same(name, b"mam1") {
-        return Kind::Mam1;
-    }
-    if same(name, b"mam2") {
-        return Kind::Mam2;
-    }
-    Kind::Unsupported
+/// A message to build. Of its fields numbers are of any size, and bytes are there where they are as many as they must be.
+#[derive(Clone, Copy)]
+pub enum Order {
+    Open(Open),
+    Keyed(Keyed),
 }
 
-// Can the fields of a message be read?
-pub fn read(rt: &impl Print, kind: Kind, line: &[u8]) -> io::Result<bool> {
-    match kind {
-        Kind::Tam1 => fields::read(rt, line, 2, b"nh", 0),
-        Kind::Tam2 => fields::read(rt, line, 2, b"nnnhnnnn", 0),
-        Kind::Iam1 => fields::read(rt, line, 2, b"n", 0),
-        Kind::Iam2 => fields::read(rt, line, 2, b"nhh", 0),
-        Kind::Iam3 => fields::read(rt, line, 2, b"nnnnnnhhh", 0),
-        Kind::Mam1 => fields::read(rt, line, 2, b"nh", 0),
-        Kind::Mam2 => fields::read(rt, line, 2, b"nhh", 0),
-        Kind::Unsupported => Ok(false),
-    }
+/// A message that is made without a key.
+#[derive(Clone, Copy)]
+pub enum Open {
+    Tam1(Challenge),
+    Iam1 { keyid: u16 },
+    Mam1(Challenge),
 }
 
-// Is a message of this kind made with the reader's keys?
-pub fn keyed(kind: Kind) -> bool {
-    match kind {
-        Kind::Tam2 => true,
-        Kind::Iam2 => true,
-        Kind::Iam3 => true,
-        Kind::Mam2 => true,
-        _ => false,
-    }
+/// What TAM1 and MAM1 are made of.
+#[derive(Clone, Copy)]
+pub struct Challenge {
+    keyid: u16,
+    ichallenge: Option<[u8; 10]>,
 }
 
-pub fn made(keys: Keys, kind: Kind, line: &[u8], room: &mut [u8]) -> Result<usize, ReaderFault> {
-    match kind {
-        Kind::Tam1 => {
-            return challenge(false, line, room);
-        }
-        Kind::Tam2 => {
-            return tam2(keys, line, room);
-        }
-        Kind::Iam1 => {
-            return iam1(line, room);
-        }
-        Kind::Iam2 => {
-            return iam2(keys, line, room);
-        }
-        Kind::Iam3 => {
-            return iam3(keys, line, room);
-        }
-        Kind::Mam1 => {
-            return challenge(true, line, room);
-        }
-        Kind::Mam2 => {
-            return mam2(keys, line, room);
-        }
-        Kind::Unsupported => {
-            return out_of_range();
-        }
+/// A message that is made with the reader's keys.
+#[derive(Clone, Copy)]
+pub enum Keyed {
+    Tam2 {
+        blocksize: u16,
+        rev: u16,
+        keyid: u16,
+        ichallenge: Option<[u8; 10]>,
+        place: Place,
+        protmode: u16,
+    },
+    Iam2 {
+        purpose: u16,
+        irnd: Option<[u8; 4]>,
+        tchallenge: Option<[u8; 10]>,
+    },
+    Iam3 {
+        blocksize: u16,
+        place: Place,
+        protmode: u16,
+        purpose: u16,
+        irnd: Option<[u8; 4]>,
+        tchallenge: Option<[u8; 10]>,
+        data: Bytes<FIELD_LIMIT>,
+    },
+    Mam2 {
+        purpose: u16,
+        ichallenge: Option<[u8; 10]>,
+        tchallenge: Option<[u8; 10]>,
+    },
+}
+
+/// Profile, Offset and BlockCount, which stand side by side.
+#[derive(Clone, Copy)]
+pub struct Place {
+    profile: u16,
+    offset: u16,
+    blockcount: u16,
+}
+
+/// The order of a line, behind the word build.
+pub fn read(words: Words<'_>) -> Result<Order, Reason> {
+    let mut words = words;
+    match words.next().ok_or(Reason::WordMissing)? {
+        b"tam1" => Ok(Order::Open(Open::Tam1(Challenge::read(words)?))),
+        b"tam2" => Ok(Order::Keyed(tam2(words)?)),
+        b"iam1" => Ok(Order::Open(iam1(words)?)),
+        b"iam2" => Ok(Order::Keyed(iam2(words)?)),
+        b"iam3" => Ok(Order::Keyed(iam3(words)?)),
+        b"mam1" => Ok(Order::Open(Open::Mam1(Challenge::read(words)?))),
+        b"mam2" => Ok(Order::Keyed(mam2(words)?)),
+        _ => Err(Reason::UnknownMessage),
     }
 }
 
-fn out_of_range() -> Result<usize, ReaderFault> {
-    Err(ReaderFault::OwnMessage)
+impl Challenge {
+    fn read(words: Words<'_>) -> Result<Challenge, Reason> {
+        let mut fields = Fields::exactly(words, 2)?;
+        Ok(Challenge {
+            keyid: fields.number()?,
+            ichallenge: fields.array()?,
+        })
+    }
 }
 
-// TAM1, or MAM1, which has the same fields.
-fn challenge(mutual: bool, line: &[u8], room: &mut [u8]) -> Result<usize, ReaderFault> {
-    let mut ichallenge = [0u8; 10];
-    if !fill(line, 3, &mut ichallenge) {
-        return out_of_range();
-    }
-    if 255 < number(line, 2) {
-        return out_of_range();
-    }
-    if mutual {
-        return reader_build::mam1(small(line, 2), ichallenge, room);
-    }
-    reader_build::tam1(small(line, 2), ichallenge, room)
+fn iam1(words: Words<'_>) -> Result<Open, Reason> {
+    let mut fields = Fields::exactly(words, 1)?;
+    Ok(Open::Iam1 {
+        keyid: fields.number()?,
+    })
 }
 
-fn iam1(line: &[u8], room: &mut [u8]) -> Result<usize, ReaderFault> {
-    if 255 < number(line, 2) {
-        return out_of_range();
-    }
-    reader_build::iam1(small(line, 2), room)
+fn tam2(words: Words<'_>) -> Result<Keyed, Reason> {
+    let mut fields = Fields::exactly(words, 8)?;
+    Ok(Keyed::Tam2 {
+        blocksize: fields.number()?,
+        rev: fields.number()?,
+        keyid: fields.number()?,
+        ichallenge: fields.array()?,
+        place: Place::read(&mut fields)?,
+        protmode: fields.number()?,
+    })
 }
 
-fn tam2(keys: Keys, line: &[u8], room: &mut [u8]) -> Result<usize, ReaderFault> {
-    let mut ichallenge = [0u8; 10];
-    if !fill(line, 5, &mut ichallenge) {
-        return out_of_range();
-    }
-    if 1 < number(line, 2) {
-        return out_of_range();
-    }
-    if 1 < number(line, 3) {
-        return out_of_range();
-    }
-    if 255 < number(line, 4) {
-        return out_of_range();
-    }
-    let rev = number(line, 3) == 1;
-    let keyid = small(line, 4);
-    let protmode = small(line, 9);
-    reader_build::tam2(
-        keys,
-        keyid,
-        ichallenge,
-        rev,
-        custom(line, 2, 6),
-        protmode,
-        room,
-    )
+fn iam2(words: Words<'_>) -> Result<Keyed, Reason> {
+    let mut fields = Fields::exactly(words, 3)?;
+    Ok(Keyed::Iam2 {
+        purpose: fields.number()?,
+        irnd: fields.array()?,
+        tchallenge: fields.array()?,
+    })
 }
 
-// BlockSize stands at one word; Profile, Offset and BlockCount at another and those behind it.
-fn custom(line: &[u8], size: usize, rest: usize) -> Custom {
-    Custom {
-        blocksize: blocksize(number(line, size)),
-        profile: small(line, rest),
-        offset: Offset(number(line, sum(rest, 1))),
-        blockcount: small(line, sum(rest, 2)),
+fn iam3(words: Words<'_>) -> Result<Keyed, Reason> {
+    let mut fields = Fields::exactly(words, 9)?;
+    Ok(Keyed::Iam3 {
+        blocksize: fields.number()?,
+        place: Place::read(&mut fields)?,
+        protmode: fields.number()?,
+        purpose: fields.number()?,
+        irnd: fields.array()?,
+        tchallenge: fields.array()?,
+        data: fields.bytes()?,
+    })
+}
+
+fn mam2(words: Words<'_>) -> Result<Keyed, Reason> {
+    let mut fields = Fields::exactly(words, 3)?;
+    Ok(Keyed::Mam2 {
+        purpose: fields.number()?,
+        ichallenge: fields.array()?,
+        tchallenge: fields.array()?,
+    })
+}
+
+impl Place {
+    fn read(fields: &mut Fields<'_>) -> Result<Place, Reason> {
+        Ok(Place {
+            profile: fields.number()?,
+            offset: fields.number()?,
+            blockcount: fields.number()?,
+        })
     }
+}
+
+impl Open {
+    /// The message in the room's first bytes; its length.
+    pub fn made(self, room: &mut [u8]) -> Result<usize, ReaderFault> {
+        match self {
+            Open::Tam1(fields) => reader_build::tam1(byte(fields.keyid)?, whole(fields.ichallenge)?, room),
+            Open::Iam1 { keyid } => reader_build::iam1(byte(keyid)?, room),
+            Open::Mam1(fields) => reader_build::mam1(byte(fields.keyid)?, whole(fields.ichallenge)?, room),
+        }
+    }
+}
+
+impl Keyed {
+    /// The message in the room's first bytes; its length.
+    pub fn made(self, keys: Keys, room: &mut [u8]) -> Result<usize, ReaderFault> {
+        match self {
+            Keyed::Tam2 {
+                blocksize,
+                rev,
+                keyid,
+                ichallenge,
+                place,
+                protmode,
+            } => {
+                let keyid = byte(keyid)?;
+                let ichallenge = whole(ichallenge)?;
+                let custom = custom(blocksize, place)?;
+                reader_build::tam2(keys, keyid, ichallenge, bit(rev)?, custom, byte(protmode)?, room)
+            }
+            Keyed::Iam2 {
+                purpose,
+                irnd,
+                tchallenge,
+            } => reader_build::iam2(keys, byte(purpose)?, whole(irnd)?, whole(tchallenge)?, room),
+            Keyed::Iam3 {
+                blocksize,
+                place,
+                protmode,
+                purpose,
+                irnd,
+                tchallenge,
+                data,
+            } => {
+                let custom = custom(blocksize, place)?;
+                let protmode = byte(protmode)?;
+                let purpose = byte(purpose)?;
+                let irnd = whole(irnd)?;
+                let tchallenge = whole(tchallenge)?;
+                reader_build::iam3(keys, custom, protmode, purpose, irnd, tchallenge, data.as_slice(), room)
+            }
+            Keyed::Mam2 {
+                purpose,
+                ichallenge,
+                tchallenge,
+            } => reader_build::mam2(keys, byte(purpose)?, whole(ichallenge)?, whole(tchallenge)?, room),
+        }
+    }
+}
+
+// A field that must be there.
+fn whole<const N: usize>(field: Option<[u8; N]>) -> Result<[u8; N], ReaderFault> {
+    field.ok_or(ReaderFault::OwnMessage)
+}
+
+// A number of one byte.
+fn byte(number: u16) -> Result<u8, ReaderFault> {
+    u8::try_from(number).map_err(|_| ReaderFault::OwnMessage)
+}
+
+// A number of one bit.
+fn bit(number: u16) -> Result<bool, ReaderFault> {
+    match number {
+        0 => Ok(false),
+        1 => Ok(true),
+        _ => Err(ReaderFault::OwnMessage),
+    }
+}
+
+fn custom(blocksize: u16, place: Place) -> Result<Custom, ReaderFault> {
+    Ok(Custom {
+        blocksize: size(blocksize)?,
+        profile: byte(place.profile)?,
+        offset: Offset(place.offset),
+        blockcount: byte(place.blockcount)?,
+    })
 }
 
 // BlockSize 0 asks for 64-bit blocks, 1 for 16-bit blocks.
-fn blocksize(n: u16) -> BlockSize {
-    if n == 0 {
-        return BlockSize::Bits64;
+fn size(blocksize: u16) -> Result<BlockSize, ReaderFault> {
+    match blocksize {
+        0 => Ok(BlockSize::Bits64),
+        1 => Ok(BlockSize::Bits16),
+        _ => Err(ReaderFault::OwnMessage),
     }
-    BlockSize::Bits16
-}
-
-fn iam2(keys: Keys, line: &[u8], room: &mut [u8]) -> Result<usize, ReaderFault> {
-    let mut irnd = [0u8; 4];
-    let mut tchallenge = [0u8; 10];
-    if !fill(line, 3, &mut irnd) {
-        return out_of_range();
-    }
-    if !fill(line, 4, &mut tchallenge) {
-        return out_of_range();
-    }
-    reader_build::iam2(keys, small(line, 2), irnd, tchallenge, room)
-}
-
-fn mam2(keys: Keys, line: &[u8], room: &mut [u8]) -> Result<usize, ReaderFault> {
-    let mut ichallenge = [0u8; 10];
-    let mut tchallenge = [0u8; 10];
-    if !fill(line, 3, &mut ichallenge) {
-        return out_of_range();
-    }
-    if !fill(line, 4, &mut tchallenge) {
-        return out_of_range();
-    }
-    reader_build::mam2(keys, small(line, 2), ichallenge, tchallenge, room)
-}
-
-fn iam3(keys: Keys, line: &[u8], room: &mut [u8]) -> Result<usize, ReaderFault> {
-    let mut irnd = [0u8; 4];
-    let mut tchallenge = [0u8; 10];
-    if !fill(line, 8, &mut irnd) {
-        return out_of_range();
-    }
-    if !fill(line, 9, &mut tchallenge) {
-        return out_of_range();
-    }
-    if 1 < number(line, 2) {
-        return out_of_range();
-    }
-    let mut words = [0u8; 4096];
-    let n = within(fields::bytes(line, 10, &mut words), &words);
-    let protmode = small(line, 6);
-    let purpose = small(line, 7);
-    reader_build::iam3(
-        keys,
-        custom(line, 2, 3),
-        protmode,
-        purpose,
-        irnd,
-        tchallenge,
-        &words[..n],
-        room,
-    )
 }

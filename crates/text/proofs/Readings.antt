@@ -4,15 +4,17 @@ use Rattle.text.specs.declared.HexFault.TheVariants.{NotHex, Odd, Over}
 use Rattle.text.specs.declared.HexFault.{HexFault}
 use mathlib.Core.Path.{◌≡◌, refl, sym, ap, ◌∙◌}
 use Rattle.std.proofs.Math.Bool.{and-true, and-false}
-use mathlib.Core.Bool.{true, false, false≢true}
+use mathlib.Core.Bool.{true, false, not, false≢true}
 use mathlib.Core.List.{List, [], ◌∷◌, ◌++◌}
 use Prim.Native.Nat.{ℕ, ◌%◌, ◌/◌, ◌≤◌, ◌<◌}
-use lib.Dec.{eqb}
+use native.Mathlib.Omega.{arith}
+use lib.Dec.{eqb, ltb}
 use lib.Pointwise.{pointwise}
 use lib.ListN.{length, drop}
-use borrow.Author.Tests.{eq-eqb, ne_eqb, lt-ltb, le-ltb}
+use borrow.Author.Tests.{ltb-false, eq-eqb, ne_eqb, lt-ltb, le-ltb}
 use Rattle.text.specs.Digits.{is_word}
 use Rattle.text.specs.Hex.{dash, is_dash, bytes_of, hex_read, hex_room, ReadsHex}
+use Rattle.text.proofs.Choices.{picked, never}
 use Rattle.text.proofs.Pairs.{bytes_long}
 
 -- what `is_dash` tests
@@ -61,3 +63,21 @@ module _ (w room : List ℕ) where
   unfolding hex_read
   bytes d t h l after e = answered (Ok (length w / 2)) after (simp (d, t, ne_eqb _ _ h, bytes_long, le-ltb _ _ l))
       (e ∙ simp bytes_long)
+
+-- no more bytes are read than the room has
+module _ (w : List ℕ) (size n : ℕ) where
+  abbrev Within : Result ℕ HexFault → Type 0
+  Within r = r ≡ Ok n → n ≤ size
+
+  read_fits : Within (hex_read w size)
+  unfolding hex_read
+  read_fits =
+      picked Within (is_dash w) (λ d e. let none : n ≡ 0 = cc in omega arith)
+      (λ d. picked Within (not (is_word 16 w)) (λ t e. never (cc))
+      (λ t. picked Within (eqb (length w % 2) 1) (λ v e. never (cc))
+      (λ v. picked Within (ltb size (length (bytes_of w))) (λ l e. never (cc))
+      (λ l e. let some : n ≡ length (bytes_of w) = cc in
+      omega (arith, ltb-false size (length (bytes_of w)) l)))))
+
+pub read_within : (w room : List ℕ) (n : ℕ) (after : List ℕ) → ReadsHex w room (Ok n) after → n ≤ length room
+read_within w room n after h = read_fits w (length room) n (sym h.says)

@@ -2,12 +2,10 @@
 // keys, the draws and the challenges of Annex F, so that a trainee finds many of the bytes in its tables. What it
 // prints is examples/demo.out.
 
-use frames::ProtMode;
-// The script into the first bytes of a room; its length there, 0 where the room is too short.
-pub fn script(room: &mut [u8]) -> usize {
-    put(
-        b"# The tag of Annex F: every feature, an identity area of 9 words, the keys 0 and 1, profile 1 over t\
-he whole area.\n\
+/// The script, a command or a comment a line.
+pub const SCRIPT: &str = "\
+# The tag of Annex F: every feature, an identity area of 9 words, the keys 0 and 1, profile 1 over \
+the whole area.\n\
 sheet 013f0f02000900000300010002000102030405060708090a0b0c0d0e0f2b7e151628aed2a6abf7158809cf4f3c0301\
 0100070a1b2c3d4e5f6a7b8c9d0e1f2ab3c4d5889900aabbccddeeffaabbccddeeff000401000000000906\n\
 area 0 a16a76656e69617a5265676e756d5475756d\n\
@@ -49,16 +47,4 @@ judge 800196564402375796c69664 47d77088e9143699215c9d162d8a310a566f6e204272\n\
 build mam2 0 96564402375796c69664 566f6e20427261756e20\n\
 message 90f537798c9e30cf1999e3c52a7994bd93\n\
 judge 90f537798c9e30cf1999e3c52a7994bd93 -\n\
-# Both challenges came back under the key: each half has it.\n",
-        room,
-    )
-}
-
-// A text into the first bytes of a room that is large enough; its length there.
-fn put(text: &[u8], room: &mut [u8]) -> usize {
-    if room.len() < text.len() {
-        return 0;
-    }
-    room[..text.len()].copy_from_slice(text);
-    text.len()
-}
+# Both challenges came back under the key: each half has it.\n";

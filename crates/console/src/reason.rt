@@ -1,0 +1,90 @@
+// What a line is refused for.
+use std::fmt;
+use std::io;
+use text::{DecimalFault, HexFault};
+
+/// What is said of a line that is refused, behind `error: `.
+#[derive(Clone, Copy, Debug, PartialEq, Eq)]
+pub enum Reason {
+    LineOver,
+    UnknownCommand,
+    UnknownForm,
+    UnknownMessage,
+    WordMissing,
+    WordTooMany,
+    NotNumber,
+    NumberOver,
+    NotHex,
+    OddDigits,
+    BytesOver,
+    NotSixteen,
+    NoArea,
+    RoomOver,
+    NoTag,
+    NoRandom,
+    NoKeys,
+    NoSuchNumber,
+}
+
+impl fmt::Display for Reason {
+    fn fmt<W: fmt::Write>(&self, f: &mut fmt::Formatter<W>) -> fmt::Result {
+        f.write_str(match self {
+            Reason::LineOver => "line over 65536 bytes",
+            Reason::UnknownCommand => "unknown command",
+            Reason::UnknownForm => "unknown form",
+            Reason::UnknownMessage => "unknown message",
+            Reason::WordMissing => "word missing",
+            Reason::WordTooMany => "word too many",
+            Reason::NotNumber => "not a number",
+            Reason::NumberOver => "number over 65535",
+            Reason::NotHex => "not hex",
+            Reason::OddDigits => "odd number of hex digits",
+            Reason::BytesOver => "over 4096 bytes",
+            Reason::NotSixteen => "not 16 bytes",
+            Reason::NoArea => "area 0 or 1",
+            Reason::RoomOver => "room over 4096",
+            Reason::NoTag => "no tag yet",
+            Reason::NoRandom => "no random bytes",
+            Reason::NoKeys => "no keys yet",
+            Reason::NoSuchNumber => "no such number",
+        })
+    }
+}
+
+impl From<DecimalFault> for Reason {
+    fn from(fault: DecimalFault) -> Reason {
+        match fault {
+            DecimalFault::NotNumber => Reason::NotNumber,
+            DecimalFault::Over => Reason::NumberOver,
+        }
+    }
+}
+
+impl From<HexFault> for Reason {
+    fn from(fault: HexFault) -> Reason {
+        match fault {
+            HexFault::NotHex => Reason::NotHex,
+            HexFault::Odd => Reason::OddDigits,
+            HexFault::Over => Reason::BytesOver,
+        }
+    }
+}
+
+/// Why a line has no answer: it is refused, or its answer can't be written.
+#[derive(Debug, Drop)]
+pub enum Fault {
+    Refused(Reason),
+    Unwritten(io::Error),
+}
+
+impl From<Reason> for Fault {
+    fn from(reason: Reason) -> Fault {
+        Fault::Refused(reason)
+    }
+}
+
+impl From<io::Error> for Fault {
+    fn from(error: io::Error) -> Fault {
+        Fault::Unwritten(error)
+    }
+}
