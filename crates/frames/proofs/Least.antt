@@ -2,8 +2,9 @@
 use mathlib.Core.Path.{◌≡◌, refl}
 use mathlib.Core.Bool.{Bool, true, false}
 use mathlib.Core.List.{List, [], ◌∷◌}
-use Prim.Native.Nat.{ℕ, zero, suc, ◌+◌, ◌*◌, ◌/◌, ◌≤◌, ◌<◌}
+use Prim.Native.Nat.{ℕ, zero, suc, ◌+◌, ◌*◌, ◌≤◌, ◌<◌}
 use native.Mathlib.Omega.{arith}
+use Rattle.std.specs.Int.{div_ceil}
 use Rattle.memory.specs.declared.BlockSize.{BlockSize}
 use Rattle.memory.specs.declared.BlockSize.TheVariants.{Bits64, Bits16}
 use Rattle.frames.specs.Blocks.{
@@ -28,14 +29,18 @@ unfolding header_length
 header_bound Bits64 = omega arith
 header_bound Bits16 = omega arith
 
--- D by what stands before the data
-pub d_with : (s : BlockSize) (n : ℕ) → (header_length s + data_length s n + 15) / 16 ≡ d_of s true n
-unfolding d_of carried header_part
-d_with s n = refl
+pub part_bound : (s : BlockSize) (header : Bool) → header_part s header ≤ 8
+unfolding header_part header_length
+part_bound Bits64 true = omega arith
+part_bound Bits64 false = omega arith
+part_bound Bits16 true = omega arith
+part_bound Bits16 false = omega arith
 
-pub d_without : (s : BlockSize) (n : ℕ) → (data_length s n + 15) / 16 ≡ d_of s false n
-unfolding d_of carried header_part
-d_without s n = omega arith
+-- D is what stands before the data, and the data, by 16 and rounded up
+pub d_told : (s : BlockSize) (header : Bool) (n k : ℕ) → k ≡ div_ceil (header_part s header + data_length s n) 16
+    → k ≡ d_of s header n
+unfolding d_of carried
+d_told s header n k e = omega arith
 
 pub d_least : (s : BlockSize) (header : Bool) (n : ℕ) → IsD s header n (d_of s header n)
 unfolding d_of

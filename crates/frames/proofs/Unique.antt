@@ -10,6 +10,8 @@ use Rattle.frames.proofs.first.kind_of.Reads as kind-of
 use Rattle.frames.proofs.first.kind_of.Kinds as kind-of-kinds
 use Rattle.frames.proofs.sizes.header_length.Reads as header-length
 use Rattle.frames.proofs.sizes.header_length.Kinds as header-length-kinds
+use Rattle.frames.proofs.sizes.header_part.Reads as header-part
+use Rattle.frames.proofs.sizes.header_part.Kinds as header-part-kinds
 use Rattle.frames.proofs.sizes.data_length.Reads as data-length
 use Rattle.frames.proofs.sizes.data_length.Kinds as data-length-kinds
 use Rattle.frames.proofs.sizes.block_asked.Reads as block-asked
@@ -91,6 +93,9 @@ kind_of_one κs a x y v w p q = (one p q, refl)
 
 pub header_length_one : OneAnswer 0 header-length-kinds.ps header-length-kinds.r header-length.Post
 header_length_one κs a x y v w p q = (one p q, refl)
+
+pub header_part_one : OneAnswer 0 header-part-kinds.ps header-part-kinds.r header-part.Post
+header_part_one κs a x y v w p q = (one p q, refl)
 
 pub data_length_one : OneAnswer 0 data-length-kinds.ps data-length-kinds.r data-length.Post
 data_length_one κs a x y v w p q = (one p q, refl)

@@ -1,17 +1,14 @@
 -- Fields shared by several messages.
-use Rattle.std.specs.Prelude.{ℕ, ◌+◌, ◌*◌, ◌/◌, ◌%◌, Bool, List, [], ◌∷◌, eqb, ltb}
+use Rattle.std.specs.Prelude.{ℕ, ◌+◌, ◌*◌, ◌/◌, ◌%◌, Bool, List, [], ◌∷◌, ltb}
 use Rattle.memory.specs.Address.{block_size_bit}
+unfoldable pub use Rattle.memory.specs.Address.{size_of}
 use Rattle.memory.specs.declared.BlockSize.{BlockSize}
-use Rattle.memory.specs.declared.BlockSize.TheVariants.{Bits64, Bits16}
-use Rattle.ground.specs.Choice.{pick, both}
+use Rattle.ground.specs.Choice.{both}
 use Rattle.frames.specs.declared.Custom.{Custom}
 
 -- 9.2, BlockSize: memory's, 0 for 64-bit blocks and 1 for 16-bit blocks
 abbrev pub size_bit : BlockSize → ℕ
 size_bit s = block_size_bit s
-
-unfoldable pub size_of : ℕ → BlockSize
-size_of b = pick (eqb b 0) Bits64 Bits16
 
 -- 9.2: Profile has 4 bits, Offset 12, BlockCount 4
 unfoldable pub custom_fits : Custom → Bool

@@ -32,41 +32,20 @@ use super::sizes::header_length;
 use super::{Custom, Iam1, Iam2, Iam3, Mam1, Mam2, Tam1, Tam2};
 use memory::BlockSize;
 
-// BlockSize as its bit.
-fn size_bit(size: BlockSize) -> u8
-    ensures { (result ≡ size_bit size) × (result < 2) }
-{
-    match size {
-        BlockSize::Bits64 => 0,
-        BlockSize::Bits16 => 1,
-    }
-}
-
 // Does each field have a value of its bits?
+#[tactic(auto, unfolding(crate::specs::Fields::custom_fits))]
 fn custom_fits(custom: Custom) -> bool
     ensures { result ≡ custom_fits custom }
 {
-    let offset = custom.offset;
-    if 16 <= custom.profile {
-        return false;
-    }
-    if 4096 <= offset.0 {
-        return false;
-    }
-    custom.blockcount < 16
+    custom.profile < 16 && custom.offset.0 < 4096 && custom.blockcount < 16
 }
 
 // The same, with RFU and ProtMode.
+#[tactic(auto, unfolding(crate::specs::Messages::select_fits))]
 fn select_fits(rfu: u8, custom: Custom, protmode: u8) -> bool
     ensures { result ≡ select_fits rfu custom protmode }
 {
-    if rfu != 0 {
-        return false;
-    }
-    if 16 <= protmode {
-        return false;
-    }
-    custom_fits(custom)
+    rfu == 0 && protmode < 16 && custom_fits(custom)
 }
 
 // Profile, Offset, BlockCount and ProtMode in the three bytes that TAM2 and IAM3 share.
@@ -111,11 +90,7 @@ fn with_response(room: &mut [u8], head: &[u8], iresponse: [u8; 16]) -> bool
 fn tam2_first(blocksize: BlockSize, rev: bool) -> u8
     ensures { result ≡ 0x20 + size_bit blocksize * 16 + bit_of rev * 8 }
 {
-    let b = size_bit(blocksize);
-    if rev {
-        return 0x20 + b * 16 + 8;
-    }
-    0x20 + b * 16
+    0x20 + u8::from(blocksize) * 16 + u8::from(rev) * 8
 }
 
 // The header's bytes before the zeros.
@@ -124,7 +99,7 @@ fn header_start(custom: Custom) -> [u8; 3]
     ensures { result ≡ header_start custom }
 {
     let blocksize = custom.blocksize;
-    let b = size_bit(blocksize);
+    let b = u8::from(blocksize);
     let offset = custom.offset;
     let o = offset.0;
     [
@@ -197,7 +172,7 @@ pub fn iam3_into(f: Iam3, room: &mut [u8]) -> bool
         return false;
     }
     let blocksize = custom.blocksize;
-    let b = size_bit(blocksize);
+    let b = u8::from(blocksize);
     let s = select(custom, f.protmode);
     let head = [0x58 + b * 4, s[0], s[1], s[2]];
     let iresponse = f.iresponse;

@@ -10,18 +10,20 @@ use super::ProtMode;
 fn two_bytes(c: u16) -> [u8; 2]
     ensures { result ≡ two_bytes c }
 {
-    [(c / 256) as u8, (c % 256) as u8]
+    c.to_be_bytes()
 }
 
 // A constant of 12 bits, then Purpose.
+#[tactic(auto, unfolding(crate::specs::Constants::with_purpose))]
 fn with_purpose(c: u16, purpose: u8) -> [u8; 2]
     requires { c < 4096 }
     ensures { result ≡ with_purpose c purpose }
 {
-    [(c / 16) as u8, (c % 16) as u8 * 16 + purpose % 16]
+    (c * 16 + (purpose % 16) as u16).to_be_bytes()
 }
 
 // One of four by ProtMode.
+#[tactic(auto, unfolding(crate::specs::Constants::by_mode))]
 fn by_mode(a: u16, b: u16, c: u16, d: u16, mode: ProtMode) -> u16
     ensures { result ≡ by_mode a b c d mode }
 {
@@ -41,6 +43,7 @@ pub fn tam1_constant() -> [u8; 2]
 }
 
 // C_TAM2, or C_TAM2_0 to C_TAM2_3. Ruled out: 96C5 in Rev 1, and a constant by ProtMode in Rev 0.
+#[tactic(auto, unfolding(crate::specs::Constants::tam2_constant))]
 pub fn tam2_constant(rev: bool, mode: ProtMode) -> [u8; 2]
     ensures { result ≡ two_bytes (tam2_constant rev mode) }
 {
@@ -72,6 +75,7 @@ pub fn iam2_constant(purpose: u8) -> [u8; 2]
 }
 
 // C_IAM3_0 to C_IAM3_3 and Purpose. Ruled out: DA8 in every ProtMode, and DA9 and DAA exchanged.
+#[tactic(auto, unfolding(crate::specs::Constants::iam3_constant))]
 pub fn iam3_constant(mode: ProtMode, purpose: u8) -> [u8; 2]
     ensures { result ≡ with_purpose (iam3_constant mode) purpose }
 {

@@ -5,60 +5,51 @@ ghost use Rattle.frames.specs.Kinds.{kind_of, tam_kind, iam_kind, mam_kind};
 use super::Kind;
 
 // By CustomData (9.4.1).
+#[tactic(auto, unfolding(crate::specs::Kinds::tam_kind))]
 fn tam(first: u8) -> Kind
     ensures { result ≡ tam_kind first }
 {
-    if first / 32 % 2 == 0 {
-        return Kind::Tam1;
+    match first / 32 % 2 {
+        0 => Kind::Tam1,
+        _ => Kind::Tam2,
     }
-    Kind::Tam2
 }
 
 // By Step and CustomData (9.5.1).
+#[tactic(auto, unfolding(crate::specs::Kinds::iam_kind))]
 fn iam(first: u8) -> Kind
     ensures { result ≡ iam_kind first }
 {
-    let step = first / 16 % 4;
-    if step == 0 {
-        return Kind::Iam1;
+    match (first / 16 % 4, first / 8 % 2) {
+        (0, _) => Kind::Iam1,
+        (1, 0) => Kind::Iam2,
+        (1, _) => Kind::Iam3,
+        _ => Kind::Unsupported,
     }
-    if step == 1 {
-        if first / 8 % 2 == 0 {
-            return Kind::Iam2;
-        }
-        return Kind::Iam3;
-    }
-    Kind::Unsupported
 }
 
 // By Step (9.6.1).
+#[tactic(auto, unfolding(crate::specs::Kinds::mam_kind))]
 fn mam(first: u8) -> Kind
     ensures { result ≡ mam_kind first }
 {
-    let step = first / 16 % 4;
-    if step == 0 {
-        return Kind::Mam1;
+    match first / 16 % 4 {
+        0 => Kind::Mam1,
+        1 => Kind::Mam2,
+        _ => Kind::Unsupported,
     }
-    if step == 1 {
-        return Kind::Mam2;
-    }
-    Kind::Unsupported
 }
 
 // The kind of a message, by its first byte alone; RFU bits do not change it (9.3).
 // Ruled out: method 11 taken for MAM, and a message of IAM or MAM with Step 10 taken for one with Step 00.
+#[tactic(auto, unfolding(crate::specs::Kinds::kind_of))]
 pub fn kind_of(first: u8) -> Kind
     ensures { result ≡ kind_of first }
 {
-    let method = first / 64;
-    if method == 0 {
-        return tam(first);
+    match first / 64 {
+        0 => tam(first),
+        1 => iam(first),
+        2 => mam(first),
+        _ => Kind::Unsupported,
     }
-    if method == 1 {
-        return iam(first);
-    }
-    if method == 2 {
-        return mam(first);
-    }
-    Kind::Unsupported
 }

@@ -13,7 +13,7 @@ pub mod build; // build.rt: each message, and the header, into a room
 pub mod constants; // constants.rt: the constants of Table 1
 
 // The seven messages, and what is none of them: a Step or a method that nothing uses.
-#[derive(Clone, Copy)]
+#[derive(Clone, Copy, Debug, PartialEq, Eq)]
 pub enum Kind {
     Tam1,
     Tam2,
@@ -26,7 +26,7 @@ pub enum Kind {
 }
 
 // The four modes of operation that ProtMode selects (Table 3): data as they are, encrypted, with a MAC, and both.
-#[derive(Clone, Copy)]
+#[derive(Clone, Copy, Debug, PartialEq, Eq)]
 pub enum ProtMode {
     Plaintext,
     Cbc,
@@ -35,7 +35,7 @@ pub enum ProtMode {
 }
 
 // The custom data that a message names (9.2). Profile has 4 bits, Offset 12, BlockCount 4.
-#[derive(Clone, Copy)]
+#[derive(Clone, Copy, Debug, PartialEq, Eq)]
 pub struct Custom {
     pub blocksize: BlockSize,
     pub profile: u8,
@@ -44,7 +44,7 @@ pub struct Custom {
 }
 
 // Table 4. RFU has 5 bits.
-#[derive(Clone, Copy)]
+#[derive(Clone, Copy, Debug, PartialEq, Eq)]
 pub struct Tam1 {
     pub rfu: u8,
     pub keyid: u8,
@@ -52,7 +52,7 @@ pub struct Tam1 {
 }
 
 // Table 6. RFU has 3 bits, ProtMode 4.
-#[derive(Clone, Copy)]
+#[derive(Clone, Copy, Debug, PartialEq, Eq)]
 pub struct Tam2 {
     pub rev: bool,
     pub rfu: u8,
@@ -63,21 +63,21 @@ pub struct Tam2 {
 }
 
 // Table 15. RFU has 4 bits.
-#[derive(Clone, Copy)]
+#[derive(Clone, Copy, Debug, PartialEq, Eq)]
 pub struct Iam1 {
     pub rfu: u8,
     pub keyid: u8,
 }
 
 // Table 17. RFU has 3 bits.
-#[derive(Clone, Copy)]
+#[derive(Clone, Copy, Debug, PartialEq, Eq)]
 pub struct Iam2 {
     pub rfu: u8,
     pub iresponse: [u8; 16],
 }
 
 // Table 18, up to the first block of IResponse. RFU has 2 bits, ProtMode 4.
-#[derive(Clone, Copy)]
+#[derive(Clone, Copy, Debug, PartialEq, Eq)]
 pub struct Iam3 {
     pub rfu: u8,
     pub custom: Custom,
@@ -86,7 +86,7 @@ pub struct Iam3 {
 }
 
 // Table 23. RFU has 4 bits.
-#[derive(Clone, Copy)]
+#[derive(Clone, Copy, Debug, PartialEq, Eq)]
 pub struct Mam1 {
     pub rfu: u8,
     pub keyid: u8,
@@ -94,7 +94,7 @@ pub struct Mam1 {
 }
 
 // Table 25. RFU has 4 bits.
-#[derive(Clone, Copy)]
+#[derive(Clone, Copy, Debug, PartialEq, Eq)]
 pub struct Mam2 {
     pub rfu: u8,
     pub iresponse: [u8; 16],

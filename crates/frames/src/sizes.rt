@@ -1,7 +1,7 @@
 // How long things are, in bytes (9.2, and the tables of clause 9).
 ghost use Rattle.std.specs.Prelude.{◌≡◌};
 ghost use Rattle.frames.specs.Asked.{block_asked};
-ghost use Rattle.frames.specs.Blocks.{header_length, data_length, d_of, blocks_length};
+ghost use Rattle.frames.specs.Blocks.{header_length, header_part, data_length, d_of, blocks_length};
 ghost use Rattle.frames.specs.Lengths.{
   mac_length,
   iam3_mac_at,
@@ -28,6 +28,7 @@ pub const DATA_ROOM: usize = 144;
 pub const DATA_MOST: usize = 128;
 
 // H (9.2). Ruled out: 8 for 16-bit blocks, and H counted in bits.
+#[tactic(auto, unfolding(crate::specs::Blocks::header_length))]
 pub fn header_length(size: BlockSize) -> usize
     ensures { result ≡ header_length size }
 {
@@ -37,7 +38,17 @@ pub fn header_length(size: BlockSize) -> usize
     }
 }
 
+// The bytes before the data: H where there is a header, as in TAM2 Rev 1 and IAM3 (9.2).
+// Ruled out: a header in TAM2 Rev 0, and H of the other block size.
+#[tactic(auto, unfolding(crate::specs::Blocks::header_part))]
+pub fn header_part(size: BlockSize, header: bool) -> usize
+    ensures { result ≡ header_part size header }
+{
+    if header { header_length(size) } else { 0 }
+}
+
 // The bytes of the data (9.2). Ruled out: BlockCount taken for the number of blocks, and the two block sizes exchanged.
+#[tactic(auto, unfolding(crate::specs::Blocks::data_length, crate::specs::Blocks::block_bytes))]
 pub fn data_length(size: BlockSize, blockcount: u8) -> usize
     ensures { result ≡ data_length size blockcount }
 {
@@ -50,6 +61,7 @@ pub fn data_length(size: BlockSize, blockcount: u8) -> usize
 
 // The block of memory that a message asks for (9.2). The data are its bytes, and it is never without words.
 // Ruled out: BlockCount taken for the number of blocks, and an Offset of 64-bit blocks taken as one of words.
+#[tactic(auto, unfolding(crate::specs::Asked::block_asked))]
 pub fn block_asked(profile: Profile, custom: Custom) -> Block
     ensures { result ≡ block_asked profile custom }
 {
@@ -64,11 +76,7 @@ pub fn block_asked(profile: Profile, custom: Custom) -> Block
 pub fn d_of(size: BlockSize, header: bool, blockcount: u8) -> usize
     ensures { result ≡ d_of size header blockcount }
 {
-    let data = data_length(size, blockcount);
-    if header {
-        return (header_length(size) + data + 15) / 16;
-    }
-    (data + 15) / 16
+    (header_part(size, header) + data_length(size, blockcount)).div_ceil(16)
 }
 
 // The bytes of all D blocks. Ruled out: D itself, and D of the other block size.
@@ -79,13 +87,11 @@ pub fn blocks_length(size: BlockSize, header: bool, blockcount: u8) -> usize
 }
 
 // The bytes of a MAC (Table 3). Ruled out: a MAC in ProtMode 1, and one of 16 bytes.
+#[tactic(auto, unfolding(crate::specs::Lengths::mac_length))]
 pub fn mac_length(mode: ProtMode) -> usize
     ensures { result ≡ mac_length mode }
 {
-    if has_mac(mode) {
-        return 12;
-    }
-    0
+    if has_mac(mode) { 12 } else { 0 }
 }
 
 // Where the MAC of IAM3 stands, behind the data blocks (9.5.8). Ruled out: 16 + 16D, and a place without the header.
@@ -118,6 +124,7 @@ pub fn tam2_reply_length(size: BlockSize, rev: bool, blockcount: u8, mode: ProtM
 }
 
 // Is an IAM3 message as long as its own fields say?
+#[tactic(auto, unfolding(crate::specs::Lengths::iam3_length_fits))]
 fn iam3_length_fits(m: &[u8]) -> bool
     ensures { result ≡ iam3_length_fits m.now }
 {
@@ -134,6 +141,7 @@ fn iam3_length_fits(m: &[u8]) -> bool
 }
 
 // Is a message as long as its kind asks? Ruled out: an empty message let through, and IAM3 of ProtMode 4 refused here.
+#[tactic(auto, unfolding(crate::specs::Lengths::length_fits))]
 pub fn length_fits(kind: Kind, m: &[u8]) -> bool
     ensures { result ≡ length_fits kind m.now }
 {

