@@ -1,6 +1,7 @@
 -- The MAC behind the bytes that it covers, made and judged.
-use Rattle.std.specs.Prelude.{Result}
+use Rattle.std.specs.Prelude.{Result, Ok, Err, is_err}
 use Rattle.modes.specs.declared.ChainingFault.{ChainingFault}
+use Rattle.modes.specs.declared.ChainingFault.TheVariants.{BlocksOrRoom}
 use mathlib.Core.Path.{◌≡◌, refl, sym, ap, ap₂, ◌∙◌}
 use mathlib.Core.Bool.{Bool, true, false}
 use mathlib.Core.List.{List, [], ◌++◌, append-nil}
@@ -10,7 +11,7 @@ use lib.ListN.{length, take, length-append}
 use lib.Seq.{length-take-le}
 use Rattle.ground.specs.Choice.{pick, both, implies}
 use Rattle.modes.specs.Cmac.{cmac96}
-use Rattle.modes.specs.Room.{Into, macs, over, number_of}
+use Rattle.modes.specs.Room.{Into, macs, over}
 use Rattle.modes.proofs.Rooms.{room_for_mac}
 use Rattle.frames.specs.Built.{Built}
 use Rattle.frames.specs.Modes.{has_mac}
@@ -25,28 +26,29 @@ use Rattle.payload.proofs.Rooms.{over_built}
 
 -- ---- what a call of the cipher answers
 
--- a call that is taken, by its number, and what it leaves in its room
-module _ (b : Bool) (out room after : List ℕ) (answer : Result Unit ChainingFault) (i : Into b out room answer after) where
-  pub into_refused : (n : ℕ) → n ≡ number_of answer → (n ≡ 0 → ⊥) → b ≡ false
-  into_refused n e h = none b (λ z. h (e ∙ i.number ∙ z))
+-- a call that is refused or taken, and what it leaves in its room
+module _ (b : Bool) (out room after : List ℕ) (answer : Result Unit ChainingFault)
+    (i : Into b out room answer after) where
+  pub into_refused : is_err answer ≡ true → b ≡ false
+  into_refused e = none b (sym (ap is_err i.says) ∙ e)
     where
-      none : (x : Bool) → (pick {A = ℕ} x 0 8 ≡ 0 → ⊥) → x ≡ false
-      none true f = absurd (f refl)
+      none : (x : Bool) → is_err (pick {A = Result Unit ChainingFault} x (Ok tt) (Err BlocksOrRoom)) ≡ true → x ≡ false
+      none true f = sym f
       none false f = refl
 
-  pub into_done : (n : ℕ) → n ≡ number_of answer → n ≡ 0 → b ≡ true
-  into_done n e h = all b (sym i.number ∙ sym e ∙ h)
+  pub into_done : is_err answer ≡ false → b ≡ true
+  into_done e = all b (sym (ap is_err i.says) ∙ e)
     where
-      all : (x : Bool) → pick {A = ℕ} x 0 8 ≡ 0 → x ≡ true
+      all : (x : Bool) → is_err (pick {A = Result Unit ChainingFault} x (Ok tt) (Err BlocksOrRoom)) ≡ false → x ≡ true
       all true f = refl
-      all false f = absurd (let z : ⊥ = omega arith in z)
+      all false f = sym f
 
   pub into_taken : b ≡ true → after ≡ over out room
   into_taken e = i.leaves ∙ ap (λ (x : Bool). pick x (over out room) room) e
 
 -- the MAC, in a room of twelve
-pub mac_made : (k : ℕ) (key s fresh mac : List ℕ) (answer : Result Unit ChainingFault) → length fresh ≡ 12 → macs k 12 ≡ true
-    → Into (macs k 12) (cmac96 key s) fresh answer mac → mac ≡ cmac96 key s
+pub mac_made : (k : ℕ) (key s fresh mac : List ℕ) (answer : Result Unit ChainingFault) → length fresh ≡ 12
+    → macs k 12 ≡ true → Into (macs k 12) (cmac96 key s) fresh answer mac → mac ≡ cmac96 key s
 mac_made k key s fresh mac answer l t i = into_taken (macs k 12) (cmac96 key s) fresh mac answer i t
     ∙ over_all (cmac96 key s) fresh (mac_twelve key s ∙ sym l)
 

@@ -3,7 +3,7 @@
 
 ghost use Rattle.std.specs.Prelude.{◌≡◌, true, ◌++◌, ◌+◌, ◌≤◌, eqb, length, take};
 ghost use Rattle.ground.specs.Choice.{both};
-ghost use Rattle.frames.specs.Blocks.{header_part, data_length, blocks_length};
+ghost use Rattle.frames.specs.Blocks.{data_length, blocks_length};
 ghost use Rattle.frames.specs.Built.{Built};
 ghost use Rattle.frames.specs.Fields.{custom_fits};
 ghost use Rattle.frames.specs.Lengths.{mac_length};
@@ -12,9 +12,8 @@ ghost use Rattle.payload.specs.Protected.{mac_takes, with_mac, mac_fits};
 
 use frames::build::header_into;
 use frames::protection::has_mac;
-use frames::sizes::{DATA_ROOM, blocks_length, data_length, header_length};
+use frames::sizes::{DATA_ROOM, blocks_length, data_length, header_length, header_part};
 use frames::{Custom, ProtMode};
-use memory::BlockSize;
 use octets::{front, same, tail};
 
 /// Puts src behind the first bytes of a room, from place at on. Where it does not fit, the answer is false and no byte
@@ -25,24 +24,11 @@ pub fn put(room: &mut [u8], at: usize, src: &[u8]) -> bool
     ensures { Built true (at + length src.now) (take at room.old ++ src.now)
         room.old result room.new }
 {
-    if room.len() < at {
-        return false;
+    let fits = at <= room.len() && src.len() <= room.len() - at;
+    if fits {
+        room[at..at + src.len()].copy_from_slice(src);
     }
-    if room.len() - at < src.len() {
-        return false;
-    }
-    room[at..at + src.len()].copy_from_slice(src);
-    true
-}
-
-// The bytes before the data: a header's in Rev 1, none in Rev 0 (9.2).
-fn header_part(rev: bool, size: BlockSize) -> usize
-    ensures { result ≡ header_part size rev }
-{
-    if rev {
-        return header_length(size);
-    }
-    0
+    fits
 }
 
 /// A block of a constant, four bytes and a challenge (9.4.3, 9.5.5, 9.6.3, 9.6.5).
@@ -95,7 +81,7 @@ pub fn carried_into(rev: bool, custom: Custom, words: &[u8], room: &mut [u8]) ->
     if room.len() < n {
         return false;
     }
-    let h = header_part(rev, size);
+    let h = header_part(size, rev);
     lay(&mut room[..n], &header[..h], words);
     true
 }
@@ -125,7 +111,7 @@ pub fn words_in(rev: bool, custom: Custom, p: &[u8]) -> &[u8]
     ensures { result.now ≡ words_in rev custom p.now }
 {
     let size = custom.blocksize;
-    let h = header_part(rev, size);
+    let h = header_part(size, rev);
     let n = data_length(size, custom.blockcount);
     front(tail(p, h), n)
 }
@@ -137,7 +123,7 @@ pub fn filler_fits(rev: bool, custom: Custom, p: &[u8]) -> bool
     ensures { result ≡ filler_fits rev custom p.now }
 {
     let size = custom.blocksize;
-    let h = header_part(rev, size);
+    let h = header_part(size, rev);
     let n = data_length(size, custom.blockcount);
     octets::zeros(tail(tail(p, h), n))
 }

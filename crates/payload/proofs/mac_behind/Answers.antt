@@ -21,15 +21,15 @@ pub slice_bounds-cmac_96-end-2 : goal.slice_bounds-cmac_96-end-2
 slice_bounds-cmac_96-end-2 c =
     sym (length-take-le c.args.n c.args.room.now (omega arith))
 
-pub returns-then-number-ne0 : goal.returns-then-number-ne0
-returns-then-number-ne0 c =
+pub returns-then-is_err : goal.returns-then-is_err
+returns-then-is_err c =
     let e = length-take-le c.args.n c.args.room.now (omega
     (arith, c.if-room-n.false)) in
     mac_refused c.args.mode c.args.n c.args.mackey c.args.room.now
     (sym c.has_mac.ensures
     ∙ c.if-not-has_mac.false)
-    (ap (λ (k : ℕ). macs k 12) (sym e) ∙ into_refused _ _ _ _ _ c.cmac_96.ensures _
-    c.number.ensures c.if-number-ne0.true)
+    (ap (λ (k : ℕ). macs k 12) (sym e) ∙ into_refused _ _ _ _ _ c.cmac_96.ensures
+    (sym c.is_err.ensures.value ∙ c.if-is_err.true))
 
 pub returns : goal.returns
 returns c =
@@ -39,8 +39,7 @@ returns c =
       arith,
       c.if-room-n.false,
     )) in
-    let t = into_done _ _ _ _ _ m.ensures _ c.number.ensures
-    c.if-number-ne0.false in
+    let t = into_done _ _ _ _ _ m.ensures (sym c.is_err.ensures.value ∙ c.if-is_err.false) in
     mac_put c.args.mode c.args.n c.args.mackey c.args.room.now m.new.room c.put.new.room
     c.put.result (sym c.has_mac.ensures
     ∙ c.if-not-has_mac.false) (ap (λ (k : ℕ). macs k 12) (sym e) ∙ t)

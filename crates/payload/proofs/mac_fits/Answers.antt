@@ -12,19 +12,18 @@ returns-then-not-has_mac c =
     none_judged c.args.mackey c.args.mode c.args.covered.now c.args.mac.now
     (sym c.has_mac.ensures ∙ c.if-not-has_mac.true)
 
-pub returns-then-number-ne0 : goal.returns-then-number-ne0
-returns-then-number-ne0 c =
+pub returns-then-is_err : goal.returns-then-is_err
+returns-then-is_err c =
     mac_unfit c.args.mackey c.args.mode c.args.covered.now c.args.mac.now
     (sym c.has_mac.ensures
     ∙ c.if-not-has_mac.false)
-    (into_refused _ _ _ _ _ c.cmac_96.ensures _ c.number.ensures
-    c.if-number-ne0.true)
+    (into_refused _ _ _ _ _ c.cmac_96.ensures
+    (sym c.is_err.ensures.value ∙ c.if-is_err.true))
 
 pub returns : goal.returns
 returns c =
     let m = c.cmac_96 in
-    let t = into_done _ _ _ _ _ m.ensures _ c.number.ensures
-    c.if-number-ne0.false in
+    let t = into_done _ _ _ _ _ m.ensures (sym c.is_err.ensures.value ∙ c.if-is_err.false) in
     c.same.ensures ∙ ap (λ (l : List ℕ). same l c.args.mac.now)
     (mac_made (length c.args.covered.now) c.args.mackey c.args.covered.now (replicate 12 0) m.new.room _ refl t
     m.ensures)
