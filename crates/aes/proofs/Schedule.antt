@@ -1,10 +1,12 @@
 -- Each round key of KeyExpansion is the next of the one before it.
 use mathlib.Core.Path.{◌≡◌, sym, ap, ◌∙◌}
-use mathlib.Core.List.{List}
-use Prim.Native.Nat.{ℕ, suc, ◌+◌, ◌*◌, ◌/◌, ◌%◌}
+use mathlib.Core.List.{List, []}
+use Prim.Native.Nat.{ℕ, suc, ◌+◌, ◌*◌, ◌/◌, ◌%◌, ◌<◌}
 use native.Mathlib.Omega.{arith}
 use lib.Dec.{eqb}
-use lib.ListN.{length, get_or}
+use lib.ListN.{length, get_or, take, drop}
+use Rattle.std.proofs.lemmas.List.{get_or-take}
+use Rattle.std.proofs.lemmas.Grind.{get_or_after_one}
 use Rattle.field.proofs.Block.{whole}
 use Rattle.aes.specs.KeyExpansion.{word, xor_word, turned, round_constant, w, round_key}
 use Rattle.aes.specs.NextRoundKey.{columns, next_round_key}
@@ -39,3 +41,9 @@ next_round_key_lem key n =
 pub first_round_key : (key : List ℕ) → length key ≡ 16 → round_key key 0 ≡ key
 unfolding round_key w
 first_round_key key h = whole key h
+
+-- the keys of the rounds 1 to 9, as a loop takes them
+pub middle_key : (w : List (List ℕ)) (i : ℕ) → i < 9 → get_or (take 9 (drop 1 w)) i [] ≡ get_or w (i + 1) []
+middle_key w i h =
+    get_or-take 9 (drop 1 w) i [] h ∙ get_or_after_one w i []
+    ∙ ap (λ (j : ℕ). get_or w j []) (let e : 1 + i ≡ i + 1 = omega arith in e)

@@ -44,11 +44,18 @@ even_additive = times4_additive row0 row2 row0_additive row2_additive
 odd_additive : Additive odd
 odd_additive = times4_additive row1 row3 row1_additive row3_additive
 
-pub unmixed_by_mixed : (a b c d e o : ℕ) → a < 256 → b < 256 → c < 256 → d < 256 → e ≡ even a b c d → o ≡ odd a b c d
-    → mixed (bit_xor a e) (bit_xor b o) (bit_xor c e) (bit_xor d o) ≡ unmixed a b c d
+-- what the code adds to a byte: 4 times the sum of it and of the byte two rows below
+abbrev pub raised : ℕ → ℕ → ℕ
+raised x y = bit_xor x (times 2 (times 2 (bit_xor x y)))
+
+turned_about : (x y : ℕ) → raised x y ≡ bit_xor x (times 2 (times 2 (bit_xor y x)))
+turned_about x y = ap (λ (z : ℕ). bit_xor x (times 2 (times 2 z))) (xor_comm x y)
+
+unmixed_by_mixed : (a b c d : ℕ) → a < 256 → b < 256 → c < 256 → d < 256
+    → mixed (raised a c) (raised b d) (raised c a) (raised d b) ≡ unmixed a b c d
 unfolding times remainder polynomial_product
-unmixed_by_mixed a b c d e o ha hb hc hd p q =
-    (λ i. mixed (bit_xor a (p i)) (bit_xor b (q i)) (bit_xor c (p i)) (bit_xor d (q i)))
+unmixed_by_mixed a b c d ha hb hc hd =
+    (λ i. mixed (raised a c) (raised b d) (turned_about c a i) (turned_about d b i))
     ∙ column_same (λ a b c d. mixed (bit_xor a (even a b c d)) (bit_xor b (odd a b c d)) (bit_xor c (even a b c d))
     (bit_xor d (odd a b c d))) unmixed
     (mixed_additive (λ a b c d. bit_xor a (even a b c d)) (λ a b c d. bit_xor b (odd a b c d))
@@ -58,15 +65,12 @@ unmixed_by_mixed a b c d e o ha hb hc hd p q =
     u_additive refl refl refl refl a b c d ha hb hc hd
 
 -- the four rows of a column, with the rest of the state below it
-pub unmixed_column : (a b c d e o : ℕ) (rest rest' : List ℕ) → a < 256 → b < 256 → c < 256 → d < 256 → e ≡ even a b c d
-    → o ≡ odd a b c d → rest ≡ rest'
-    → mixed (bit_xor a e) (bit_xor b o) (bit_xor c e) (bit_xor d o)
-    ∷ mixed (bit_xor b o) (bit_xor c e) (bit_xor d o) (bit_xor a e)
-    ∷ mixed (bit_xor c e) (bit_xor d o) (bit_xor a e) (bit_xor b o)
-    ∷ mixed (bit_xor d o) (bit_xor a e) (bit_xor b o) (bit_xor c e) ∷ rest
+pub unmixed_column : (a b c d : ℕ) (rest rest' : List ℕ) → a < 256 → b < 256 → c < 256 → d < 256 → rest ≡ rest'
+    → mixed (raised a c) (raised b d) (raised c a) (raised d b)
+    ∷ mixed (raised b d) (raised c a) (raised d b) (raised a c)
+    ∷ mixed (raised c a) (raised d b) (raised a c) (raised b d)
+    ∷ mixed (raised d b) (raised a c) (raised b d) (raised c a) ∷ rest
     ≡ unmixed a b c d ∷ unmixed b c d a ∷ unmixed c d a b ∷ unmixed d a b c ∷ rest'
-unmixed_column a b c d e o rest rest' ha hb hc hd p q below =
-    let p' : e ≡ even c d a b = p ∙ ap (λ (x : ℕ). times 2 (times 2 x)) (xor_comm a c) in
-    let q' : o ≡ odd c d a b = q ∙ ap (λ (x : ℕ). times 2 (times 2 x)) (xor_comm b d) in
-    λ i. unmixed_by_mixed a b c d e o ha hb hc hd p q i ∷ unmixed_by_mixed b c d a o e hb hc hd ha q p' i
-    ∷ unmixed_by_mixed c d a b e o hc hd ha hb p' q' i ∷ unmixed_by_mixed d a b c o e hd ha hb hc q' p i ∷ below i
+unmixed_column a b c d rest rest' ha hb hc hd below =
+    λ i. unmixed_by_mixed a b c d ha hb hc hd i ∷ unmixed_by_mixed b c d a hb hc hd ha i
+    ∷ unmixed_by_mixed c d a b hc hd ha hb i ∷ unmixed_by_mixed d a b c hd ha hb hc i ∷ below i

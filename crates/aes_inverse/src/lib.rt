@@ -40,16 +40,27 @@ fn inverse_sbox_table() -> &'static [u8; 256]
     &INVERSE_SBOX
 }
 
+// InvShiftRows (5.3.1): row r is turned to the right by r places.
 fn inv_shift_rows(s: [u8; 16]) -> [u8; 16]
     ensures { result ≡ inv_shift_rows s }
 {
-    let mut t = [0u8; 16];
-    let mut i = 0;
-    while i < 16 {
-        t[i] = s[i % 4 + 4 * ((i / 4 + (4 - i % 4)) % 4)];
-        i += 1;
-    }
-    t
+    std::array::from_fn(|i: usize| s[i % 4 + 4 * ((i / 4 + (4 - i % 4)) % 4)])
+}
+
+// InvMixColumns, as MixColumns of a column to which 4(s0 + s2) is added in the even rows and 4(s1 + s3) in the odd
+// ones: to each byte, 4 times the sum of it and of the byte two rows below.
+fn inv_mix_columns(s: [u8; 16]) -> [u8; 16]
+    ensures { result ≡ inv_mix_columns s }
+{
+    aes::mix_columns(std::array::from_fn(|i: usize| {
+        s[i] ^ times4(s[i] ^ s[4 * (i / 4) + (i + 2) % 4])
+    }))
+}
+
+fn times4(b: u8) -> u8
+    ensures { result ≡ times 2 (times 2 b) }
+{
+    field::times2(field::times2(b))
 }
 
 // InvSubBytes (5.3.2).
@@ -57,45 +68,6 @@ fn inv_sub_bytes(s: [u8; 16]) -> [u8; 16]
     ensures { result ≡ inv_sub_bytes s }
 {
     field::substitute(inverse_sbox_table(), s)
-}
-
-// InvMixColumns, as MixColumns of a column to which 4(s0 + s2) is added in the even rows and 4(s1 + s3) in the odd
-// ones.
-fn inv_mix_columns(s: [u8; 16]) -> [u8; 16]
-    ensures { result ≡ inv_mix_columns s }
-{
-    let even0 = times4(s[0] ^ s[2]);
-    let odd0 = times4(s[1] ^ s[3]);
-    let even1 = times4(s[4] ^ s[6]);
-    let odd1 = times4(s[5] ^ s[7]);
-    let even2 = times4(s[8] ^ s[10]);
-    let odd2 = times4(s[9] ^ s[11]);
-    let even3 = times4(s[12] ^ s[14]);
-    let odd3 = times4(s[13] ^ s[15]);
-    aes::mix_columns([
-        s[0] ^ even0,
-        s[1] ^ odd0,
-        s[2] ^ even0,
-        s[3] ^ odd0,
-        s[4] ^ even1,
-        s[5] ^ odd1,
-        s[6] ^ even1,
-        s[7] ^ odd1,
-        s[8] ^ even2,
-        s[9] ^ odd2,
-        s[10] ^ even2,
-        s[11] ^ odd2,
-        s[12] ^ even3,
-        s[13] ^ odd3,
-        s[14] ^ even3,
-        s[15] ^ odd3,
-    ])
-}
-
-fn times4(b: u8) -> u8
-    ensures { result ≡ times 2 (times 2 b) }
-{
-    field::times2(field::times2(b))
 }
 
 fn inv_round(s: [u8; 16], k: [u8; 16]) -> [u8; 16]
@@ -107,15 +79,10 @@ fn inv_round(s: [u8; 16], k: [u8; 16]) -> [u8; 16]
 fn decipher(w: [[u8; 16]; 11], block: [u8; 16]) -> [u8; 16]
     ensures { result ≡ inv_cipher w block }
 {
-    let last = w[10];
-    let mut s = field::xor(block, last);
-    let mut i = 9;
-    while 0 < i {
-        let k = w[i];
-        let t = inv_round(s, k);
+    let mut s = field::xor(block, w[10]);
+    for k in w[1..10].iter().rev() {
+        let t = inv_round(s, *k);
         s = t;
-        i -= 1;
     }
-    let first = w[0];
-    field::xor(inv_sub_bytes(inv_shift_rows(s)), first)
+    field::xor(inv_sub_bytes(inv_shift_rows(s)), w[0])
 }

@@ -1,4 +1,0 @@
-use Rattle.aes_inverse.proofs.times4.Goals as goal
-
-pub returns : goal.returns
-returns c = cc
