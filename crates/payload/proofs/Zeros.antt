@@ -1,15 +1,11 @@
 -- Lists of zeros, and what is filled up with them.
 use mathlib.Core.Path.{◌≡◌, refl, sym, ap, ◌∙◌}
-use mathlib.Core.Bool.{Bool, true}
 use mathlib.Core.List.{List, [], ◌∷◌, ◌++◌, append_assoc}
 use Prim.Native.Nat.{ℕ, zero, suc, ◌+◌, ◌-◌, ◌≤◌}
 use native.Mathlib.Omega.{arith}
 use lib.ListN.{length, take, drop, replicate, length-append, length-replicate}
 use Rattle.modes.specs.Room.{over}
-use Rattle.frames.specs.Built.{Built}
 use Rattle.payload.specs.Data.{filled}
-use Rattle.payload.proofs.Overs.{put_next}
-use Rattle.payload.proofs.Rooms.{put_over}
 
 abbrev pub zeros_of : ℕ → List ℕ
 zeros_of n = replicate n 0
@@ -48,16 +44,6 @@ filled_part (x ∷ s) (suc n) (suc k) h l =
 pub filled_long : (n : ℕ) (s : List ℕ) → length s ≤ n → length (filled n s) ≡ n
 unfolding filled
 filled_long n s h = omega (arith, zeros_long (n - length s), length-append s (zeros_of (n - length s)))
-
--- two parts over zeros
-pub laid : (a b r s t : List ℕ) (n : ℕ) (x y : Bool) → length a + length b ≤ n → r ≡ zeros_of n
-    → Built true (0 + length a) (take 0 r ++ a) r x s → length s ≡ n
-    → Built true (length a + length b) (take (length a) s ++ b) s y t → t ≡ filled n (a ++ b)
-laid a b r s t n x y h e f l g =
-    let k : length r ≡ n = ap length e ∙ zeros_long n in
-    let p : s ≡ over a r = put_over 0 a r (omega arith) x s f in
-    put_next a b r s t (length a) refl p (put_over (length a) b s (omega arith) y t g) ∙ ap (over (a ++ b)) e
-    ∙ zeros_filled n (a ++ b)
 
 zeros_joined : (a b : ℕ) → zeros_of a ++ zeros_of b ≡ zeros_of (a + b)
 zeros_joined zero b = ap zeros_of (let e : b ≡ 0 + b = omega arith in e)

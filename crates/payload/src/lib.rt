@@ -12,7 +12,7 @@ ghost use Rattle.payload.specs.Protected.{mac_takes, with_mac, mac_fits};
 
 use frames::build::header_into;
 use frames::protection::has_mac;
-use frames::sizes::{DATA_ROOM, blocks_length, data_length, header_length, header_part};
+use frames::sizes::{blocks_length, data_length, header_length, header_part};
 use frames::{Custom, ProtMode};
 use octets::{front, same, tail};
 
@@ -45,16 +45,16 @@ pub fn block_of(constant: [u8; 2], middle: [u8; 4], challenge: [u8; 10]) -> [u8;
 }
 
 // Two parts into a room, and zeros in the rest of it.
+#[tactic(auto, unfolding(crate::specs::Data::filled))]
 fn lay(room: &mut [u8], a: &[u8], b: &[u8])
-    requires { (length a.now + length b.now ≤ length room.old) × (length room.old ≤ 144) }
+    requires { length a.now + length b.now ≤ length room.old }
     ensures { room.new ≡ filled (length room.old) (a.now ++ b.now) }
 {
-    let zeros = [0u8; DATA_ROOM];
-    let n = room.len();
     let i = a.len();
-    room.copy_from_slice(&zeros[..n]);
-    put(&mut *room, 0, a);
-    put(room, i, b);
+    let j = i + b.len();
+    room[..i].copy_from_slice(a);
+    room[i..j].copy_from_slice(b);
+    room[j..].fill(0);
 }
 
 /// Header (in Rev 1), data and zeros up to D blocks, into the first bytes of a room (9.2). Where a field does not fit

@@ -5,7 +5,7 @@ use native.Mathlib.Omega.{arith}
 use lib.ListN.{length, take, replicate}
 use lib.Seq.{length-take-le}
 use Rattle.frames.proofs.Joins.{refused}
-use Rattle.payload.proofs.Data.{header_told, header_taken, part_bound, other_length, not_fit, blocks_hold, blocks_fit}
+use Rattle.payload.proofs.Data.{header_told, header_taken, part_bound, other_length, not_fit, blocks_hold}
 use Rattle.payload.proofs.Data.{carried_built}
 use Rattle.payload.proofs.Rooms.{too_short}
 use Rattle.payload.proofs.carried_into.Goals as goal
@@ -42,27 +42,17 @@ slice_bounds-lay-end-3 c =
 
 pub lay-requires : goal.lay-requires
 lay-requires c =
-    let i = c.header_into in
-    let fit = sym (header_told c.args.custom i.result (replicate 8 0) i.new.room refl i.ensures)
-    ∙ c.if-not-header_into.false in
-    let t = length-take-le c.header_part-h.result i.new.room
+    let t = length-take-le c.header_part-h.result c.header_into.new.room
     (omega (arith, part_bound c.args.rev c.args.custom, c.header_part-h.ensures)) in
-    let u = length-take-le c.blocks_length-n.result c.args.room.now (omega arith) in (
-      omega (
-        arith,
-        t,
-        u,
-        blocks_hold c.args.rev c.args.custom,
-        c.header_part-h.ensures,
-        c.data_length.ensures,
-        c.blocks_length-n.ensures,
-      ),
-      omega (
-        arith,
-        u,
-        blocks_fit c.args.rev c.args.custom fit,
-        c.blocks_length-n.ensures,
-      ),
+    let u = length-take-le c.blocks_length-n.result c.args.room.now (omega arith) in
+    omega (
+      arith,
+      t,
+      u,
+      blocks_hold c.args.rev c.args.custom,
+      c.header_part-h.ensures,
+      c.data_length.ensures,
+      c.blocks_length-n.ensures,
     )
 
 pub returns : goal.returns
