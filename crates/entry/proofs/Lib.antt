@@ -2,6 +2,5 @@ pub mod Judging
 pub mod Sent
 pub mod Passed
 pub mod Mam1Reply
-pub mod Challenging
 pub mod Giving
 pub mod Unique

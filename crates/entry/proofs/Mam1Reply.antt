@@ -1,5 +1,5 @@
 -- The reply to MAM1: from its parts, its length, its layout (Table 24), and that it is bytes.
-use mathlib.Core.Path.{◌≡◌, refl, ap, ap₂, ◌∙◌}
+use mathlib.Core.Path.{◌≡◌, refl, sym, ap, ap₂, ◌∙◌}
 use mathlib.Core.List.{List, [], ◌∷◌, ◌++◌}
 use Prim.Native.Nat.{ℕ}
 use native.Mathlib.Omega.{arith}
@@ -13,6 +13,8 @@ use Rattle.frames.specs.declared.Mam1.{Mam1}
 use Rattle.frames.specs.Constants.{c_mam1}
 use Rattle.frames.specs.Lengths.{mam1_reply_length}
 use Rattle.frames.specs.Messages.{mam1_of}
+use Rattle.octets.specs.Parts.{bytes_from}
+use Rattle.octets.proofs.Parts.{bytes_length, bytes_drop, whole}
 use Rattle.payload.proofs.Bytes.{last_four, joined_bytes}
 use Rattle.payload.proofs.Lengths.{enc_sixteen}
 use Rattle.offer.proofs.Bytes.{Ten, drop_bytes, challenge_ten, block_block}
@@ -47,6 +49,13 @@ pub mam1_layout : (key : Key) (m : Mam1) (draws : List ℕ)
     → mam1_reply key m draws ≡ aes_enc key.enc (two_bytes 0xDA83 ++ (drop 6 draws ++ m.ichallenge)) ++ take 6 draws
 unfolding mam1_reply
 mam1_layout key m draws = refl
+
+-- the last 32 bits of the reader's challenge
+pub challenge_kept : (m : List ℕ) → bytes_from (mam1_of m).ichallenge 6 4 ≡ drop 6 (mam1_of m).ichallenge
+unfolding mam1_of
+challenge_kept m =
+    let s = bytes_from m 2 10 in
+    sym (bytes_drop s 4 6) ∙ whole (drop 6 s) 4 (omega (arith, length-drop 6 s, bytes_length m 2 10))
 
 -- bytes
 pub mam1_challenge : (m : List ℕ) → Bytes m → Ten (mam1_of m).ichallenge

@@ -30,19 +30,15 @@ cleared_one κs a x y v w p q = (one p q, refl)
 pub refused_one : OneAnswer 0 refused-kinds.ps refused-kinds.r refused.Post
 refused_one κs a x y v w p q = ((λ j. record { outcome = one p.0 q.0 j; session = one p.1 q.1 j }), refl)
 
-challenged_one : (v : Result Unit TagFault) (bytes : List ℕ) (next : Session) (x y : Challenged) → Challenges v bytes next x
-    → Challenges v bytes next y → x ≡ y
-challenged_one v bytes next x y p q = λ j. record {
-  outcome = one p.outcome q.outcome j;
-  session = one p.session q.session j;
-  reply = one p.reply q.reply j;
-}
+challenged_one : (v : Result Unit TagFault) (bytes : List ℕ) (next : Session) (n : ℕ) (x y : Challenged n)
+    → Challenges v bytes next x.reply x.session → Challenges v bytes next y.reply y.session → x ≡ y
+challenged_one v bytes next n x y p q = λ j. record { reply = one p.reply q.reply j; session = one p.session q.session j }
 
 pub iam1_one : OneAnswer 2 iam1-kinds.ps iam1-kinds.r iam1.Post
-iam1_one κs a x y v w p q = (challenged_one _ _ _ x y p q, refl)
+iam1_one κs a x y v w p q = (challenged_one _ _ _ 10 x y p q, refl)
 
 pub mam1_one : OneAnswer 2 mam1-kinds.ps mam1-kinds.r mam1.Post
-mam1_one κs a x y v w p q = (challenged_one _ _ _ x y p q, refl)
+mam1_one κs a x y v w p q = (challenged_one _ _ _ 22 x y p q, refl)
 
 reacted_one : (v : Result Unit TagFault) (purpose : ℕ) (x y : Reacted) → LetsIn v purpose x → LetsIn v purpose y → x ≡ y
 reacted_one v purpose x y p q = λ j. record {

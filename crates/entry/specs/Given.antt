@@ -3,7 +3,6 @@ use Rattle.std.specs.Prelude.{ℕ, ◌≡◌, List, drop, replicate, Result, Ok,
 use Rattle.offer.specs.declared.Answer.TheVariants.{Entered}
 use Rattle.offer.specs.declared.TagFault.{TagFault}
 use Rattle.aes.specs.AesEnc.{aes_enc}
-use Rattle.modes.specs.Room.{over}
 use Rattle.memory.specs.declared.Area.{Area}
 use Rattle.memory.specs.declared.Area.TheVariants.{Identity, User}
 use Rattle.memory.specs.Areas.{stored_in}
@@ -11,7 +10,7 @@ use Rattle.sheet.specs.declared.Key.{Key}
 use Rattle.sheet.specs.Setups.{Setup}
 use Rattle.frames.specs.declared.Kind.TheVariants.{Iam1, Mam1}
 use Rattle.frames.specs.Messages.{iam1_of, iam2_of, iam3_of, mam1_of, mam2_of}
-use Rattle.offer.specs.Outcomes.{settled, sending, sent}
+use Rattle.offer.specs.Outcomes.{settled}
 use Rattle.offer.specs.Checks.{judged}
 use Rattle.offer.specs.Judged.{opening_checks}
 use Rattle.keytable.specs.Named.{key_with}
@@ -19,7 +18,6 @@ use Rattle.offer.specs.Records.{block_asked}
 use Rattle.entry.specs.declared.State.TheVariants.{IamInit, MamInit}
 use Rattle.entry.specs.declared.Session.{Session}
 use Rattle.entry.specs.declared.Reacted.{Reacted}
-use Rattle.entry.specs.declared.Challenged.{Challenged}
 use Rattle.entry.specs.Sessions.{cleared, entered}
 use Rattle.entry.specs.Replies.{mam1_reply}
 use Rattle.entry.specs.Opened.{purpose_in, opened_data, words_in, sent_block}
@@ -81,15 +79,12 @@ module _ (setup : Setup) (held : Session) (m : List ℕ) where
       let words = words_in f.custom (opened_data (key_with held.keyid setup.keys) f m) in
       stored_in area (block_asked setup.profiles f.custom) words s
 
--- The bytes that a reply to IAM1 or MAM1 has at most.
-abbrev pub challenge_room : ℕ
-challenge_room = 22
-
--- What is given to a message that asks for a challenge: numbers 1 to 6 end in Initial.
-pub record Challenges (v : Result Unit TagFault) (bytes : List ℕ) (next : Session) (r : Challenged) : Type 0 where
-  pub outcome : r.outcome ≡ sending v bytes
-  pub session : r.session ≡ settled v next (λ f. cleared)
-  pub reply : r.reply ≡ over (sent v bytes) (replicate challenge_room 0)
+-- What is given to a message that asks for a challenge: numbers 1 to 6 end in Initial, and send nothing.
+pub record Challenges (v : Result Unit TagFault) (bytes : List ℕ) (next : Session) (sent : Result (List ℕ) TagFault)
+    (held : Session) : Type 0
+  where
+    pub reply : sent ≡ settled v (Ok bytes) Err
+    pub session : held ≡ settled v next (λ f. cleared)
 
 -- What is given to a message that ends an authentication: the reader is let in, with its Purpose for the host.
 pub record LetsIn (v : Result Unit TagFault) (purpose : ℕ) (r : Reacted) : Type 0 where

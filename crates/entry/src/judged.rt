@@ -14,6 +14,7 @@ use sheet::{Key, Slot, Terms};
 /// IAM2, MAM2: length, RFU, and the proof, which the caller worked out.
 ///
 /// Ruled out: a wrong proof told before an RFU bit; a message of another length let in by its proof.
+#[tactic(auto, unfolding(ground::specs::Checks::judged_to))]
 pub fn closing(proof: bool, rfu: u8, kind: Kind, m: &[u8]) -> Result<(), TagFault>
     ensures { result ≡ judged (closing_checks proof rfu kind m.now) }
 {
@@ -23,59 +24,54 @@ pub fn closing(proof: bool, rfu: u8, kind: Kind, m: &[u8]) -> Result<(), TagFaul
     if rfu != 0 {
         return Err(TagFault::NotSupported);
     }
-    if proof {
-        return Ok(());
+    if !proof {
+        return Err(TagFault::ProofWrong);
     }
-    Err(TagFault::ProofWrong)
+    Ok(())
 }
 
 // IAM3: profile, right, memory, lock. A block size that is not offered counts as memory.
+#[tactic(auto, unfolding(ground::specs::Checks::judged_to))]
 fn iam3_block(terms: Terms, key: Key, f: Iam3, slot: Slot, block: Block) -> Result<(), TagFault>
     ensures { result ≡ judged (iam3_block_checks terms key f slot block) }
 {
     let custom = f.custom;
-    if !slot.present {
+    if !slot.present || !memory::permits(key.mpi, custom.profile) {
         return Err(TagFault::NotSupported);
     }
-    if !memory::permits(key.mpi, custom.profile) {
-        return Err(TagFault::NotSupported);
-    }
-    let features = terms.features;
-    let size = custom.blocksize;
-    if !records::size_offered(features, size) {
+    if !records::size_offered(terms.features, custom.blocksize)
+        || !memory::fits(slot.profile, block)
+    {
         return Err(TagFault::MemoryOverrun);
     }
-    let profile = slot.profile;
-    if !memory::fits(profile, block) {
-        return Err(TagFault::MemoryOverrun);
-    }
-    let locks = terms.locks.table;
-    if memory::locked(locks, terms.locks.count, block) {
+    if memory::locked(terms.locks.table, terms.locks.count, block) {
         return Err(TagFault::MemoryWriteError);
     }
     Ok(())
 }
 
 // IAM3, all between the length and the proof: ProtMode, RFU, and the block.
+#[tactic(auto, unfolding(ground::specs::Checks::judged_to, offer::specs::Records::slot_named))]
 fn iam3_middle(terms: Terms, key: Key, f: Iam3) -> Result<(), TagFault>
     ensures { result ≡ judged (iam3_middle_checks terms key f) }
 {
-    let features = terms.features;
-    if !records::mode_supported(features, key, f.protmode) {
+    if !records::mode_supported(terms.features, key, f.protmode) || f.rfu != 0 {
         return Err(TagFault::NotSupported);
     }
-    if f.rfu != 0 {
-        return Err(TagFault::NotSupported);
-    }
-    let custom = f.custom;
-    let profiles = terms.profiles;
-    let slot = records::slot(profiles, custom.profile);
-    iam3_block(terms, key, f, slot, records::block_asked(slot, custom))
+    let slot = records::slot(terms.profiles, f.custom.profile);
+    iam3_block(
+        terms,
+        key,
+        f,
+        slot,
+        records::words_asked(terms.profiles, f.custom),
+    )
 }
 
 /// IAM3, all but its proof, with the record that is held: length, ProtMode, RFU, profile, right, memory, lock.
 ///
 /// Ruled out: a locked word told before a block past its profile; ProtMode 4 refused for its length.
+#[tactic(auto, unfolding(ground::specs::Checks::judged_to))]
 pub fn iam3_fields(terms: Terms, key: Key, m: &[u8]) -> Result<(), TagFault>
     ensures { result ≡ judged (iam3_field_checks terms key m.now) }
 {

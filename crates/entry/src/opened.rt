@@ -1,6 +1,5 @@
 // What the tag judges of what the reader sent (9.5.5, 9.5.8, 9.6.5), and the words that an IAM3 writes.
 ghost use Rattle.std.specs.Prelude.{◌≡◌, true, ◌+◌, ◌*◌, ◌/◌, ◌%◌, ◌≤◌, length};
-ghost use Rattle.ground.specs.Choice.{both};
 ghost use Rattle.aes.specs.AesEnc.{aes_enc};
 ghost use Rattle.modes.specs.Room.{over};
 ghost use Rattle.frames.specs.Blocks.{blocks_length};
@@ -37,44 +36,36 @@ pub fn purpose(b: [u8; 16]) -> u8
 }
 
 // Does the tag support the Purpose? Ruled out: a tag that supports none, and one that supports 0 alone.
+#[tactic(auto, unfolding(crate::specs::Opened::purpose_allowed))]
 fn purpose_allowed(p: u8) -> bool
     ensures { result ≡ purpose_allowed p }
 {
     true
 }
 
-// Do both hold? Each check was completed before: a cryptographic error is told only after all of them (9.5.5, 9.6.5).
-fn both(a: bool, b: bool) -> bool
-    ensures { result ≡ both a b }
-{
-    if a {
-        return b;
-    }
-    false
-}
-
 // The proof of IAM2, and of IAM3's first block: the constant, the Purpose, and the challenge that the tag issued
-// (9.5.5, 9.5.8).
+// (9.5.5, 9.5.8). Each check is completed before it is told: a cryptographic error is told only after all of them
+// (9.5.5, 9.6.5). So the proofs of this file are joined by `&`, and not by `&&`.
 // Ruled out: a constant that is not looked at, and a challenge of which only the first bytes count.
+#[tactic(auto, unfolding(crate::specs::Opened::iam_proof))]
 pub fn iam_proof(constant: u16, held: Session, b: [u8; 16]) -> bool
     ensures { result ≡ iam_proof constant held b }
 {
     let known = constant_in(b[0], b[1]) == constant;
     let allowed = purpose_allowed(purpose(b));
-    let challenge = held.tchallenge;
-    let issued = octets::same(&b[6..16], &challenge);
-    both(known, both(allowed, issued))
+    let issued = octets::same(&b[6..16], &held.tchallenge);
+    known & allowed & issued
 }
 
 // The proof of MAM2: also the last 32 bits of the reader's own challenge (9.6.5).
 // Ruled out: the reader's own bits left out, and the tag's challenge looked for in their place.
+#[tactic(auto, unfolding(crate::specs::Opened::mam_proof))]
 pub fn mam_proof(held: Session, b: [u8; 16]) -> bool
     ensures { result ≡ mam_proof held b }
 {
     let proof = iam_proof(0xDA8, held, b);
-    let challenge = held.ichallenge;
-    let own = octets::same(&b[2..6], &challenge);
-    both(proof, own)
+    let own = octets::same(&b[2..6], &held.ichallenge);
+    proof & own
 }
 
 // C_IAM3 of a ProtMode, without a Purpose.
@@ -90,8 +81,7 @@ fn first_opened(key: Key, m: &[u8]) -> [u8; 16]
     requires { iam3_head_length ≤ length m.now }
     ensures { result ≡ aes_enc key.enc (sent_block m.now) }
 {
-    let enc = key.enc;
-    aes::encrypt(enc, field::first_block(&m[4..]))
+    aes::encrypt(key.enc, field::first_block(&m[4..]))
 }
 
 // Header, data and filler of an IAM3 in the clear, over the first bytes of `out` (9.5.8.2 to 9.5.8.5).
@@ -101,16 +91,13 @@ fn open_data(key: Key, mode: ProtMode, f: Iam3, m: &[u8], out: &mut [u8])
         × (blocks_length f.custom.blocksize true f.custom.blockcount ≤ length out.old) }
     ensures { out.new ≡ over (opened_in key mode f m.now) out.old }
 {
-    let custom = f.custom;
-    let size = custom.blocksize;
-    let end = 20 + blocks_length(size, true, custom.blockcount);
+    let end = 20 + blocks_length(f.custom.blocksize, true, f.custom.blockcount);
     if encrypts(mode) {
-        let enc = key.enc;
         let iv = field::first_block(&m[4..]);
-        modes::cbc_dec_aes(iv, enc, &m[20..end], out).unwrap();
-        return;
+        modes::cbc_dec_aes(iv, key.enc, &m[20..end], out).unwrap();
+    } else {
+        out[..end - 20].copy_from_slice(&m[20..end]);
     }
-    out[..end - 20].copy_from_slice(&m[20..end]);
 }
 
 // Where the ProtMode has a MAC: is it that of A and the data blocks as they were sent (9.5.8.4, 9.5.8.5)?
@@ -119,11 +106,8 @@ fn mac_fits(key: Key, mode: ProtMode, f: Iam3, m: &[u8]) -> bool
     requires { iam3_head_length + blocks_length f.custom.blocksize true f.custom.blockcount ≤ length m.now }
     ensures { result ≡ sent_mac_fits key mode f m.now }
 {
-    let custom = f.custom;
-    let size = custom.blocksize;
-    let end = 20 + blocks_length(size, true, custom.blockcount);
-    let mackey = key.mackey;
-    payload::mac_fits(mackey, mode, &m[4..end], &m[end..])
+    let end = 20 + blocks_length(f.custom.blocksize, true, f.custom.blockcount);
+    payload::mac_fits(key.mackey, mode, &m[4..end], &m[end..])
 }
 
 // The data's words over the block that the message names; every other byte of both areas stays.
@@ -138,18 +122,18 @@ fn write(block: Block, c: Custom, p: &[u8], identity: &mut [u8], user: &mut [u8]
 // Everything of an IAM3 that a key proves, after its fields were judged: b is its first block opened, p its data in the
 // clear.
 // Ruled out: a MAC that is not asked for in ProtModes 2 and 3, and a header that may name other words than the message.
+#[tactic(auto, unfolding(crate::specs::Opened::proved_in))]
 fn proved(key: Key, held: Session, mode: ProtMode, f: Iam3, m: &[u8], b: [u8; 16], p: &[u8]) -> bool
     requires { (iam3_head_length + blocks_length f.custom.blocksize true f.custom.blockcount ≤ length m.now)
         × (b ≡ aes_enc key.enc (sent_block m.now))
         × (p.now ≡ opened_in key mode f m.now) }
     ensures { result ≡ proved_in key held mode f m.now }
 {
-    let custom = f.custom;
     let first = iam_proof(constant_of(mode), held, b);
     let mac = mac_fits(key, mode, f, m);
-    let header = payload::header_fits(true, custom, p);
-    let filler = payload::filler_fits(true, custom, p);
-    both(first, both(mac, both(header, filler)))
+    let header = payload::header_fits(true, f.custom, p);
+    let filler = payload::filler_fits(true, f.custom, p);
+    first & mac & header & filler
 }
 
 // An IAM3 in its mode.
@@ -171,13 +155,11 @@ fn iam3_in_mode(
     let b = first_opened(key, m);
     let mut room = [0u8; DATA_ROOM];
     open_data(key, mode, f, m, &mut room);
-    let custom = f.custom;
-    let size = custom.blocksize;
-    let n = blocks_length(size, true, custom.blockcount);
+    let n = blocks_length(f.custom.blocksize, true, f.custom.blockcount);
     if !proved(key, held, mode, f, m, b, &room[..n]) {
         return refused(TagFault::ProofWrong);
     }
-    write(block, custom, &room[..n], identity, user);
+    write(block, f.custom, &room[..n], identity, user);
     let_in(purpose(b))
 }
 
@@ -199,11 +181,7 @@ pub fn iam3(
         identity.new user.new }
 {
     match prot_mode(f.protmode) {
-        Some(mode) => {
-            return iam3_in_mode(key, held, mode, f, block, m, identity, user);
-        }
-        None => {
-            return refused(TagFault::ProofWrong);
-        }
+        Some(mode) => iam3_in_mode(key, held, mode, f, block, m, identity, user),
+        None => refused(TagFault::ProofWrong),
     }
 }

@@ -48,18 +48,8 @@ module _ (ys : List (Check TagFault)) where
   pub then_settled : (xs : List (Check TagFault)) → judged (xs ++ ys) ≡ settled (judged xs) (judged ys) Err
   then_settled xs = Checked.joined Err (Ok tt) xs ys ∙ settled_to (judged ys) xs
 
--- What is told of a result that a line settles.
-module _ {A : Type 0} (v : Result Unit TagFault) (x : A) where
-  pub was_wrong : (f : TagFault) → Err f ≡ settled v (Ok x) Err → v ≡ Err f
-  was_wrong f h = wrong v h
-    where
-      wrong : (w : Result Unit TagFault) → Err f ≡ settled w (Ok x) Err → w ≡ Err f
-      wrong (Ok tt) h = absurd cc
-      wrong (Err g) h = ap (λ (k : TagFault). Err k) cc
+  pub then_fine : (xs : List (Check TagFault)) → judged xs ≡ Ok tt → judged (xs ++ ys) ≡ judged ys
+  then_fine xs h = then_settled xs ∙ ap (λ (v : Result Unit TagFault). settled v (judged ys) Err) h
 
-  pub was_fine : (y : A) → Ok y ≡ settled v (Ok x) Err → (v ≡ Ok tt) × (y ≡ x)
-  was_fine y h = fine v h
-    where
-      fine : (w : Result Unit TagFault) → Ok y ≡ settled w (Ok x) Err → (w ≡ Ok tt) × (y ≡ x)
-      fine (Ok tt) h = (refl, cc)
-      fine (Err g) h = absurd cc
+  pub then_wrong : (f : TagFault) (xs : List (Check TagFault)) → judged xs ≡ Err f → judged (xs ++ ys) ≡ Err f
+  then_wrong f xs h = then_settled xs ∙ ap (λ (v : Result Unit TagFault). settled v (judged ys) Err) h

@@ -48,8 +48,8 @@ returns-then-encrypts c =
     into_taken _ (cbc_dec_aes iv.result c.args.key.enc part) c.args.out.now _ _ c.cbc_dec_aes.ensures fits
     ∙ ap (λ (l : List ℕ). over l c.args.out.now) out
 
-pub returns : goal.returns
-returns c =
+pub returns-else-encrypts : goal.returns-else-encrypts
+returns-else-encrypts c =
     let m = c.args.m.now in
     let n = blocks_length c.args.f.custom.blocksize true c.args.f.custom.blockcount in
     let part = take (20 + c.blocks_length-end.result - 20) (drop 20 m) in
