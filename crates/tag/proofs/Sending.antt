@@ -1,62 +1,56 @@
--- A reply that is given with zeros behind it: as much of it as the outcome says goes into the room.
+-- What is sent of a reply, and of a refusal.
 use Rattle.std.specs.Prelude.{Result, Ok, Err}
 use Rattle.offer.specs.declared.TagFault.{TagFault}
-use mathlib.Core.Path.{◌≡◌, refl, sym, ◌∙◌}
+use mathlib.Core.Path.{◌≡◌, refl, sym, ap, ◌∙◌}
 use mathlib.Core.List.{List}
-use Prim.Native.Nat.{ℕ, ◌≤◌}
-use native.Mathlib.Omega.{arith}
-use lib.ListN.{length, take}
+use Prim.Native.Nat.{ℕ}
+use lib.ListN.{length, take, replicate}
 use Rattle.modes.specs.Room.{over}
+use Rattle.payload.proofs.Overs.{over_taken}
 use Rattle.frames.specs.Lengths.{reply_room}
-use Rattle.offer.specs.Outcomes.{reply_length, settled}
-use Rattle.tam.specs.declared.Given.{Given}
-use Rattle.tam.specs.Given.{Gives}
-use Rattle.entry.specs.declared.Challenged.{Challenged}
+use Rattle.offer.specs.Outcomes.{settled}
+use Rattle.tam.specs.declared.Reply.{Reply}
+use Rattle.tam.specs.Given.{reply_of}
 use Rattle.entry.specs.declared.Reacted.{Reacted}
 use Rattle.entry.specs.declared.Session.{Session}
 use Rattle.entry.specs.Sessions.{cleared}
-use Rattle.entry.specs.Given.{Challenges, challenge_room}
-use Rattle.tag.specs.Answers.{Call, replied, if_fine}
-use Rattle.tag.specs.Reactions.{Reacts}
-use Rattle.tag.proofs.Reacting.{told_fits, told_sent, reacts_sent}
+use Rattle.tag.specs.Answers.{Call, replied, refused, if_fine}
+use Rattle.tag.specs.Reactions.{Reacts, Sends, told, bytes_of}
 
--- what `send` of the code asks for
-abbrev pub Fits : ℕ → List ℕ → List ℕ → Type 0
-Fits n reply room = (n ≤ length reply) × (length reply ≤ length room)
+-- a reply in its room, and the bytes of it
+module _ (bytes : List ℕ) (x : Result Reply TagFault) where
+  pub in_room : (v : Result Unit TagFault) → x ≡ settled v (Ok (reply_of bytes)) Err → (y : Reply) → x ≡ Ok y
+      → settled v (Ok bytes) Err ≡ Ok (take y.length y.room)
+  in_room (Ok tt) e y h =
+      let q : reply_of bytes ≡ y = cc in
+      ap (λ (l : List ℕ). Ok l)
+      (sym (over_taken bytes (replicate reply_room 0) (length bytes) refl) ∙ ap (λ (z : Reply). take z.length z.room) q)
+  in_room (Err f) e y h = absurd cc
 
--- and what it leaves
-abbrev pub Sends : ℕ → List ℕ → List ℕ → List ℕ → Type 0
-Sends n reply room after = after ≡ over (take n reply) room
+  pub in_none : (v : Result Unit TagFault) → x ≡ settled v (Ok (reply_of bytes)) Err → (f : TagFault) → x ≡ Err f
+      → settled v (Ok bytes) Err ≡ Err f
+  in_none (Ok tt) e f h = absurd cc
+  in_none (Err g) e f h = ap (λ (k : TagFault). Err k) cc
 
--- TAM
-module _ (v : Result Unit TagFault) (bytes : List ℕ) (g : Given) (h : Gives v bytes g) (long : length g.reply ≡ reply_room) where
-  pub given_fits : (room : List ℕ) → reply_room ≤ length room → Fits (reply_length g.outcome) g.reply room
-  given_fits room e =
-      (told_fits v bytes g.reply reply_room long g.outcome h.outcome h.reply, omega (arith, long, e))
+-- TAM ends in Initial either way
+pub nothing : (w : Result Unit TagFault) → cleared ≡ settled w cleared (λ f. cleared)
+nothing (Ok tt) = refl
+nothing (Err f) = refl
 
-  -- nothing is held either way
-  nothing : (w : Result Unit TagFault) → settled w cleared (λ f. cleared) ≡ cleared
-  nothing (Ok tt) = refl
-  nothing (Err f) = refl
-
-  pub given_reacts : (c : Call) (room : List ℕ) (r : Reacted) (after : List ℕ) → r.outcome ≡ g.outcome
-      → r.session ≡ cleared → Sends (reply_length g.outcome) g.reply room after
-      → Reacts (if_fine c v (replied c bytes cleared)) room r after
-  given_reacts c room r after o s e =
-      reacts_sent c room r v bytes after cleared (o ∙ h.outcome) (s ∙ sym (nothing v))
-      (e ∙ (λ j. over (told_sent v bytes g.reply reply_room long g.outcome h.outcome h.reply j) room))
-
--- IAM1, MAM1
-module _ (v : Result Unit TagFault) (bytes : List ℕ) (next : Session) (g : Challenged) (h : Challenges v bytes next g)
-    (long : length g.reply ≡ challenge_room)
+-- what is sent is what the message comes to
+module _ (c : Call) (room : List ℕ) (r : Reacted) (after bytes : List ℕ) (s next : Session)
+    (reply : Result (List ℕ) TagFault) (h : Sends reply s room r after)
   where
-    pub challenged_fits : (room : List ℕ) → reply_room ≤ length room → Fits (reply_length g.outcome) g.reply room
-    challenged_fits room e =
-        (told_fits v bytes g.reply challenge_room long g.outcome h.outcome h.reply, omega (arith, long, e))
-
-    pub challenged_reacts : (c : Call) (room : List ℕ) (r : Reacted) (after : List ℕ) → r.outcome ≡ g.outcome
-        → r.session ≡ g.session → Sends (reply_length g.outcome) g.reply room after
+    pub reacts_sent : (v : Result Unit TagFault) → reply ≡ settled v (Ok bytes) Err → s ≡ settled v next (λ f. cleared)
         → Reacts (if_fine c v (replied c bytes next)) room r after
-    challenged_reacts c room r after o s e =
-        reacts_sent c room r v bytes after next (o ∙ h.outcome) (s ∙ h.session)
-        (e ∙ (λ j. over (told_sent v bytes g.reply challenge_room long g.outcome h.outcome h.reply j) room))
+    unfolding if_fine replied refused
+    reacts_sent (Ok tt) e n = record {
+      outcome = h.outcome ∙ ap told e;
+      session = h.session ∙ n;
+      reply = h.sent ∙ ap (λ (x : Result (List ℕ) TagFault). over (bytes_of x) room) e;
+    }
+    reacts_sent (Err f) e n = record {
+      outcome = h.outcome ∙ ap told e;
+      session = h.session ∙ n;
+      reply = h.sent ∙ ap (λ (x : Result (List ℕ) TagFault). over (bytes_of x) room) e;
+    }

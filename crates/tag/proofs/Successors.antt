@@ -18,7 +18,7 @@ use Rattle.offer.specs.declared.TagFault.TheVariants.{NotSupported}
 use Rattle.entry.specs.declared.Session.{Session}
 use Rattle.tag.specs.States.{KeyedTag}
 use Rattle.entry.specs.Sessions.{cleared, entered}
-use Rattle.tag.specs.States.{powered_up, at_rest, after_iam1, after_mam1, in_turn, table_a1}
+use Rattle.tag.specs.States.{powered_up, at_rest, in_turn, table_a1}
 use Rattle.tag.specs.Runs.{Event, Message, PowerUp, call_of, answer_to, run}
 use Rattle.offer.specs.Records.{offered}
 use Rattle.tag.specs.Answers.{Answer, Effect, Call, refused, replied, let_in, tam1_answer, tam2_answer, iam1_answer}
@@ -42,7 +42,7 @@ listed [] = false
 listed (s ∷ ss) = true
 
 pub turn_listed : (s : State) (k : Kind) → in_turn s k ≡ listed (table_a1 s k)
-unfolding in_turn at_rest after_iam1 after_mam1
+unfolding in_turn at_rest
 turn_listed Initial Tam1 = refl
 turn_listed IamInit Tam1 = refl
 turn_listed MamInit Tam1 = refl
@@ -77,7 +77,7 @@ turn_listed MamInit Unsupported = refl
 turn_listed IaOk Unsupported = refl
 
 row : (s : State) (k : Kind) → in_turn s k ≡ true → table_a1 s k ≡ next_state k ∷ []
-unfolding in_turn at_rest after_iam1 after_mam1
+unfolding in_turn at_rest
 row Initial Tam1 e = refl
 row IamInit Tam1 e = refl
 row MamInit Tam1 e = refl

@@ -5,20 +5,20 @@ use mathlib.Core.Bool.{Bool, true, false}
 use mathlib.Core.List.{List, [], ◌∷◌}
 use Prim.Native.Nat.{ℕ}
 use native.Mathlib.Omega.{arith}
-use lib.ListN.{length, get_or}
+use lib.ListN.{length}
 use Rattle.ground.specs.Choice.{pick}
 use Rattle.sheet.specs.Setups.{Setup, setup_of}
 use Rattle.frames.specs.declared.Kind.{Kind}
 use Rattle.frames.specs.declared.Kind.TheVariants.{Tam1, Tam2, Iam1, Iam2, Iam3, Mam1, Mam2, Unsupported}
 use Rattle.frames.specs.Kinds.{kind_of}
 use Rattle.offer.specs.declared.TagFault.{TagFault}
-use Rattle.offer.specs.declared.TagFault.TheVariants.{OtherError, NotSupported, OutOfTurn}
+use Rattle.offer.specs.declared.TagFault.TheVariants.{NotSupported, OutOfTurn}
 use Rattle.entry.specs.declared.Reacted.{Reacted}
 use Rattle.entry.specs.declared.Session.{Session}
 use Rattle.tag.specs.declared.Tag.{Tag}
 use Rattle.tag.specs.States.{keyed}
 use Rattle.entry.specs.Sessions.{cleared}
-use Rattle.tag.specs.States.{in_turn}
+use Rattle.tag.specs.States.{in_turn, kind_taken}
 use Rattle.offer.specs.Outcomes.{number_given}
 use Rattle.offer.specs.Checks.{judged}
 use Rattle.offer.specs.Records.{offered}
@@ -90,49 +90,32 @@ module _ (c : Call) (setup : Setup) (held : Session) (room : List ℕ) (r : Reac
   unfolding by_kind
   is_none k e t = subst (λ (x : Kind). OfKind x room) (sym e) (in_refused c room r NotSupported t)
 
-  -- offered, and in its turn
-  module _ (k : Kind) where
-    pub not_offered : offered setup.features k ≡ false → Turned r NotSupported
-        → ReactsIn (in_order c setup held k) room r room c.identity c.user
-    unfolding in_order
-    not_offered e t =
-        subst (λ (b : Bool). ReactsIn
-        (pick b (pick (in_turn held.state k) (by_kind c setup held k) (refused c OutOfTurn cleared))
-        (refused c NotSupported cleared)) room r room c.identity c.user) (sym e)
-        (in_refused c room r NotSupported t)
+  -- there, offered, and in its turn
+  abbrev of_taken : Result Kind TagFault → Effect
+  of_taken (Ok k) = by_kind c setup held k
+  of_taken (Err f) = refused c f cleared
 
-    module _ (o : offered setup.features k ≡ true) where
-      in_place : (b : Bool) (after i u : List ℕ) → in_turn held.state k ≡ b
-          → ReactsIn (pick b (by_kind c setup held k) (refused c OutOfTurn cleared)) room r after i u
-          → ReactsIn (in_order c setup held k) room r after i u
-      unfolding in_order
-      in_place b after i u e =
-          subst (λ (x : Effect). ReactsIn x room r after i u)
-          (λ j. pick (sym o j) (pick (sym e j) (by_kind c setup held k) (refused c OutOfTurn cleared))
-          (refused c NotSupported cleared))
+  chosen : (b d : Bool) (k : Kind) → pick b (pick d (by_kind c setup held k) (refused c OutOfTurn cleared))
+      (refused c NotSupported cleared) ≡ of_taken (pick b (pick d (Ok k) (Err OutOfTurn)) (Err NotSupported))
+  chosen true true k = refl
+  chosen true false k = refl
+  chosen false d k = refl
 
-      pub out_of_turn : in_turn held.state k ≡ false → Turned r OutOfTurn
-          → ReactsIn (in_order c setup held k) room r room c.identity c.user
-      out_of_turn e t = in_place false room c.identity c.user e (in_refused c room r OutOfTurn t)
+  taken : (m : List ℕ) → of_message c setup held m ≡ of_taken (kind_taken setup.features held.state m)
+  unfolding of_message in_order kind_taken
+  taken [] = refl
+  taken (x ∷ m) = chosen (offered setup.features (kind_of x)) (in_turn held.state (kind_of x)) (kind_of x)
 
-      pub in_its_turn : (after i u : List ℕ) → in_turn held.state k ≡ true
-          → ReactsIn (by_kind c setup held k) room r after i u → ReactsIn (in_order c setup held k) room r after i u
-      in_its_turn after i u e = in_place true after i u e
+  pub some_taken : (m : List ℕ) (k : Kind) (after i u : List ℕ) → kind_taken setup.features held.state m ≡ Ok k
+      → ReactsIn (by_kind c setup held k) room r after i u → ReactsIn (of_message c setup held m) room r after i u
+  some_taken m k after i u e =
+      subst (λ (x : Effect). ReactsIn x room r after i u) (sym (taken m ∙ ap of_taken e))
 
-  -- a message that is there
-  pub nothing_there : (m : List ℕ) → length m ≡ 0 → Turned r OtherError
+  pub none_taken : (m : List ℕ) (f : TagFault) → kind_taken setup.features held.state m ≡ Err f → Turned r f
       → ReactsIn (of_message c setup held m) room r room c.identity c.user
-  unfolding of_message
-  nothing_there [] e t = in_refused c room r OtherError t
-  nothing_there (x ∷ m) e t = absurd (let z : ⊥ = omega arith in z)
-
-  pub something_there : (m : List ℕ) (k : Kind) (after i u : List ℕ) → (length m ≡ 0 → ⊥) → k ≡ kind_of (get_or m 0 0)
-      → ReactsIn (in_order c setup held k) room r after i u
-      → ReactsIn (of_message c setup held m) room r after i u
-  unfolding of_message
-  something_there [] k after i u n e h = absurd (n refl)
-  something_there (x ∷ m) k after i u n e h =
-      subst (λ (y : Kind). ReactsIn (in_order c setup held y) room r after i u) e h
+  none_taken m f e t =
+      subst (λ (x : Effect). ReactsIn x room r room c.identity c.user) (sym (taken m ∙ ap of_taken e))
+      (in_refused c room r f t)
 
 -- The whole call.
 module _ (tag : Tag) (keys m draws room i u : List ℕ) (v : Result Unit TagFault)

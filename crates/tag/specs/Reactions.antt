@@ -1,6 +1,10 @@
 -- What a call leaves behind: the outcome and what is held, or the tag, in what is returned, the reply over the first
 -- bytes of the room, the areas in the areas.
-use Rattle.std.specs.Prelude.{◌≡◌, List, ℕ, length}
+use Rattle.std.specs.Prelude.{◌≡◌, List, [], ℕ, length, Result, Ok, Err}
+use Rattle.offer.specs.declared.TagFault.{TagFault}
+use Rattle.offer.specs.declared.Answer.TheVariants.{Replied}
+use Rattle.offer.specs.Outcomes.{Outcome}
+use Rattle.entry.specs.declared.Session.{Session}
 use Rattle.modes.specs.Room.{over}
 use Rattle.entry.specs.declared.Reacted.{Reacted}
 use Rattle.tag.specs.declared.Stepped.{Stepped}
@@ -19,9 +23,21 @@ pub record Reacts (e : Effect) (room : List ℕ) (r : Reacted) (after : List ℕ
   pub session : r.session ≡ e.session
   pub reply : after ≡ over e.reply room
 
--- The same of a message that reads no area.
-abbrev pub ReactsApart : (List ℕ → List ℕ → Effect) → List ℕ → Reacted → List ℕ → Type 0
-ReactsApart e room r after = (identity user : List ℕ) → Reacts (e identity user) room r after
+-- What is told of a reply, and the bytes of it: a refusal sends nothing.
+abbrev pub told : Result (List ℕ) TagFault → Outcome
+told (Ok bytes) = Ok (Replied (length bytes))
+told (Err f) = Err f
+
+abbrev pub bytes_of : Result (List ℕ) TagFault → List ℕ
+bytes_of (Ok bytes) = bytes
+bytes_of (Err f) = []
+
+-- The same of a reply that is there, or of a refusal, and what is held then.
+pub record Sends (reply : Result (List ℕ) TagFault) (held : Session) (room : List ℕ) (r : Reacted) (after : List ℕ) : Type 0
+  where
+    pub outcome : r.outcome ≡ told reply
+    pub session : r.session ≡ held
+    pub sent : after ≡ over (bytes_of reply) room
 
 -- What is returned, the room, and both areas.
 pub record ReactsIn (e : Effect) (room : List ℕ) (r : Reacted) (after i u : List ℕ) : Type 0 where

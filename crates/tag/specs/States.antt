@@ -1,5 +1,7 @@
 -- A tag's states: clause 8, Annex A, and the scope paper, "States".
-use Rattle.std.specs.Prelude.{ℕ, Bool, true, false, List, [], ◌∷◌}
+use Rattle.std.specs.Prelude.{ℕ, Bool, true, false, List, [], ◌∷◌, Result, Ok, Err}
+use Rattle.ground.specs.Choice.{pick}
+use Rattle.sheet.specs.declared.Features.{Features}
 use Rattle.sheet.specs.declared.Key.{Key}
 use Rattle.sheet.specs.declared.Terms.{Terms}
 use Rattle.sheet.specs.Setups.{Setup, setup_of, terms_of}
@@ -9,6 +11,8 @@ use Rattle.offer.specs.declared.TagFault.{TagFault}
 use Rattle.offer.specs.declared.TagFault.TheVariants.{OtherError, NotSupported, MemoryOverrun, MemoryWriteError}
 use Rattle.offer.specs.declared.TagFault.TheVariants.{OutOfTurn}
 use Rattle.offer.specs.declared.TagFault.TheVariants.{ProofWrong, BenchFault}
+use Rattle.frames.specs.Kinds.{kind_of}
+use Rattle.offer.specs.Records.{offered}
 use Rattle.keytable.specs.Named.{has_key}
 use Rattle.entry.specs.declared.State.{State}
 use Rattle.entry.specs.declared.State.TheVariants.{Initial, IamInit, MamInit, IaOk}
@@ -45,13 +49,13 @@ at_rest IamInit = false
 at_rest MamInit = false
 at_rest IaOk = true
 
-unfoldable pub after_iam1 : State → Bool
+abbrev pub after_iam1 : State → Bool
 after_iam1 Initial = false
 after_iam1 IamInit = true
 after_iam1 MamInit = false
 after_iam1 IaOk = false
 
-unfoldable pub after_mam1 : State → Bool
+abbrev pub after_mam1 : State → Bool
 after_mam1 Initial = false
 after_mam1 IamInit = false
 after_mam1 MamInit = true
@@ -67,6 +71,13 @@ in_turn s Iam3 = after_iam1 s
 in_turn s Mam1 = at_rest s
 in_turn s Mam2 = after_mam1 s
 in_turn s Unsupported = false
+
+-- The kind of a message that is there and offered, in its turn; or why it is refused before its kind counts.
+unfoldable pub kind_taken : Features → State → List ℕ → Result Kind TagFault
+kind_taken features state [] = Err OtherError
+kind_taken features state (first ∷ rest) =
+    pick (offered features (kind_of first))
+    (pick (in_turn state (kind_of first)) (Ok (kind_of first)) (Err OutOfTurn)) (Err NotSupported)
 
 -- While a challenge waits for its answer, a record has the KeyID that is held.
 unfoldable pub key_fits : List Key → State → ℕ → Bool

@@ -3,17 +3,16 @@
 
 ghost use Rattle.std.specs.Prelude.{◌≡◌};
 ghost use Rattle.sheet.specs.KeyTable.{keys_in};
-ghost use Rattle.keytable.specs.Named.{has_key};
 ghost use Rattle.tag.specs.States.{awake, keyed, at_rest, key_fits};
 ghost use Rattle.tag.specs.Answers.{answer_of};
 ghost use Rattle.tag.specs.Reactions.{lent, Steps};
 
 use entry::{Session, State};
-use offer::{Outcome};
+use offer::Outcome;
 use sheet::Terms;
 
-mod kinds; // kinds.rt: what each kind that is answered comes to, in the room
-mod turns; // turns.rt: the checks before a message's kind counts
+mod kinds; // kinds.rt: what is sent, in the room
+mod turns; // turns.rt: the checks before a message's kind counts, and what it comes to
 
 /// A tag, but for its key table, which is lent with each call: the terms on which it serves, and what it holds.
 #[derive(Clone, Copy)]
@@ -41,43 +40,29 @@ pub fn power_up(terms: Terms) -> Tag
     }
 }
 
-// Does a record have the KeyID?
-fn known(keys: &[u8], keyid: u8) -> bool
-    ensures { result ≡ has_key keyid (keys_in keys.now) }
-{
-    let found = keytable::find(keys, keyid);
-    found.is_some()
-}
-
 /// Does a record have the KeyID that is held, where a challenge waits for its answer? Of a tag from power-up on it does
 /// (`Holding`); a host that stores tags asks it of what it takes up again.
 ///
 /// Ruled out: a KeyID that no record has, taken with the key of zeros; a tag in Initial refused for the KeyID 0 that
 /// stands there.
+#[tactic(auto, unfolding(crate::specs::States::key_fits))]
 pub fn key_held(session: Session, keys: &[u8]) -> bool
     ensures { result ≡ key_fits (keys_in keys.now) session.state session.keyid }
 {
-    let state = session.state;
-    match state {
-        State::Initial => true,
-        State::IamInit => known(keys, session.keyid),
-        State::MamInit => known(keys, session.keyid),
-        State::IaOk => true,
+    match session.state {
+        State::Initial | State::IaOk => true,
+        State::IamInit | State::MamInit => keytable::find(keys, session.keyid).is_some(),
     }
 }
 
 /// Does no challenge wait for its answer in this state (Table A.1)?
 ///
 /// Ruled out: MAM-Init taken for a state at rest; IA-OK taken for one in which a challenge waits.
+#[tactic(auto, unfolding(crate::specs::States::at_rest))]
 pub fn at_rest(state: State) -> bool
     ensures { result ≡ at_rest state }
 {
-    match state {
-        State::Initial => true,
-        State::IamInit => false,
-        State::MamInit => false,
-        State::IaOk => true,
-    }
+    matches!(state, State::Initial | State::IaOk)
 }
 
 /// One message: the tag by value; its key table, message, draws, reply room and both areas lent. The outcome and the
@@ -100,11 +85,8 @@ pub fn step(
         identity.old user.old) (keyed tag keys.now)) room.old result
         room.new identity.new user.new }
 {
-    let terms = tag.terms;
-    let sizes = terms.sizes;
-    let held = tag.session;
     let verdict = offer::judged::lending(
-        sizes,
+        tag.terms.sizes,
         draws.len(),
         room.len(),
         identity.len(),
@@ -116,12 +98,23 @@ pub fn step(
             tag,
         };
     }
+    let terms = tag.terms;
     let drawn = octets::bytes_at(draws, 0);
-    let reacted = turns::take(terms, keys, held, message, drawn, room, identity, user);
-    let outcome = reacted.outcome;
-    let session = reacted.session;
+    let reacted = turns::take(
+        terms,
+        keys,
+        tag.session,
+        message,
+        drawn,
+        room,
+        identity,
+        user,
+    );
     Stepped {
-        outcome,
-        tag: Tag { terms, session },
+        outcome: reacted.outcome,
+        tag: Tag {
+            terms,
+            session: reacted.session,
+        },
     }
 }

@@ -2,132 +2,50 @@
 ghost use Rattle.std.specs.Prelude.{◌≡◌, ◌≤◌, length};
 ghost use Rattle.frames.specs.Lengths.{reply_room};
 ghost use Rattle.sheet.specs.Setups.{setup_of};
-ghost use Rattle.tag.specs.States.{after_iam1, after_mam1, in_turn};
-ghost use Rattle.tag.specs.Answers.{by_kind, in_order, of_message};
+ghost use Rattle.tag.specs.States.{in_turn, kind_taken};
+ghost use Rattle.tag.specs.Answers.{of_message};
 ghost use Rattle.tag.specs.Reactions.{lent, ReactsIn};
 
 use super::{at_rest, kinds};
-use entry::{Reacted, Session, State, refused};
+use entry::{Reacted, Session, State, cleared, refused};
 use frames::Kind;
 use offer::{TagFault, records};
-use sheet::Terms;
-
-fn after_iam1(state: State) -> bool
-    ensures { result ≡ after_iam1 state }
-{
-    match state {
-        State::Initial => false,
-        State::IamInit => true,
-        State::MamInit => false,
-        State::IaOk => false,
-    }
-}
-
-fn after_mam1(state: State) -> bool
-    ensures { result ≡ after_mam1 state }
-{
-    match state {
-        State::Initial => false,
-        State::IamInit => false,
-        State::MamInit => true,
-        State::IaOk => false,
-    }
-}
+use sheet::{Features, Terms};
 
 // Whether the state takes the message (Table A.1).
 // Ruled out: IAM1 taken between a challenge and its answer; MAM2 taken after IAM1.
+#[tactic(auto, unfolding(crate::specs::States::in_turn))]
 fn in_turn(state: State, kind: Kind) -> bool
     ensures { result ≡ in_turn state kind }
 {
     match kind {
-        Kind::Tam1 => true,
-        Kind::Tam2 => true,
-        Kind::Iam1 => at_rest(state),
-        Kind::Iam2 => after_iam1(state),
-        Kind::Iam3 => after_iam1(state),
-        Kind::Mam1 => at_rest(state),
-        Kind::Mam2 => after_mam1(state),
+        Kind::Tam1 | Kind::Tam2 => true,
+        Kind::Iam1 | Kind::Mam1 => at_rest(state),
+        Kind::Iam2 | Kind::Iam3 => matches!(state, State::IamInit),
+        Kind::Mam2 => matches!(state, State::MamInit),
         Kind::Unsupported => false,
     }
 }
 
-// What a message of a kind comes to.
-fn by_kind(
-    kind: Kind,
-    terms: Terms,
-    keys: &[u8],
-    held: Session,
-    m: &[u8],
-    draws: [u8; 10],
-    room: &mut [u8],
-    identity: &mut [u8],
-    user: &mut [u8],
-) -> Reacted
-    requires { reply_room ≤ length room.old }
-    ensures { ReactsIn (by_kind
-        (lent m.now draws room.old identity.old user.old)
-        (setup_of terms keys.now) held kind)
-        room.old result room.new identity.new user.new }
+// The kind of a message that is there, that the tag offers, and that its state takes.
+// Ruled out: an empty message taken for a TAM1; an IAM2 out of turn told Not Supported.
+#[tactic(auto, unfolding(crate::specs::States::kind_taken))]
+fn kind_taken(features: Features, state: State, m: &[u8]) -> Result<Kind, TagFault>
+    ensures { result ≡ kind_taken features state m.now }
 {
-    match kind {
-        Kind::Tam1 => {
-            return kinds::tam1(keys, m, draws, room);
-        }
-        Kind::Tam2 => {
-            return kinds::tam2(terms, keys, m, draws, room, identity, user);
-        }
-        Kind::Iam1 => {
-            return kinds::iam1(keys, m, draws, room);
-        }
-        Kind::Iam2 => {
-            return entry::iam2(keys, held, m);
-        }
-        Kind::Iam3 => {
-            return entry::iam3(terms, keys, held, m, identity, user);
-        }
-        Kind::Mam1 => {
-            return kinds::mam1(keys, m, draws, room);
-        }
-        Kind::Mam2 => {
-            return entry::mam2(keys, held, m);
-        }
-        Kind::Unsupported => {
-            return refused(TagFault::NotSupported);
-        }
-    }
-}
-
-// The same, where the tag offers the kind and its state takes it.
-fn in_order(
-    kind: Kind,
-    terms: Terms,
-    keys: &[u8],
-    held: Session,
-    m: &[u8],
-    draws: [u8; 10],
-    room: &mut [u8],
-    identity: &mut [u8],
-    user: &mut [u8],
-) -> Reacted
-    requires { reply_room ≤ length room.old }
-    ensures { ReactsIn (in_order
-        (lent m.now draws room.old identity.old user.old)
-        (setup_of terms keys.now) held kind)
-        room.old result room.new identity.new user.new }
-{
-    let features = terms.features;
+    let first = m.first().ok_or(TagFault::OtherError)?;
+    let kind = frames::first::kind_of(*first);
     if !records::offered(features, kind) {
-        return refused(TagFault::NotSupported);
+        return Err(TagFault::NotSupported);
     }
-    let state = held.state;
     if !in_turn(state, kind) {
-        return refused(TagFault::OutOfTurn);
+        return Err(TagFault::OutOfTurn);
     }
-    by_kind(kind, terms, keys, held, m, draws, room, identity, user)
+    Ok(kind)
 }
 
 /// A message that the bench lent all it needs.
-/// Ruled out: an empty message taken for a TAM1; an IAM2 out of turn told Not Supported.
+/// Ruled out: a refusal that leaves the tag as it was; a TAM1 after which a challenge is held.
 pub fn take(
     terms: Terms,
     keys: &[u8],
@@ -144,9 +62,24 @@ pub fn take(
         (setup_of terms keys.now) held m.now)
         room.old result room.new identity.new user.new }
 {
-    if m.len() == 0 {
-        return refused(TagFault::OtherError);
+    let kind = match kind_taken(terms.features, held.state, m) {
+        Ok(kind) => kind,
+        Err(fault) => return refused(fault),
+    };
+    match kind {
+        Kind::Tam1 => kinds::answered(tam::tam1(keys, m, draws), cleared(), room),
+        Kind::Tam2 => kinds::tam2(terms, keys, m, draws, room, identity, user),
+        Kind::Iam1 => {
+            let given = entry::iam1(keys, m, draws);
+            kinds::answered(given.reply, given.session, room)
+        }
+        Kind::Iam2 => entry::iam2(keys, held, m),
+        Kind::Iam3 => entry::iam3(terms, keys, held, m, identity, user),
+        Kind::Mam1 => {
+            let given = entry::mam1(keys, m, draws);
+            kinds::answered(given.reply, given.session, room)
+        }
+        Kind::Mam2 => entry::mam2(keys, held, m),
+        Kind::Unsupported => refused(TagFault::NotSupported),
     }
-    let kind = frames::first::kind_of(m[0]);
-    in_order(kind, terms, keys, held, m, draws, room, identity, user)
 }
