@@ -15,10 +15,13 @@ use Rattle.ground.specs.Choice.{pick, both}
 use Rattle.field.specs.Block.{first_block}
 use Rattle.field.proofs.Block.{first_block_is}
 use Rattle.reader.specs.declared.ReaderFault.TheVariants.{OwnMessage}
-use Rattle.reader_judge.specs.declared.Judgement.{Judgement}
+use Rattle.reader_judge.specs.declared.Accepted.{Accepted}
 use Rattle.reader.specs.declared.Keys.{Keys}
-use Rattle.reader_judge.specs.Findings.{verdict_number, Judges}
+use Rattle.reader.specs.Numbers.{number_of}
+use Rattle.modes.specs.Room.{over}
+use Rattle.reader_judge.specs.Findings.{Finding, said_by, verdict_number, Judges}
 use Rattle.reader_judge.specs.Judged.{judgement_of}
+use Rattle.reader_judge.proofs.Whole.{challenge_in, is_issued, judgement_whole, whole_refusal, whole_acceptance}
 use Rattle.reader_build.specs.Makes.{made_number, taken, Makes}
 use Rattle.capi.specs.Reader.{mac_given, keys_of, made_length, worth_number, finding_of, Builds, Finds}
 
@@ -61,18 +64,35 @@ module _ (enc mac message reply room : List ℕ) where
       (replicate 10 0) room
   no_mac g = simp g (record { number = refl; long = refl; value = refl; flag = refl; came = refl; holds = refl })
 
-  pub judged : (keys : Keys) (j : Judgement) (r worth issued : ℕ) (after : List ℕ) → mac_given mac ≡ true
-      → keys ≡ keys_of enc mac
-      → Judges (judgement_of keys message reply (length room)) room j after → r ≡ verdict_number j.verdict
-      → worth ≡ worth_number j.worth → issued ≡ bit_of j.issued
-      → Finds (finding_of enc mac message reply (length room)) room r j.«data» worth issued j.challenge after
-  judged keys j r worth issued after g k h n w i =
-      simp (g, sym k)
-      (record {
-        number = n ∙ h.number;
-        long = ap (λ (x : Judgement). x.«data») h.says;
-        value = w ∙ ap (λ (x : Judgement). worth_number x.worth) h.says;
-        flag = i ∙ ap (λ (x : Judgement). bit_of x.issued) h.says;
-        came = ap (λ (x : Judgement). x.challenge) h.says;
-        holds = h.holds;
-      })
+  module _ (keys : Keys) (r : Result Accepted ReaderFault) (after : List ℕ) (g : mac_given mac ≡ true)
+      (k : keys ≡ keys_of enc mac) (h : Judges (judgement_of keys message reply (length room)) room r after) where
+    abbrev found : Finding
+    found = judgement_of keys message reply (length room)
+
+    -- what is accepted, in plain numbers
+    pub accepted : (a : Accepted) (worth issued : ℕ) (challenge : List ℕ) → r ≡ Ok a → worth ≡ worth_number a.worth
+        → issued ≡ bit_of (is_issued a.challenge) → challenge ≡ challenge_in a.challenge
+        → Finds (finding_of enc mac message reply (length room)) room 0 a.«data» worth issued challenge after
+    accepted a worth issued challenge e w i c =
+        let q = whole_acceptance (judgement_whole keys message reply (length room)) (sym h.says ∙ e) in
+        simp (g, sym k)
+        (record {
+          number = ap (λ (f : Finding). verdict_number f.verdict) (sym q);
+          long = long_of found.verdict (sym h.says ∙ e);
+          value = w ∙ ap (λ (f : Finding). worth_number f.worth) (sym q);
+          flag = i ∙ ap (λ (f : Finding). bit_of f.issued) (sym q);
+          came = c ∙ ap (λ (f : Finding). f.challenge) (sym q);
+          holds = h.holds;
+        })
+      where
+        long_of : (v : Result Unit ReaderFault) → said_by v found ≡ Ok a → a.«data» ≡ length found.bytes
+        long_of (Ok tt) s = cc
+        long_of (Err e) s = cc
+
+    -- a refusal tells neither data nor challenge
+    pub refusal : (f : ReaderFault) → r ≡ Err f
+        → Finds (finding_of enc mac message reply (length room)) room (number_of f) 0 0 0 (replicate 10 0) after
+    refusal f e =
+        let q = whole_refusal (judgement_whole keys message reply (length room)) (sym h.says ∙ e) in
+        simp (g, sym k, q)
+        (record { number = refl; long = refl; value = refl; flag = refl; came = refl; holds = h.holds ∙ ap (λ (x : Finding). over x.bytes room) q })

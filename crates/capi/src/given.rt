@@ -3,7 +3,6 @@ ghost use Rattle.std.specs.Prelude.{◌≡◌};
 ghost use Rattle.ground.specs.Bytes.{bit_of};
 ghost use Rattle.frames.specs.Fields.{size_of};
 ghost use Rattle.reader_build.specs.Makes.{made_number};
-ghost use Rattle.reader_judge.specs.Findings.{verdict_number};
 ghost use Rattle.capi.specs.Reader.{mac_given, keys_of, size_given, bits_given, custom_of, made_length, worth_number};
 
 use frames::Custom;
@@ -99,16 +98,6 @@ pub fn made_number(made: Result<usize, ReaderFault>) -> u8
 {
     match made {
         Ok(_) => 0,
-        Err(fault) => u8::from(fault),
-    }
-}
-
-/// The number of a verdict. Ruled out: the tag's numbers; 24 for every refusal.
-pub fn number_of(verdict: Result<(), ReaderFault>) -> u8
-    ensures { result ≡ verdict_number verdict }
-{
-    match verdict {
-        Ok(()) => 0,
         Err(fault) => u8::from(fault),
     }
 }

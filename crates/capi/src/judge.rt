@@ -31,13 +31,20 @@ pub fn roualint_judge(
         *challenge = [0u8; 10];
         return 24;
     }
-    let said = reader_judge::judge(given::keys_of(*enc, mac), message, reply, room);
-    let verdict = said.verdict;
-    let value = said.worth;
-    let came = said.challenge;
-    *told = said.data;
-    *worth = given::worth_number(value);
-    *issued = given::bit_of(said.issued);
-    *challenge = came;
-    given::number_of(verdict)
+    match reader_judge::judge(given::keys_of(*enc, mac), message, reply, room) {
+        Ok(accepted) => {
+            *told = accepted.data;
+            *worth = given::worth_number(accepted.worth);
+            *issued = given::bit_of(accepted.challenge.is_some());
+            *challenge = accepted.challenge.unwrap_or([0u8; 10]);
+            0
+        }
+        Err(fault) => {
+            *told = 0;
+            *worth = 0;
+            *issued = 0;
+            *challenge = [0u8; 10];
+            u8::from(fault)
+        }
+    }
 }

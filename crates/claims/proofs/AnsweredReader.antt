@@ -20,11 +20,10 @@ use Rattle.frames.specs.Modes.{in_mode, prot_mode_of}
 use Rattle.reader.specs.declared.ReaderFault.{ReaderFault}
 use Rattle.reader.specs.declared.ReaderFault.TheVariants.{ReplyLength, ChallengeWrong, MacWrong, HeaderWrong}
 use Rattle.reader.specs.declared.ReaderFault.TheVariants.{OwnMessage}
-use Rattle.reader_judge.specs.declared.Judgement.{Judgement}
 use Rattle.reader.specs.declared.Keys.{Keys}
 use Rattle.reader_judge.specs.declared.Worth.{Worth}
 use Rattle.reader.specs.Numbers.{number_of}
-use Rattle.reader_judge.specs.Findings.{Finding, silent, refused, nothing_more, carries, issues, said_of}
+use Rattle.reader_judge.specs.Findings.{Finding, silent, refused, nothing_more, carries, issues}
 use Rattle.reader.specs.Own.{own_fits}
 use Rattle.reader_judge.specs.Judged.{
   data_finding,
@@ -38,6 +37,7 @@ use Rattle.reader_judge.specs.Judged.{
   of_kind,
   judgement_of,
 }
+use Rattle.reader_judge.proofs.Whole.{judgement_whole, whole_refusal}
 use Rattle.reader_build.specs.Makes.{taken, made_number}
 use Rattle.claims.specs.Answered.{Among, reader_numbers, JudgeAnswers, BuilderAnswers}
 
@@ -106,15 +106,14 @@ judgement_quiet keys (b ∷ m) reply room =
 
 pub judge_answers : JudgeAnswers
 judge_answers keys m reply room r after f h e =
-    let q = judgement_quiet keys m reply (length room) f (sym (ap (λ (j : Judgement). j.verdict) h.says) ∙ e) in
-    let said : r ≡ said_of (refused f) = h.says ∙ ap said_of q in
+    let q = whole_refusal (judgement_whole keys m reply (length room)) (sym h.says ∙ e) in
     record {
       number = reader_number f;
       silent = h.holds ∙ ap (λ (x : Finding). over x.bytes room) q;
-      bytes = ap (λ (j : Judgement). j.«data») said;
-      worth = ap (λ (j : Judgement). j.worth) said;
-      issued = ap (λ (j : Judgement). j.issued) said;
-      challenge = ap (λ (j : Judgement). j.challenge) said;
+      bytes = ap (λ (x : Finding). x.bytes) q;
+      worth = ap (λ (x : Finding). x.worth) q;
+      issued = ap (λ (x : Finding). x.issued) q;
+      challenge = ap (λ (x : Finding). x.challenge) q;
     }
 
 -- ---- the builders

@@ -195,8 +195,8 @@ pub judge_said : Says 3 judge-kinds.ps judge-kinds.r judge.Post
 judge_said κs a r e = refl
 
 pub judge_refuses : Gives 3 judge-kinds.ps judge-kinds.r judge.Post
-    (λ κs a r e. (f : ReaderFault) → r.verdict ≡ Err f → JudgeRefused a.1.1.1.0.now r
-    e.1.1.1.0.now f)
+    (λ κs a r e. (f : ReaderFault) → r ≡ Err f
+    → JudgeRefused (judgement_of a.0 a.1.0.now a.1.1.0.now (length a.1.1.1.0.now)) a.1.1.1.0.now e.1.1.1.0.now f)
 judge_refuses κs a r e h f v = judge_answers a.0 a.1.0.now a.1.1.0.now a.1.1.1.0.now r
     e.1.1.1.0.now f h v
 

@@ -24,7 +24,6 @@ use Rattle.tag.specs.Plays.{Called}
 use Rattle.reader.specs.declared.ReaderFault.TheVariants.{OwnMessage}
 use Rattle.reader.specs.declared.Keys.{Keys}
 use Rattle.reader.specs.Numbers as reader
-use Rattle.reader_judge.specs.Findings as findings
 use Rattle.reader_judge.specs.Judged.{judgement_of}
 use Rattle.claims.specs.Answered.{Among, sheet_numbers, TagRefused, JudgeRefused}
 use Rattle.claims.proofs.Answered.{tag_answers, sheet_answers, record_answers, chain_answers, layer_answers}
@@ -38,9 +37,9 @@ called = record { outcome = refl; number = refl; next = refl; reply = refl; iden
 pub tag_refused : TagRefused bench [] user (brings [] 0) unanswered OtherError
 tag_refused = tag_answers table bench [] user (brings [] 0) unanswered OtherError called refl
 
-pub judge_refused : (keys : Keys) → JudgeRefused [] (findings.said_of (findings.refused OwnMessage)) [] OwnMessage
+pub judge_refused : (keys : Keys) → JudgeRefused (judgement_of keys [] [] 0) [] [] OwnMessage
 unfolding judgement_of
-judge_refused keys = judge_answers keys [] [] [] _ [] OwnMessage (record { says = refl; number = refl; holds = refl })
+judge_refused keys = judge_answers keys [] [] [] (Err OwnMessage) [] OwnMessage (record { says = refl; number = refl; holds = refl })
     refl
 
 pub builder_refused : (reader.number_of OwnMessage ≡ 24) × (◌≡◌ {A = List ℕ} [] [])

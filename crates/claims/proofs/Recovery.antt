@@ -65,7 +65,7 @@ use Rattle.reader.specs.declared.Keys.{Keys}
 use Rattle.reader_judge.specs.Findings.{Finding, nothing_more, issues}
 use Rattle.reader_judge.specs.Judged.{iam1_finding, empty_finding, judgement_of, by_kind as finding_of}
 use Rattle.reader.specs.Own.{data_room, mode_served as reader_serves, mode_fits, fields_fit, own_fits}
-use Rattle.reader_judge.proofs.Judging.{own_told}
+use Rattle.reader_judge.proofs.Judging.{first_there, own_told}
 use Rattle.claims.specs.Recovery.{Taken, keyid_used, Shares, Fit, due, Recovery}
 use Rattle.claims.proofs.Opens.{tam1_found, mam1_found}
 use Rattle.claims.proofs.Data.{tam2_found}
@@ -122,7 +122,7 @@ module _ (c : Call) (tag : KeyedTag) (keys : Keys) (room : ℕ) (fit : Fit c tag
           → fields_fit keys k c.message ≡ true → finding_of keys c.message reply k ≡ found
           → judgement_of keys c.message reply room ≡ found
       unfolding own_fits
-      judges reply found l h q = own_told keys c.message reply room k some e
+      judges reply found l h q = own_told keys c.message reply room _ k (first_there c.message some) e
           (ap₂ both (le-leb data_room room enough) (ap₂ both l h)) ∙ q
 
       opens_with : (rfu keyid : ℕ) (reply : List ℕ) (found : Finding) → fields_fit keys k c.message ≡ eqb rfu 0

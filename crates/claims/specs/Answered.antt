@@ -19,11 +19,11 @@ use Rattle.offer.specs.Outcomes as outcomes
 use Rattle.tag.specs.States.{session_after}
 use Rattle.tag.specs.Plays.{Brought, Left, Called}
 use Rattle.reader.specs.declared.ReaderFault.{ReaderFault}
-use Rattle.reader_judge.specs.declared.Judgement.{Judgement}
+use Rattle.reader_judge.specs.declared.Accepted.{Accepted}
 use Rattle.reader.specs.declared.Keys.{Keys}
 use Rattle.reader_judge.specs.declared.Worth.TheVariants.{NoData}
 use Rattle.reader.specs.Numbers as reader
-use Rattle.reader_judge.specs.Findings.{Judges}
+use Rattle.reader_judge.specs.Findings.{Finding, Judges}
 use Rattle.reader_judge.specs.Judged.{judgement_of}
 use Rattle.reader_build.specs.Makes.{Makes}
 
@@ -67,21 +67,22 @@ TagAnswers =
 
 -- ---- the reader's side
 
--- `reader_judge::judge`: 20 to 24, no data, no challenge, and the data room as it was.
-pub record JudgeRefused (room : List ℕ) (r : Judgement) (after : List ℕ) (f : ReaderFault) : Type 0 where
+-- `reader_judge::judge`: 20 to 24, and the data room as it was. Data and a challenge stand in what is accepted alone, and
+-- the finding that is refused has none.
+pub record JudgeRefused (found : Finding) (room after : List ℕ) (f : ReaderFault) : Type 0 where
   pub number : Among reader_numbers (reader.number_of f)
   pub silent : after ≡ room
-  pub bytes : r.«data» ≡ 0
-  pub worth : r.worth ≡ NoData
-  pub issued : r.issued ≡ false
-  pub challenge : r.challenge ≡ replicate 10 0
+  pub bytes : found.bytes ≡ []
+  pub worth : found.worth ≡ NoData
+  pub issued : found.issued ≡ false
+  pub challenge : found.challenge ≡ replicate 10 0
 
 abbrev pub JudgeAnswers : Type 0
 JudgeAnswers =
-    (keys : Keys) (message reply room : List ℕ) (r : Judgement) (after : List ℕ) (f : ReaderFault)
+    (keys : Keys) (message reply room : List ℕ) (r : Result Accepted ReaderFault) (after : List ℕ) (f : ReaderFault)
     → Judges (judgement_of keys message reply (length room)) room r after
-    → r.verdict ≡ Err f
-    → JudgeRefused room r after f
+    → r ≡ Err f
+    → JudgeRefused (judgement_of keys message reply (length room)) room after f
 
 -- The seven builders: 24, and the room as it was.
 abbrev pub BuilderAnswers : Type 0

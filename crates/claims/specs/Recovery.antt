@@ -24,7 +24,8 @@ use Rattle.offer.specs.Records.{block_asked}
 use Rattle.tag.specs.Reactions.{lent}
 use Rattle.tag.specs.Plays.{Brought, Left, Called}
 use Rattle.claims.specs.HasKeys.{HasKeys}
-use Rattle.reader_judge.specs.declared.Judgement.{Judgement}
+use Rattle.reader_judge.specs.declared.Accepted.{Accepted}
+use Rattle.reader.specs.declared.ReaderFault.{ReaderFault}
 use Rattle.reader_judge.specs.declared.Worth.{Worth}
 use Rattle.reader_judge.specs.declared.Worth.TheVariants.{NoData}
 use Rattle.reader.specs.declared.Keys.{Keys}
@@ -93,7 +94,7 @@ Recovery =
 abbrev pub RecoveryCode : Type 0
 RecoveryCode =
     (table : List ℕ) (tag : Tag) (identity user : List ℕ) (b : Brought) (x : Left) (keys : Keys) (room : List ℕ)
-    (r : Judgement) (after : List ℕ)
+    (r : Result Accepted ReaderFault) (after : List ℕ)
     → Called table tag identity user b x
     → Fit (lent b.message b.draws b.room identity user) (keyed tag table) keys
     → Shares keys (key_used (keyed tag table) b.message)

@@ -9,8 +9,8 @@ use console::reason::{Fault, Reason};
 use console::words::Words;
 use orders::Order;
 use frames::sizes::{DATA_ROOM, MESSAGE_ROOM};
-use reader::Keys;
-use reader_judge::{Judgement, Worth, judge};
+use reader::{Keys, ReaderFault};
+use reader_judge::{Accepted, Worth, judge};
 use std::io;
 
 /// The reader's side from one command to the next: its keys, where it has some.
@@ -67,14 +67,15 @@ impl Reader {
     }
 }
 
-fn told(rt: &impl Print, judgement: Judgement, room: &[u8]) -> io::Result<()> {
-    if let Err(fault) = judgement.verdict {
-        return println!(rt; "refused {}", u8::from(fault));
-    }
-    let data = octets::front(room, judgement.data);
-    let challenge = judgement.challenge;
-    let issued: &[u8] = if judgement.issued { &challenge } else { &[] };
-    let worth = match judgement.worth {
+fn told(rt: &impl Print, judgement: Result<Accepted, ReaderFault>, room: &[u8]) -> io::Result<()> {
+    let accepted = match judgement {
+        Ok(accepted) => accepted,
+        Err(fault) => return println!(rt; "refused {}", u8::from(fault)),
+    };
+    let data = octets::front(room, accepted.data);
+    let challenge = accepted.challenge.unwrap_or([0; 10]);
+    let issued: &[u8] = if accepted.challenge.is_some() { &challenge } else { &[] };
+    let worth = match accepted.worth {
         Worth::NoData => "-",
         Worth::Unproved => "unproved",
         Worth::Proved => "proved",

@@ -1,5 +1,6 @@
 -- The judge by kind: what is said of each kind's reply is said of the finding by kind.
 use mathlib.Core.Path.{◌≡◌, refl, sym, ap, ◌∙◌}
+use mathlib.Core.Logic.{◌⊎◌, inl, inr}
 use mathlib.Core.List.{List, []}
 use Prim.Native.Nat.{ℕ}
 use Rattle.frames.specs.declared.Kind.{Kind}
@@ -10,7 +11,9 @@ use Rattle.frames.specs.declared.Mam1.{Mam1 as Mam1Fields}
 use Rattle.frames.specs.Messages.{tam1_of, tam2_of, mam1_of}
 use Rattle.reader.specs.declared.Keys.{Keys}
 use Rattle.reader.specs.declared.ReaderFault.TheVariants.{OwnMessage}
-use Rattle.reader_judge.specs.declared.Judgement.{Judgement}
+use Rattle.std.specs.Prelude.{Result}
+use Rattle.reader.specs.declared.ReaderFault.{ReaderFault}
+use Rattle.reader_judge.specs.declared.Accepted.{Accepted}
 use Rattle.reader_judge.specs.Findings.{Finding, refused, nothing_more, issues, said_of, Judges}
 use Rattle.reader_judge.specs.Judged.{tam1_finding, tam2_finding, iam1_finding, mam1_finding, empty_finding, by_kind}
 use Rattle.reader_judge.proofs.Judging.{quiet, judges_as, line_quiet}
@@ -32,7 +35,7 @@ empty_quiet : (reply : List ℕ) → (empty_finding reply).bytes ≡ []
 unfolding empty_finding
 empty_quiet reply = line_quiet _ nothing_more refl
 
-module _ (keys : Keys) (m reply room : List ℕ) (kind : Kind) (r : Judgement) where
+module _ (keys : Keys) (m reply room : List ℕ) (kind : Kind) (r : Result Accepted ReaderFault) where
   arm : (k : Kind) (f : Finding) → kind ≡ k → by_kind keys m reply k ≡ f → f.bytes ≡ [] → r ≡ said_of f
       → Judges (by_kind keys m reply kind) room r room
   arm k f e q n s = judges_as (sym (ap (by_kind keys m reply) e ∙ q)) (quiet f room r n s)
@@ -53,23 +56,18 @@ module _ (keys : Keys) (m reply room : List ℕ) (kind : Kind) (r : Judgement) w
   unfolding by_kind
   iam1_arm e s = arm Iam1 (iam1_finding reply) e refl (iam1_quiet reply) s
 
-  pub iam2_arm : kind ≡ Iam2 → r ≡ said_of (empty_finding reply) → Judges (by_kind keys m reply kind) room r room
+  pub empty_arm : kind ≡ Iam2 ⊎ (kind ≡ Iam3 ⊎ kind ≡ Mam2) → r ≡ said_of (empty_finding reply)
+      → Judges (by_kind keys m reply kind) room r room
   unfolding by_kind
-  iam2_arm e s = arm Iam2 (empty_finding reply) e refl (empty_quiet reply) s
-
-  pub iam3_arm : kind ≡ Iam3 → r ≡ said_of (empty_finding reply) → Judges (by_kind keys m reply kind) room r room
-  unfolding by_kind
-  iam3_arm e s = arm Iam3 (empty_finding reply) e refl (empty_quiet reply) s
+  empty_arm (inl e) s = arm Iam2 (empty_finding reply) e refl (empty_quiet reply) s
+  empty_arm (inr (inl e)) s = arm Iam3 (empty_finding reply) e refl (empty_quiet reply) s
+  empty_arm (inr (inr e)) s = arm Mam2 (empty_finding reply) e refl (empty_quiet reply) s
 
   pub mam1_arm : (f : Mam1Fields) → kind ≡ Mam1 → f ≡ mam1_of m → r ≡ said_of (mam1_finding keys f reply)
       → Judges (by_kind keys m reply kind) room r room
   unfolding by_kind
   mam1_arm f e q s = arm Mam1 (mam1_finding keys f reply) e (ap (λ (g : Mam1Fields). mam1_finding keys g reply) (sym q))
       (mam1_quiet keys f reply) s
-
-  pub mam2_arm : kind ≡ Mam2 → r ≡ said_of (empty_finding reply) → Judges (by_kind keys m reply kind) room r room
-  unfolding by_kind
-  mam2_arm e s = arm Mam2 (empty_finding reply) e refl (empty_quiet reply) s
 
   pub none_arm : kind ≡ Unsupported → r ≡ said_of (refused OwnMessage) → Judges (by_kind keys m reply kind) room r room
   unfolding by_kind

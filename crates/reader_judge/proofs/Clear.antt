@@ -37,7 +37,8 @@ use Rattle.payload.proofs.Macs.{into_taken}
 use Rattle.payload.proofs.Overs.{over_taken}
 use Rattle.reader.specs.declared.Keys.{Keys}
 use Rattle.reader.specs.declared.ReaderFault.TheVariants.{OwnMessage}
-use Rattle.reader_judge.specs.declared.Judgement.{Judgement}
+use Rattle.reader.specs.declared.ReaderFault.{ReaderFault}
+use Rattle.reader_judge.specs.declared.Accepted.{Accepted}
 use Rattle.reader_judge.specs.Findings.{carries, refused, worth_of, said_of, Judges}
 use Rattle.reader_judge.specs.Judged.{data_finding, tam2_in_mode, tam2_finding}
 use Rattle.reader_judge.specs.Opened.{data_sent, opened_data}
@@ -148,7 +149,7 @@ module _ (keys : Keys) (mode : ProtMode) (f : Tam2) (reply : List ℕ)
 
 -- ---- what is handed over
 
-pub stored : (mode : ProtMode) (f : Tam2) (p words room front : List ℕ) (r : Judgement)
+pub stored : (mode : ProtMode) (f : Tam2) (p words room front : List ℕ) (r : Result Accepted ReaderFault)
     → header_fits f.rev f.custom p ≡ true
     → filler_fits f.rev f.custom p ≡ true
     → words ≡ words_in f.rev f.custom p → r ≡ said_of (carries (worth_of mode) words)

@@ -3,3 +3,4 @@ pub mod Judging
 pub mod Arms
 pub mod Clear
 pub mod Unique
+pub mod Whole

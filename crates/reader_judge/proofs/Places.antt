@@ -1,13 +1,9 @@
--- Bytes taken one by one, and the parts of the opened block.
-use mathlib.Core.Path.{◌≡◌, sym, ap, ap₂, ◌∙◌}
-use mathlib.Core.Bool.{Bool, true, false}
+-- Bytes taken one by one, and what was found of the opened block.
+use mathlib.Core.Path.{◌≡◌, ◌∙◌}
+use mathlib.Core.Bool.{Bool}
 use mathlib.Core.List.{List, [], ◌∷◌, ◌++◌}
-use Prim.Native.Nat.{ℕ, ◌-◌}
-use native.Mathlib.Omega.{arith}
-use lib.ListN.{length, get_or, take, drop, length-drop}
-use lib.Seq.{take_all}
-use Rattle.ground.specs.Choice.{both}
-use Rattle.octets.specs.Alike.{same}
+use Prim.Native.Nat.{ℕ}
+use lib.ListN.{length, get_or, take, drop}
 use Rattle.payload.proofs.Bytes.{listed}
 use Rattle.reader_judge.specs.Opened.{block_fits, challenge_in}
 
@@ -18,18 +14,6 @@ pub challenge_made : (b reply : List ℕ) → length b ≡ 16 → length reply �
     ≡ challenge_in b reply
 unfolding challenge_in
 challenge_made b reply h e = λ i. drop 16 (listed reply 22 e i) ++ take 4 (drop 2 (listed b 16 h i))
-
-module _ (constant ichallenge b : List ℕ) where
-  pub other_constant : same (take 2 b) constant ≡ false → block_fits constant ichallenge b ≡ false
-  unfolding block_fits
-  other_constant h = ap (λ (t : Bool). both t (same (drop 6 b) ichallenge)) h
-
-  pub challenge_left : length b ≡ 16 → same (take 2 b) constant ≡ true
-      → block_fits constant ichallenge b ≡ same (take (16 - 6) (drop 6 b)) ichallenge
-  unfolding block_fits
-  challenge_left e h =
-      ap₂ both h (ap (λ (l : List ℕ). same l ichallenge)
-      (sym (take_all (16 - 6) (drop 6 b) (omega (arith, length-drop 6 b)))))
 
 -- what was found of a block, of the same constant, challenge and block
 pub block_told : {r : Bool} {k l i j b d : List ℕ} → k ≡ l → i ≡ j → b ≡ d → r ≡ block_fits k i b → r ≡ block_fits l j d

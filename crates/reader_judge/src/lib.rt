@@ -16,60 +16,45 @@ use frames::fields::{mam1_of, tam1_of, tam2_of};
 use frames::first::kind_of;
 use reader::own::own_fits;
 use reader::{Keys, ReaderFault};
-use said::refused;
 
 /// What a reply's data are worth: none came; no MAC proves them (ProtModes 0 and 1); the MAC proves them (2 and 3).
 /// In TAM2 Rev 0 what is proved is the blocks as they were sent: neither their address and number nor the ProtMode
 /// that the tag saw.
-#[derive(Clone, Copy)]
+#[derive(Clone, Copy, Debug, PartialEq, Eq)]
 pub enum Worth {
     NoData,
     Unproved,
     Proved,
 }
 
-/// What the judge says of a reply: the verdict; how many bytes of data stand in the data room's first bytes, and what
-/// they are worth; whether the tag issued a challenge, and the challenge (zeros where not).
+/// What the judge accepts: how many bytes of data stand in the data room's first bytes, what they are worth, and the
+/// challenge where the tag issued one.
 #[derive(Clone, Copy)]
-pub struct Judgement {
-    pub verdict: Result<(), ReaderFault>,
+pub struct Accepted {
     pub data: usize,
     pub worth: Worth,
-    pub issued: bool,
-    pub challenge: [u8; 10],
+    pub challenge: Option<[u8; 10]>,
 }
 
 // A reply to a message that is one of the table, by its kind.
-fn by_kind(keys: Keys, kind: Kind, message: &[u8], reply: &[u8], room: &mut [u8]) -> Judgement
+fn by_kind(
+    keys: Keys,
+    kind: Kind,
+    message: &[u8],
+    reply: &[u8],
+    room: &mut [u8],
+) -> Result<Accepted, ReaderFault>
     requires { data_room ≤ length room.old }
     ensures { Judges (by_kind keys message.now reply.now kind) room.old result
         room.new }
 {
     match kind {
-        Kind::Tam1 => {
-            return kinds::tam1(keys, tam1_of(message), reply);
-        }
-        Kind::Tam2 => {
-            return tam2::tam2(keys, tam2_of(message), reply, room);
-        }
-        Kind::Iam1 => {
-            return kinds::iam1(reply);
-        }
-        Kind::Iam2 => {
-            return kinds::empty(reply);
-        }
-        Kind::Iam3 => {
-            return kinds::empty(reply);
-        }
-        Kind::Mam1 => {
-            return kinds::mam1(keys, mam1_of(message), reply);
-        }
-        Kind::Mam2 => {
-            return kinds::empty(reply);
-        }
-        Kind::Unsupported => {
-            return refused(ReaderFault::OwnMessage);
-        }
+        Kind::Tam1 => kinds::tam1(keys, tam1_of(message), reply),
+        Kind::Tam2 => tam2::tam2(keys, tam2_of(message), reply, room),
+        Kind::Iam1 => kinds::iam1(reply),
+        Kind::Mam1 => kinds::mam1(keys, mam1_of(message), reply),
+        Kind::Iam2 | Kind::Iam3 | Kind::Mam2 => kinds::empty(reply),
+        Kind::Unsupported => Err(ReaderFault::OwnMessage),
     }
 }
 
@@ -77,16 +62,21 @@ fn by_kind(keys: Keys, kind: Kind, message: &[u8], reply: &[u8], room: &mut [u8]
 /// Where the reply is refused, or carries no data, no byte of the room changes.
 ///
 /// Ruled out: data that are handed over though the MAC is wrong; a reply to one message taken as the reply to another.
-pub fn judge(keys: Keys, message: &[u8], reply: &[u8], room: &mut [u8]) -> Judgement
+pub fn judge(
+    keys: Keys,
+    message: &[u8],
+    reply: &[u8],
+    room: &mut [u8],
+) -> Result<Accepted, ReaderFault>
     ensures { Judges (judgement_of keys message.now reply.now (length room.old))
         room.old result room.new }
 {
-    if message.len() == 0 {
-        return refused(ReaderFault::OwnMessage);
-    }
-    let kind = kind_of(message[0]);
+    let Some(first) = message.first() else {
+        return Err(ReaderFault::OwnMessage);
+    };
+    let kind = kind_of(*first);
     if !own_fits(keys, kind, message, room.len()) {
-        return refused(ReaderFault::OwnMessage);
+        return Err(ReaderFault::OwnMessage);
     }
     by_kind(keys, kind, message, reply, room)
 }

@@ -17,19 +17,16 @@ pub fn opened_block(keys: Keys, reply: &[u8]) -> [u8; 16]
     requires { 16 ≤ length reply.now }
     ensures { result ≡ opened_block keys reply.now }
 {
-    let enc = keys.enc;
-    aes_inverse::decrypt(enc, field::first_block(reply))
+    aes_inverse::decrypt(keys.enc, field::first_block(reply))
 }
 
 /// Does it start with the constant and end with the reader's own challenge? Ruled out: a constant that is not looked
 /// at; a challenge of which only the first bytes count.
+#[tactic(auto, unfolding(crate::specs::Opened::block_fits))]
 pub fn block_fits(constant: [u8; 2], ichallenge: [u8; 10], b: [u8; 16]) -> bool
     ensures { result ≡ block_fits constant ichallenge b }
 {
-    if !same(&b[..2], &constant) {
-        return false;
-    }
-    same(&b[6..], &ichallenge)
+    same(&b[..2], &constant) && same(&b[6..], &ichallenge)
 }
 
 /// The tag's challenge in the reply to MAM1 (9.6.4). Ruled out: the clear part alone; the opened bits before it.
@@ -49,13 +46,10 @@ pub fn open_data(keys: Keys, mode: ProtMode, f: Tam2, reply: &[u8], out: &mut [u
         reply.now) × (blocks_length f.custom.blocksize f.rev f.custom.blockcount ≤ length out.old) }
     ensures { out.new ≡ over (opened_data keys mode f reply.now) out.old }
 {
-    let custom = f.custom;
-    let size = custom.blocksize;
-    let end = 16 + blocks_length(size, f.rev, custom.blockcount);
+    let end = 16 + blocks_length(f.custom.blocksize, f.rev, f.custom.blockcount);
     if encrypts(mode) {
-        let enc = keys.enc;
         let iv = field::first_block(reply);
-        modes_inverse::cbc_dec_aes_inv(iv, enc, &reply[16..end], out).unwrap();
+        modes_inverse::cbc_dec_aes_inv(iv, keys.enc, &reply[16..end], out).unwrap();
         return;
     }
     out[..end - 16].copy_from_slice(&reply[16..end]);
@@ -69,9 +63,6 @@ pub fn mac_fits(keys: Keys, mode: ProtMode, f: Tam2, reply: &[u8]) -> bool
         (take (tam2_mac_at f.custom.blocksize f.rev f.custom.blockcount) reply.now)
         (drop (tam2_mac_at f.custom.blocksize f.rev f.custom.blockcount) reply.now) }
 {
-    let custom = f.custom;
-    let size = custom.blocksize;
-    let at = tam2_mac_at(size, f.rev, custom.blockcount);
-    let mackey = keys.mackey;
-    payload::mac_fits(mackey, mode, &reply[..at], &reply[at..])
+    let at = tam2_mac_at(f.custom.blocksize, f.rev, f.custom.blockcount);
+    payload::mac_fits(keys.mackey, mode, &reply[..at], &reply[at..])
 }

@@ -1,65 +1,53 @@
-// A finding as the judge says it.
-ghost use Rattle.std.specs.Prelude.{◌≡◌};
-ghost use Rattle.reader_judge.specs.Findings.{silent, refused, issues, carries, worth_of, said_of};
+// What the judge accepts, as it says it.
+ghost use Rattle.std.specs.Prelude.{◌≡◌, Result, Ok};
+ghost use Rattle.reader.specs.declared.ReaderFault.{ReaderFault};
+ghost use Rattle.reader_judge.specs.declared.Accepted.{Accepted};
+ghost use Rattle.reader_judge.specs.Findings.{nothing_more, issues, carries, worth_of, said_of};
 
-use super::{Judgement, Worth};
+use super::{Accepted, Worth};
 use frames::ProtMode;
 use frames::protection::has_mac;
-use reader::ReaderFault;
 
-/// A verdict alone. Ruled out: data that are counted where none came; a challenge that is not zeros.
-pub fn silent(verdict: Result<(), ReaderFault>) -> Judgement
-    ensures { result ≡ said_of (silent verdict) }
+/// Nothing but that it is accepted. Ruled out: data that are counted where none came; a challenge.
+pub fn nothing_more() -> Accepted
+    ensures { ◌≡◌ {A = Result Accepted ReaderFault} (Ok result) (said_of nothing_more) }
 {
-    Judgement {
-        verdict,
+    Accepted {
         data: 0,
         worth: Worth::NoData,
-        issued: false,
-        challenge: [0u8; 10],
+        challenge: None,
     }
 }
 
-/// A refusal. Ruled out: acceptance; another number.
-pub fn refused(fault: ReaderFault) -> Judgement
-    ensures { result ≡ said_of (refused fault) }
+/// A challenge that the tag issued. Ruled out: a challenge that is not reported; data.
+pub fn issues(challenge: [u8; 10]) -> Accepted
+    ensures { ◌≡◌ {A = Result Accepted ReaderFault} (Ok result) (said_of (issues challenge)) }
 {
-    silent(Err(fault))
-}
-
-/// A challenge that the tag issued. Ruled out: a challenge that is not reported as issued; a refusal.
-pub fn issues(challenge: [u8; 10]) -> Judgement
-    ensures { result ≡ said_of (issues challenge) }
-{
-    Judgement {
-        verdict: Ok(()),
-        data: 0,
-        worth: Worth::NoData,
-        issued: true,
-        challenge,
+    Accepted {
+        challenge: Some(challenge),
+        ..nothing_more()
     }
 }
 
 // What data are worth: only a MAC proves them (Table 3).
+#[tactic(auto, unfolding(crate::specs::Findings::worth_of))]
 fn worth_of(mode: ProtMode) -> Worth
     ensures { result ≡ worth_of mode }
 {
     if has_mac(mode) {
-        return Worth::Proved;
+        Worth::Proved
+    } else {
+        Worth::Unproved
     }
-    Worth::Unproved
 }
 
 /// Data, and what they are worth. Ruled out: data of ProtMode 1 called proved; one byte fewer counted.
-pub fn carries(mode: ProtMode, words: &[u8]) -> Judgement
-    ensures { result ≡ said_of (carries (worth_of mode) words.now) }
+pub fn carries(mode: ProtMode, words: &[u8]) -> Accepted
+    ensures { ◌≡◌ {A = Result Accepted ReaderFault} (Ok result) (said_of (carries (worth_of mode) words.now)) }
 {
-    let worth = worth_of(mode);
-    Judgement {
-        verdict: Ok(()),
+    Accepted {
         data: words.len(),
-        worth,
-        issued: false,
-        challenge: [0u8; 10],
+        worth: worth_of(mode),
+        challenge: None,
     }
 }

@@ -1,8 +1,8 @@
 -- `reader_judge::by_kind` meets its contract.
-use mathlib.Core.Path.{ap, ◌∙◌}
+use mathlib.Core.Path.{refl, ap, ◌∙◌}
 use Rattle.frames.specs.declared.Tam2.{Tam2}
 use Rattle.frames.specs.Fields.{custom_fits}
-use Rattle.reader_judge.proofs.Arms.{tam1_arm, tam2_arm, iam1_arm, iam2_arm, iam3_arm, mam1_arm, mam2_arm}
+use Rattle.reader_judge.proofs.Arms.{tam1_arm, tam2_arm, iam1_arm, empty_arm, mam1_arm}
 use Rattle.reader_judge.proofs.Arms.{none_arm}
 use Rattle.reader_judge.proofs.Clear.{tam2_in_range}
 use Rattle.reader_judge.proofs.by_kind.Goals as goal
@@ -26,17 +26,11 @@ pub returns-in-Iam1 : goal.returns-in-Iam1
 returns-in-Iam1 c = iam1_arm _ _ _ _ _ _ c.in-Iam1.is c.iam1.ensures
 
 pub returns-in-Iam2 : goal.returns-in-Iam2
-returns-in-Iam2 c = iam2_arm _ _ _ _ _ _ c.in-Iam2.is c.empty.ensures
-
-pub returns-in-Iam3 : goal.returns-in-Iam3
-returns-in-Iam3 c = iam3_arm _ _ _ _ _ _ c.in-Iam3.is c.empty-in-Iam3.ensures
+returns-in-Iam2 c = empty_arm _ _ _ _ _ _ c.in-Iam2.is c.empty.ensures
 
 pub returns-in-Mam1 : goal.returns-in-Mam1
 returns-in-Mam1 c = mam1_arm _ _ _ _ _ _ _ c.in-Mam1.is c.mam1_of.ensures
     c.mam1.ensures
 
-pub returns-in-Mam2 : goal.returns-in-Mam2
-returns-in-Mam2 c = mam2_arm _ _ _ _ _ _ c.in-Mam2.is c.empty-in-Mam2.ensures
-
 pub returns-in-Unsupported : goal.returns-in-Unsupported
-returns-in-Unsupported c = none_arm _ _ _ _ _ _ c.in-Unsupported.is c.refused.ensures
+returns-in-Unsupported c = none_arm _ _ _ _ _ _ c.in-Unsupported.is refl

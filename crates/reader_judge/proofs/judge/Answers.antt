@@ -1,23 +1,23 @@
 -- `reader_judge::judge` meets its contract.
-use mathlib.Core.Path.{refl, sym}
+use mathlib.Core.Path.{ap, sym, ◌∙◌}
 use lib.ListN.{length}
-use Rattle.reader_judge.specs.Findings.{refused}
+use Rattle.std.specs.Option.{option_copied}
 use Rattle.ground.proofs.Told.{said}
-use Rattle.reader_judge.proofs.Judging.{quiet, judges_as, no_message, own_told, room_enough}
+use Rattle.reader_judge.proofs.Judging.{refuses, judges_as, no_message, own_told, room_enough}
 use Rattle.reader_judge.proofs.judge.Goals as goal
 
-pub returns-then-message-eq0 : goal.returns-then-message-eq0
-returns-then-message-eq0 c = let a = c.args in
-    judges_as (no_message a.keys a.message.now a.reply.now (length a.room.now) c.if-message-eq0.true)
-    (quiet (refused _) _ _ refl c.refused.ensures)
+pub returns-in_default : goal.returns-in_default
+returns-in_default c = let a = c.args in
+    judges_as (no_message a.keys a.message.now a.reply.now (length a.room.now)
+    (sym c.first.ensures.value ∙ ap option_copied c.in_default.is)) (refuses _ _)
 
 pub returns-then-not-own_fits : goal.returns-then-not-own_fits
 returns-then-not-own_fits c = let a = c.args in
     judges_as
-    (sym (own_told a.keys a.message.now a.reply.now (length a.room.now) c.kind_of-kind.result
-    c.if-message-eq0.false c.kind_of-kind.ensures
+    (sym (own_told a.keys a.message.now a.reply.now (length a.room.now) _ c.kind_of-kind.result
+    (sym c.first.ensures.value ∙ ap option_copied c.in-Some.is) c.kind_of-kind.ensures
     (said c.own_fits.ensures c.if-not-own_fits.true)))
-    (quiet (refused _) _ _ refl c.refused-then-not-own_fits.ensures)
+    (refuses _ _)
 
 pub by_kind-requires : goal.by_kind-requires
 by_kind-requires c = let a = c.args in
@@ -27,7 +27,7 @@ by_kind-requires c = let a = c.args in
 pub returns : goal.returns
 returns c = let a = c.args in
     judges_as
-    (sym (own_told a.keys a.message.now a.reply.now (length a.room.now) c.kind_of-kind.result
-    c.if-message-eq0.false c.kind_of-kind.ensures
+    (sym (own_told a.keys a.message.now a.reply.now (length a.room.now) _ c.kind_of-kind.result
+    (sym c.first.ensures.value ∙ ap option_copied c.in-Some.is) c.kind_of-kind.ensures
     (said c.own_fits.ensures c.if-not-own_fits.false)))
     c.by_kind.ensures

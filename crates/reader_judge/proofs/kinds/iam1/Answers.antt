@@ -2,17 +2,13 @@
 use mathlib.Core.Path.{ap, ◌∙◌}
 use mathlib.Core.List.{List}
 use Prim.Native.Nat.{ℕ}
-use borrow.Author.Tests.{eq-eqb, ne_eqb}
-use Rattle.ground.proofs.Checked.{passes, fails, ends}
+use borrow.Author.Tests.{eq-eqb}
+use Rattle.ground.proofs.Checked.{passes, ends}
 use Rattle.octets.proofs.Parts.{whole}
 use Rattle.reader_judge.proofs.Judging.{told}
 use Rattle.reader_judge.specs.Findings.{said_of, issues}
 use Rattle.reader_judge.specs.Judged.{iam1_finding}
 use Rattle.reader_judge.proofs.kinds.iam1.Goals as goal
-
-pub returns-then-reply-ne10 : goal.returns-then-reply-ne10
-unfolding iam1_finding
-returns-then-reply-ne10 c = told (fails _ _ _ _ (ne_eqb _ _ c.if-reply-ne10.true)) c.refused.ensures
 
 pub returns : goal.returns
 unfolding iam1_finding

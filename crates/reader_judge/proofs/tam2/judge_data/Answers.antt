@@ -1,24 +1,23 @@
 -- `reader_judge::tam2::judge_data` meets its contract.
-use mathlib.Core.Path.{refl, sym}
+use mathlib.Core.Path.{sym}
 use lib.Seq.{length-take-le}
-use Rattle.reader_judge.specs.Findings.{refused}
 use Rattle.reader_judge.specs.Judged.{data_finding}
 use Rattle.ground.proofs.Told.{said}
 use Rattle.ground.proofs.Checked.{passes, fails}
-use Rattle.reader_judge.proofs.Judging.{quiet, judges_as}
+use Rattle.reader_judge.proofs.Judging.{refuses, judges_as}
 use Rattle.reader_judge.proofs.Clear.{words_held, stored}
 use Rattle.reader_judge.proofs.tam2.judge_data.Goals as goal
 
 pub returns-then-not-header_fits : goal.returns-then-not-header_fits
 unfolding data_finding
 returns-then-not-header_fits c = judges_as (fails _ _ _ _ (said c.header_fits.ensures c.if-not-header_fits.true))
-    (quiet (refused _) _ _ refl c.refused.ensures)
+    (refuses _ _)
 
 pub returns-then-not-filler_fits : goal.returns-then-not-filler_fits
 unfolding data_finding
 returns-then-not-filler_fits c = judges_as (passes _ _ _ _ (said c.header_fits.ensures c.if-not-header_fits.false)
     (fails _ _ _ _ (said c.filler_fits.ensures c.if-not-filler_fits.true)))
-    (quiet (refused _) _ _ refl c.refused-then-not-filler_fits.ensures)
+    (refuses _ _)
 
 pub slice_bounds-copy_from_slice-end : goal.slice_bounds-copy_from_slice-end
 slice_bounds-copy_from_slice-end c =

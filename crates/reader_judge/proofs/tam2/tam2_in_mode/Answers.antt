@@ -2,12 +2,11 @@
 use mathlib.Core.Path.{refl, sym, ◌∙◌}
 use native.Mathlib.Omega.{arith}
 use borrow.Author.Tests.{eq-eqb, ne_eqb}
-use Rattle.reader_judge.specs.Findings.{refused}
 use Rattle.reader_judge.specs.Judged.{tam2_in_mode}
 use Rattle.ground.proofs.Told.{said}
 use Rattle.ground.proofs.Checked.{passes, fails, ends}
 use Rattle.reader_judge.proofs.Places.{block_told}
-use Rattle.reader_judge.proofs.Judging.{quiet, judges_as}
+use Rattle.reader_judge.proofs.Judging.{refuses, judges_as}
 use Rattle.reader_judge.proofs.Clear.{mac_place, data_place}
 use Rattle.reader_judge.proofs.tam2.tam2_in_mode.Goals as goal
 
@@ -15,7 +14,7 @@ pub returns-then-reply-tam2_reply_length : goal.returns-then-reply-tam2_reply_le
 unfolding tam2_in_mode
 returns-then-reply-tam2_reply_length c = judges_as (fails _ _ _ _ (ne_eqb _ _
     (λ e. c.if-reply-tam2_reply_length.true (e ∙ sym c.tam2_reply_length.ensures))))
-    (quiet (refused _) _ _ refl c.refused.ensures)
+    (refuses _ _)
 
 pub opened_block-requires : goal.opened_block-requires
 opened_block-requires c = let a = c.args in
@@ -27,11 +26,11 @@ opened_block-requires c = let a = c.args in
 
 pub returns-then-not-block_fits : goal.returns-then-not-block_fits
 unfolding tam2_in_mode
-returns-then-not-block_fits c = let fact = block_told c.tam2_constant-constant.ensures refl c.opened_block.ensures
+returns-then-not-block_fits c = let fact = block_told c.tam2_constant.ensures refl c.opened_block.ensures
     c.block_fits.ensures in
     judges_as (passes _ _ _ _ (eq-eqb _ _ (c.if-reply-tam2_reply_length.false ∙ c.tam2_reply_length.ensures))
     (fails _ _ _ _ (said fact c.if-not-block_fits.true)))
-    (quiet (refused _) _ _ refl c.refused-then-not-block_fits.ensures)
+    (refuses _ _)
 
 pub mac_fits-requires : goal.mac_fits-requires
 mac_fits-requires c = let a = c.args in
@@ -40,13 +39,13 @@ mac_fits-requires c = let a = c.args in
 
 pub returns-then-not-mac_fits : goal.returns-then-not-mac_fits
 unfolding tam2_in_mode
-returns-then-not-mac_fits c = let fact = block_told c.tam2_constant-constant.ensures refl c.opened_block.ensures
+returns-then-not-mac_fits c = let fact = block_told c.tam2_constant.ensures refl c.opened_block.ensures
     c.block_fits.ensures in
     judges_as
     (passes _ _ _ _ (eq-eqb _ _ (c.if-reply-tam2_reply_length.false ∙ c.tam2_reply_length.ensures))
     (passes _ _ _ _ (said fact c.if-not-block_fits.false)
     (fails _ _ _ _ (said c.mac_fits.ensures c.if-not-mac_fits.true))))
-    (quiet (refused _) _ _ refl c.refused-then-not-mac_fits.ensures)
+    (refuses _ _)
 
 pub open_and_judge-requires : goal.open_and_judge-requires
 open_and_judge-requires c = let a = c.args in (
@@ -58,7 +57,7 @@ open_and_judge-requires c = let a = c.args in (
 
 pub returns : goal.returns
 unfolding tam2_in_mode
-returns c = let fact = block_told c.tam2_constant-constant.ensures refl c.opened_block.ensures
+returns c = let fact = block_told c.tam2_constant.ensures refl c.opened_block.ensures
     c.block_fits.ensures in
     judges_as
     (passes _ _ _ _ (eq-eqb _ _ (c.if-reply-tam2_reply_length.false ∙ c.tam2_reply_length.ensures))
