@@ -7,7 +7,6 @@ use crate::digits::{glyph, value};
 
 // A number with one digit more behind it, where it has 16 bits.
 pub(crate) fn behind(n: u16, c: u8) -> Option<u16>
-    requires { Digits·value c < 16 }
     ensures { SomeIff result (n * 10 + Digits·value c < 2 ^ 16) (n * 10 + Digits·value c) }
 {
     n.checked_mul(10)?.checked_add(u16::from(value(c)))

@@ -14,13 +14,11 @@ fn digit(c: u8) -> Option<u8>
     }
 }
 
-// The value of a character that is a digit.
+// The same as a number, 16 where the character is no digit: above every digit of every base.
 pub(crate) fn value(c: u8) -> u8
-    requires { Digits·value c < 16 }
-    ensures value { result ≡ Digits·value c }
-    ensures small { result < 16 }
+    ensures { result ≡ Digits·value c }
 {
-    digit(c).unwrap()
+    digit(c).unwrap_or(16)
 }
 
 // The digit of a value.
@@ -31,18 +29,9 @@ pub(crate) fn glyph(d: u8) -> u8
     if d < 10 { b'0' + d } else { b'a' + (d - 10) }
 }
 
-// Is the character a digit below the base?
-fn below(c: u8, base: u8) -> bool
-    requires { base ≤ 16 }
-    ensures { result ≡ ltb (Digits·value c) base }
-{
-    digit(c).is_some_and(|v| v < base)
-}
-
 // Is it a word of digits below the base: at least one, and nothing else?
 pub(crate) fn is_word(word: &[u8], base: u8) -> bool
-    requires { base ≤ 16 }
     ensures { result ≡ is_word base word.now }
 {
-    !word.is_empty() && word.iter().all(|c| below(*c, base))
+    !word.is_empty() && word.iter().all(|c| value(*c) < base)
 }

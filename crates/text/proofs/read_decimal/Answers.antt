@@ -1,20 +1,11 @@
 use mathlib.Core.Path.{refl, sym, ◌∙◌}
 use native.Mathlib.Omega.{arith}
-use Rattle.text.proofs.Words.{digit_at, all_digits}
 use Rattle.text.proofs.Decimals.{digit_behind, none_behind, past, not_number, too_large, number}
 use borrow.Author.Rules.{rules}
 use Rattle.text.proofs.read_decimal.Goals as goal
 
 pub returns-then-not-is_word : goal.returns-then-not-is_word
 returns-then-not-is_word c = not_number _ (sym c.is_word.ensures ∙ c.if-not-is_word.true)
-
-pub behind-requires : goal.behind-requires
-behind-requires c = let w = c.args.word.now in
-    omega (
-      arith,
-      digit_at 10 w c.loop-c.c-index (all_digits 10 w (sym c.is_word.ensures ∙ c.if-not-is_word.false))
-          (search rules),
-    )
 
 pub returns-in_default : goal.returns-in_default
 returns-in_default c = let w = c.args.word.now in
