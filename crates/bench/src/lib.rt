@@ -19,8 +19,7 @@ use tag::{Stepped, Tag};
 pub fn power_up(tag: &mut Tag)
     ensures { tag.new ≡ awake tag.old.terms }
 {
-    let before = *tag;
-    *tag = tag::power_up(before.terms);
+    *tag = tag::power_up(tag.terms);
 }
 
 /// A tag that is kept here for one power-up, and powered up where it is kept.
@@ -52,9 +51,9 @@ pub fn step(
         identity.old user.old) (keyed tag.old keys.now)) room.old
         (left result tag.new) room.new identity.new user.new }
 {
-    let s = tag::step(*tag, keys, message, draws, room, identity, user);
-    *tag = s.tag;
-    s.outcome
+    let stepped = tag::step(*tag, keys, message, draws, room, identity, user);
+    *tag = stepped.tag;
+    stepped.outcome
 }
 
 /// A tag that is kept here for one message, and stepped where it is kept.

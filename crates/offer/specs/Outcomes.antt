@@ -1,5 +1,5 @@
 -- What a message comes to, and the scope paper's "Numbers the tag gives".
-use Rattle.std.specs.Prelude.{ℕ, List, [], length, Result, Ok, Err}
+use Rattle.std.specs.Prelude.{ℕ, Result, Ok, Err}
 use Rattle.offer.specs.declared.Answer.{Answer}
 use Rattle.offer.specs.declared.Answer.TheVariants.{Replied, Entered}
 use Rattle.offer.specs.declared.TagFault.{TagFault}
@@ -35,10 +35,3 @@ reply_length (Err f) = 0
 abbrev pub settled : {A : Type 0} → Result Unit TagFault → A → (TagFault → A) → A
 settled (Ok tt) a refused = a
 settled (Err f) a refused = refused f
-
--- Bytes that are sent where all holds: the outcome, and what is sent.
-abbrev pub sending : Result Unit TagFault → List ℕ → Outcome
-sending v reply = settled v (Ok (Replied (length reply))) Err
-
-abbrev pub sent : Result Unit TagFault → List ℕ → List ℕ
-sent v reply = settled v reply (λ f. [])

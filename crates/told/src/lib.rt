@@ -14,7 +14,7 @@ pub fn outcome(rt: &impl Print, outcome: Outcome, state: State, room: &[u8]) -> 
             println!(rt; "reply {} state {state} purpose -", Hex(octets::front(room, n)))
         }
         Ok(Answer::Entered(purpose)) => println!(rt; "reply - state {state} purpose {purpose}"),
-        Err(_) => println!(rt; "refused {} state {state}", offer::number(outcome)),
+        Err(fault) => println!(rt; "refused {} state {state}", u8::from(fault)),
     }
 }
 

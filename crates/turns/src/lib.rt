@@ -117,7 +117,7 @@ pub fn number(next: Next, left: u8) -> u8
         Next::ReaderCloses => number_waiting(left),
         Next::TagEnds => number_waiting(left),
         Next::Done => 0,
-        Next::RefusedByTag(fault) => offer::number(Err(fault)),
+        Next::RefusedByTag(fault) => u8::from(fault),
         Next::RefusedByReader(fault) => u8::from(fault),
     }
 }
