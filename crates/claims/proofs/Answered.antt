@@ -1,14 +1,11 @@
 -- Demand 1, proved: by the cases of each list.
 use Rattle.sheet.specs.declared.SheetRefusal.{SheetRefusal}
 use Rattle.std.specs.Prelude.{Result, Ok, Err}
-use Rattle.sheet.specs.declared.Finding.TheVariants.{Taken, Ended}
-use Rattle.sheet.specs.declared.Finding.{Finding}
 use mathlib.Core.Path.{◌≡◌, refl, sym, ap, ◌∙◌}
 use mathlib.Core.Logic.{inl, inr}
 use mathlib.Core.Bool.{Bool, true, false}
 use mathlib.Core.List.{List, [], ◌∷◌, ◌++◌}
-use Prim.Native.Nat.{ℕ, zero, suc, ◌+◌}
-use native.Mathlib.Omega.{arith}
+use Prim.Native.Nat.{ℕ}
 use lib.ListN.{length, drop}
 use Rattle.ground.specs.Choice.{pick}
 use Rattle.modes.specs.Room.{over}
@@ -43,7 +40,7 @@ use Rattle.sheet.specs.Judgement.{
   with_lock,
 }
 use Rattle.sheet.specs.Limits.{key_limit}
-use Rattle.sheet.specs.Sheet.{read_of, walk, after, verdict_of, terms_read, keys_read}
+use Rattle.sheet.specs.Sheet.{read_of, after, verdict_of, terms_read, keys_read}
 use Rattle.offer.specs.declared.TagFault.{TagFault}
 use Rattle.offer.specs.declared.TagFault.TheVariants.{
   OtherError,
@@ -102,7 +99,7 @@ abbrev Leaves : Gathered → Judged → Type 0
 Leaves k j = (f : SheetFault) → j.finding ≡ Err f → j.gathered ≡ k
 
 record_leaves : (t : Bool) (q : Kind) (k next : Gathered) → Leaves k (pick t (taken q next) (refused Value k))
-record_leaves true q k next f e = let z : ◌≡◌ {A = ℕ} 0 1 = cc in absurd (omega arith)
+record_leaves true q k next f e = absurd cc
 record_leaves false q k next f e = refl
 
 kind_leaves : (q : Kind) (b : List ℕ) (k : Gathered) → Leaves k (record_of q b k)
@@ -131,7 +128,7 @@ record_answers s k f e = (sheet_number f, judged_leaves s k f e)
 -- a sheet that is refused gives no tag
 pub nothing_said : (r : Result Reading SheetRefusal) (x : SheetRefusal) → verdict_of r ≡ Err x
     → (terms_read r ≡ empty_terms) × (keys_read r ≡ 0)
-nothing_said (Ok r) x e = let z : ◌≡◌ {A = ℕ} 0 1 = cc in absurd (omega arith)
+nothing_said (Ok r) x e = absurd cc
 nothing_said (Err y) x e = (refl, refl)
 
 pub sheet_answers : SheetAnswers

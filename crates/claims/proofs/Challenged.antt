@@ -28,7 +28,7 @@ use Rattle.entry.specs.declared.State.{State}
 use Rattle.entry.specs.declared.State.TheVariants.{IamInit, MamInit}
 use Rattle.entry.specs.Sessions.{cleared}
 use Rattle.entry.specs.Replies.{mam1_reply}
-use Rattle.tag.specs.States.{keyed, at_rest, after_iam1, after_mam1, in_turn}
+use Rattle.tag.specs.States.{keyed, at_rest, in_turn}
 use Rattle.tag.specs.Answers.{replied, let_in, answer_with}
 use Rattle.tag.specs.Plays.{Brought, Step}
 use Rattle.reader.specs.declared.Keys.{Keys}
@@ -101,7 +101,7 @@ module _ (s : Start) (h : HasRecord s) where
 
     pub iam2_taken : answer_at (waiting IamInit (replicate 4 0)) iam2
         ≡ answer_with (setup_at s) (let_in (call_at s iam2) 0 s.identity s.user)
-    unfolding offered in_turn after_iam1
+    unfolding offered in_turn
     iam2_taken = iam2_enters (call_at s iam2) (keyed (waiting IamInit (replicate 4 0)).tag s.table) keys 0
         (replicate 4 0) (record { bench = lends s h 0; there = feature; turn = refl }) knows ten four purpose_0 refl
 
@@ -128,7 +128,7 @@ module _ (s : Start) (h : HasRecord s) where
 
     pub mam2_taken : answer_at (waiting MamInit (drop 6 (drawn 0))) mam2
         ≡ answer_with (setup_at s) (let_in (call_at s mam2) 0 s.identity s.user)
-    unfolding offered in_turn after_mam1
+    unfolding offered in_turn
     mam2_taken = mam2_enters (call_at s mam2) (keyed (waiting MamInit (drop 6 (drawn 0))).tag s.table) keys 0
         (drawn 0) (record { bench = lends s h 0; there = feature; turn = refl }) knows ten ten refl purpose_0 refl
 
@@ -166,7 +166,7 @@ module _ (s : Start) (w : HasWritable s) (words : List ℕ) where
         ≡ answer_with (setup_at s) (let_in (call_at s iam3) 0
         (stored_in Identity (block_asked (setup_at s).profiles w.custom) words s.identity)
         (stored_in User (block_asked (setup_at s).profiles w.custom) words s.user))
-    unfolding in_turn after_iam1
+    unfolding in_turn
     iam3_taken = iam3_enters (call_at s iam3) (keyed (waiting s held IamInit (replicate 4 0)).tag s.table)
         (keys s held) w.custom w.protmode 0 (replicate 4 0) words
         (record { bench = lends s held 0; there = w.iam3; turn = refl }) (knows s held) ten four bytes fits

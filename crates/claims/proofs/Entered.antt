@@ -25,7 +25,7 @@ use Rattle.entry.specs.declared.State.TheVariants.{IamInit, MamInit}
 use Rattle.offer.specs.declared.TagFault.TheVariants.{OutOfTurn}
 use Rattle.entry.specs.Sessions.{cleared}
 use Rattle.tag.specs.States.{KeyedTag, holding, powered_up}
-use Rattle.tag.specs.States.{after_iam1, after_mam1, in_turn}
+use Rattle.tag.specs.States.{in_turn}
 use Rattle.ground.specs.Checks.{judged_to}
 use Rattle.offer.specs.Judged.{lending_checks}
 use Rattle.offer.proofs.Bytes.{zeros_bytes}
@@ -69,7 +69,7 @@ abbrev iam2 : Call
 iam2 = call (iam2_made keys 0 (replicate 4 0) (drawn 0))
 
 iam2_waits : Waits iam2 (waiting IamInit) Iam2
-unfolding judged_to lending_checks offered in_turn after_iam1 setup terms
+unfolding judged_to lending_checks offered in_turn setup terms
 iam2_waits = record { bench = refl; there = refl; turn = refl }
 
 pub iam2_entered : answer_of iam2 (waiting IamInit) ≡ answer_with setup (let_in iam2 0 [] user)
@@ -80,7 +80,7 @@ iam2_entered = iam2_enters iam2 (waiting IamInit) keys 0 (replicate 4 0) iam2_wa
 pub iam2_after_power :
     answer_of iam2 (answer_to (waiting IamInit) [] user PowerUp).tag
     ≡ answer_with setup (refused iam2 OutOfTurn cleared)
-unfolding answer_to powered_up effect_of of_message in_order judged_to lending_checks offered in_turn after_iam1 cleared
+unfolding answer_to powered_up effect_of of_message in_order judged_to lending_checks offered in_turn cleared
     setup terms iam2_made iam2_message kind_of iam_kind
 iam2_after_power = refl
 
@@ -88,7 +88,7 @@ abbrev mam2 : Call
 mam2 = call (mam2_made keys 0 (replicate 10 0) (drawn 0))
 
 mam2_waits : Waits mam2 (waiting MamInit) Mam2
-unfolding judged_to lending_checks offered in_turn after_mam1 setup terms
+unfolding judged_to lending_checks offered in_turn setup terms
 mam2_waits = record { bench = refl; there = refl; turn = refl }
 
 pub mam2_entered : answer_of mam2 (waiting MamInit) ≡ answer_with setup (let_in mam2 0 [] user)
@@ -111,7 +111,7 @@ unfoldable pub iam3 : List ℕ
 iam3 = iam3_made keys custom 0 0 (replicate 4 0) (drawn 0) words
 
 iam3_waits : Waits (call iam3) (waiting IamInit) Iam3
-unfolding judged_to lending_checks offered in_turn after_iam1 setup terms
+unfolding judged_to lending_checks offered in_turn setup terms
 iam3_waits = record { bench = refl; there = refl; turn = refl }
 
 fits : iam3_fits keys custom 0 0 8 ≡ true

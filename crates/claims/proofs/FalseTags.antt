@@ -77,7 +77,7 @@ refuser = call_by_call (λ s b. says s (Err OtherError) b.room) stands
 
 pub refuser_is : (s : Start) → RefusesEverything s refuser
 unfolding refuser
-refuser_is s bs b = each_done _ _ _ (steps bs) s b (λ n e. (let z : ◌≡◌ {A = ℕ} 0 1 = cc in omega arith))
+refuser_is s bs b = each_done _ _ _ (steps bs) s b (λ n e. cc)
 
 -- ---- the tag with a single fixed reply: whatever comes, these bytes
 

@@ -71,7 +71,7 @@ use Rattle.claims.proofs.Rechained.{enc_undoes_dec_inv}
 accepted_first : (b : Bool) (x : Finding) (f : ReaderFault) → (pick b x (refused f)).verdict ≡ Ok tt → (b ≡ true)
     × (x.verdict ≡ Ok tt) × (pick b x (refused f) ≡ x)
 accepted_first true x f e = (refl, e, refl)
-accepted_first false x f e = let z : ◌≡◌ {A = ℕ} 0 1 = cc in absurd (omega arith)
+accepted_first false x f e = absurd cc
 
 none : (s : List ℕ) → length s ≡ 0 → s ≡ []
 none [] e = refl
@@ -262,7 +262,7 @@ module _ (keys : Keys) (key : Key) (share : Shares keys key) (he : Bytes keys.en
             → (let found = in_mode x (judged_in_mode keys f reply) (refused OwnMessage) in found.verdict ≡ Ok tt
             → reply ≡ in_mode x (tam2_in_mode key f found.bytes (trnd_in keys reply)) [])
         by (Some mode) h = in_mode_fixed mode h
-        by None h = let z : ◌≡◌ {A = ℕ} 0 1 = cc in absurd (omega arith)
+        by None h = absurd cc
 
   -- by kind
   iam1_fixed : (iam1_finding reply).verdict ≡ Ok tt → reply ≡ (iam1_finding reply).challenge
@@ -284,11 +284,11 @@ module _ (keys : Keys) (key : Key) (share : Shares keys key) (he : Bytes keys.en
   kind_fixed m Iam3 e = empty_fixed e
   kind_fixed m Mam1 e = mam1_fixed (mam1_of m) e
   kind_fixed m Mam2 e = empty_fixed e
-  kind_fixed m Unsupported e = let z : ◌≡◌ {A = ℕ} 0 1 = cc in absurd (omega arith)
+  kind_fixed m Unsupported e = absurd cc
 
 pub fixed : Fixed
 unfolding judgement_of of_kind
-fixed keys key [] reply room share he hr e = let z : ◌≡◌ {A = ℕ} 0 1 = cc in absurd (omega arith)
+fixed keys key [] reply room share he hr e = absurd cc
 fixed keys key (first ∷ rest) reply room share he hr e =
     let one = accepted_first (own_fits keys (kind_of first) (first ∷ rest) room)
     (by_kind keys (first ∷ rest) reply (kind_of first)) OwnMessage e in

@@ -35,6 +35,7 @@ use Rattle.reader_judge.specs.Findings.{said_of, Judges}
 use Rattle.reader_judge.specs.Judged.{iam1_finding, of_kind, judgement_of}
 use Rattle.reader_judge.specs.Judged as judge
 use Rattle.reader.specs.Own.{fields_fit, own_fits}
+use Rattle.reader_judge.proofs.Judging.{judges}
 use Rattle.claims.specs.Fixed.{trnd_in, remade}
 use Rattle.claims.specs.Recovery.{keyid_used, key_used, Shares, Fit, due}
 use Rattle.claims.proofs.Bench.{key, terms, table, setup, its_setup, sheet, sheet_read, said, bench, user, drawn}
@@ -93,7 +94,7 @@ pub challenge_recovered : (room : List ℕ) → 144 ≡ length room
     Judges (due call tag (answer_of call tag) (kind_of (byte_at iam1 0))) room (said_of found) (over found.bytes room))
 challenge_recovered room e =
     recovery_code table bench [] user (brings iam1 0) (answered 0) keys room _ _ called fit shares (omega arith) tt
-    (record { says = refl; number = refl; holds = refl })
+    (judges (judgement_of keys iam1 (take 10 (over (drawn 0) (replicate 172 0))) (length room)) room _ _ refl refl)
 
 -- an accepted reply is made again
 taken : (judgement_of keys iam1 (drawn 0) 144).verdict ≡ Ok tt

@@ -3,7 +3,6 @@ use Rattle.std.specs.Prelude.{Result, Ok, Err, Option, Some, None}
 use Rattle.offer.specs.Outcomes.{Outcome}
 use Rattle.offer.specs.declared.Answer.TheVariants.{Replied, Entered}
 use Prim.Native.Nat.{ℕ}
-use native.Mathlib.Omega.{arith}
 use mathlib.Core.Path.{◌≡◌, refl, ap}
 use mathlib.Core.Bool.{Bool, true, false}
 use mathlib.Core.List.{List, [], ◌∷◌}
@@ -68,8 +67,8 @@ first_proved key held f m h = by (prot_mode_of f.protmode) h
     by None e = e
 
 -- an outcome that lets in is neither a reply nor a refusal
-not_replied : {A : Type 0} (n purpose : ℕ) → Ok (Replied n) ≡ Ok (Entered purpose) → A
-not_replied n purpose e = let z : ◌≡◌ {A = ℕ} 0 1 = cc in absurd (omega arith)
+not_replied : {A : Type 0} (n purpose : ℕ) → ◌≡◌ {A = Outcome} (Ok (Replied n)) (Ok (Entered purpose)) → A
+not_replied n purpose e = absurd cc
 
 purpose_of : Outcome → ℕ
 purpose_of (Ok (Replied n)) = 0
@@ -84,8 +83,7 @@ module _ (c : Call) (tag : KeyedTag) (purpose : ℕ) where
   unfolding refused
   not_refused e h f s q =
       let g = ap (λ (x : Effect). x.outcome) q in
-      let z : ◌≡◌ {A = ℕ} 0 1 = cc in
-      absurd (omega arith)
+      absurd cc
 
   -- past its checks
   through : (v : Result Unit TagFault) (e : Effect) → LetsIn (if_fine c v e) → (v ≡ Ok tt) × LetsIn e

@@ -2,7 +2,7 @@
 -- areas, where the tag takes the message and the reader has the keys of the record that the tag uses, the judge accepts
 -- the reply, hands over exactly the words of the block that the message asks for, and holds the challenge that the tag
 -- holds.
-use Rattle.std.specs.Prelude.{ℕ, ◌≤◌, ◌≡◌, List, length, take, Ok, Err}
+use Rattle.std.specs.Prelude.{ℕ, ◌≤◌, ◌≡◌, List, length, take, Result, Ok, Err}
 use Rattle.offer.specs.Outcomes.{Outcome}
 use Rattle.offer.specs.declared.Answer.TheVariants.{Replied, Entered}
 use Rattle.ground.specs.Bytes.{Bytes, byte_at}
