@@ -39,8 +39,8 @@ tag_refused = tag_answers table bench [] user (brings [] 0) unanswered OtherErro
 
 pub judge_refused : (keys : Keys) → JudgeRefused (judgement_of keys [] [] 0) [] [] OwnMessage
 unfolding judgement_of
-judge_refused keys = judge_answers keys [] [] [] (Err OwnMessage) [] OwnMessage (record { says = refl; number = refl; holds = refl })
-    refl
+judge_refused keys = judge_answers keys [] [] [] (Err OwnMessage) [] OwnMessage
+    (record { says = refl; number = refl; holds = refl }) refl
 
 pub builder_refused : (reader.number_of OwnMessage ≡ 24) × (◌≡◌ {A = List ℕ} [] [])
 builder_refused = builder_answers true [] [] (Err OwnMessage) [] OwnMessage
@@ -55,7 +55,8 @@ pub record_refused : Among sheet_numbers (sheet.number_of Cut) × ((judged_of ke
 unfolding judged_of
 record_refused = record_answers [] nothing_gathered Cut refl
 
-pub chain_refused : (room.number_of (Err BlocksOrRoom) ≡ 0) ⊎ ((room.number_of (Err BlocksOrRoom) ≡ 8) × (◌≡◌ {A = List ℕ} [] []))
+pub chain_refused : (room.number_of (Err BlocksOrRoom) ≡ 0)
+    ⊎ ((room.number_of (Err BlocksOrRoom) ≡ 8) × (◌≡◌ {A = List ℕ} [] []))
 chain_refused = chain_answers false [] [] (Err BlocksOrRoom) [] (record { says = refl; number = refl; leaves = refl })
 
 pub layer_refused : ◌≡◌ {A = List ℕ} [] []

@@ -125,8 +125,8 @@ module _ (c : Call) where
     verdict = judged (lending_checks tag.setup.sizes (length c.draws) c.room (length c.identity)
         (length c.user))
 
-    bench_long : (v : Result Unit TagFault) → verdict ≡ v → Long (layout_length (kind_of (byte_at c.message 0)) c.message)
-        (of_lending c tag.setup tag.session v)
+    bench_long : (v : Result Unit TagFault) → verdict ≡ v
+        → Long (layout_length (kind_of (byte_at c.message 0)) c.message) (of_lending c tag.setup tag.session v)
     unfolding lending_checks
     bench_long (Ok tt) e = message_long tag.setup tag.session (eqb-true (length c.draws) 10 (first_holds _ _ e))
         c.message refl

@@ -67,8 +67,8 @@ TagAnswers =
 
 -- ---- the reader's side
 
--- `reader_judge::judge`: 20 to 24, and the data room as it was. Data and a challenge stand in what is accepted alone, and
--- the finding that is refused has none.
+-- `reader_judge::judge`: 20 to 24, and the data room as it was. Data and a challenge stand in what is accepted alone,
+-- and the finding that is refused has none.
 pub record JudgeRefused (found : Finding) (room after : List ℕ) (f : ReaderFault) : Type 0 where
   pub number : Among reader_numbers (reader.number_of f)
   pub silent : after ≡ room

@@ -96,14 +96,14 @@ unfolding entered at_rest
 entered_named named h = absurd (false≢true (sym h))
 
 iam_waits : (s : State) → after_iam1 s ≡ true → at_rest s ≡ false
-unfolding after_iam1 at_rest
+unfolding at_rest
 iam_waits Initial h = sym h
 iam_waits IamInit h = refl
 iam_waits MamInit h = refl
 iam_waits IaOk h = sym h
 
 mam_waits : (s : State) → after_mam1 s ≡ true → at_rest s ≡ false
-unfolding after_mam1 at_rest
+unfolding at_rest
 mam_waits Initial h = sym h
 mam_waits IamInit h = refl
 mam_waits MamInit h = refl
@@ -186,7 +186,8 @@ module _ (named : ℕ → Bool) (s t : Setup) (alike : SetupsAlike named s t) (x
         entered_named named;
   }
 
-  fine_alike : (v w : Result Unit TagFault) (a b : Effect) → v ≡ w → (v ≡ Ok tt → Step a b) → Step (if_fine c v a) (if_fine d w b)
+  fine_alike : (v w : Result Unit TagFault) (a b : Effect) → v ≡ w → (v ≡ Ok tt → Step a b)
+      → Step (if_fine c v a) (if_fine d w b)
   unfolding if_fine
   fine_alike v w a b e h = subst (λ (z : Result Unit TagFault). Step (if_fine c v a) (if_fine d z b)) e (as_judged v h)
     where
