@@ -94,6 +94,7 @@ fn tam2_first(blocksize: BlockSize, rev: bool) -> u8
 }
 
 // The header's bytes before the zeros.
+#[tactic(auto, using(crate::proofs::Range::custom_range), unfolding(crate::specs::Header::header_start))]
 fn header_start(custom: Custom) -> [u8; 3]
     requires { custom_fits custom ≡ true }
     ensures { result ≡ header_start custom }
@@ -110,6 +111,7 @@ fn header_start(custom: Custom) -> [u8; 3]
 }
 
 // Table 4. Ruled out: a KeyID behind the challenge, and a byte of the room changed where it is too short.
+#[tactic(auto, unfolding(crate::specs::Messages::tam1_message))]
 pub fn tam1_into(f: Tam1, room: &mut [u8]) -> bool
     ensures { Built (rfu_fits f.rfu) tam1_length (tam1_message f) room.old result room.new }
 {
@@ -138,6 +140,7 @@ pub fn tam2_into(f: Tam2, room: &mut [u8]) -> bool
 }
 
 // Table 15. Ruled out: RFU bits sent on, and the first byte of MAM1.
+#[tactic(auto, unfolding(crate::specs::Messages::iam1_message))]
 pub fn iam1_into(f: Iam1, room: &mut [u8]) -> bool
     ensures { Built (rfu_fits f.rfu) iam1_length (iam1_message f) room.old result room.new }
 {
@@ -150,6 +153,7 @@ pub fn iam1_into(f: Iam1, room: &mut [u8]) -> bool
 }
 
 // Table 17. Ruled out: the first byte of IAM3, and a room of 16 bytes taken.
+#[tactic(auto, unfolding(crate::specs::Messages::iam2_message))]
 pub fn iam2_into(f: Iam2, room: &mut [u8]) -> bool
     ensures { Built (rfu_fits f.rfu) iam2_length (iam2_message f) room.old result room.new }
 {
@@ -180,6 +184,7 @@ pub fn iam3_into(f: Iam3, room: &mut [u8]) -> bool
 }
 
 // Table 23. Ruled out: the first byte of TAM1, and a challenge of nine bytes.
+#[tactic(auto, unfolding(crate::specs::Messages::mam1_message))]
 pub fn mam1_into(f: Mam1, room: &mut [u8]) -> bool
     ensures { Built (rfu_fits f.rfu) mam1_length (mam1_message f) room.old result room.new }
 {
@@ -192,6 +197,7 @@ pub fn mam1_into(f: Mam1, room: &mut [u8]) -> bool
 }
 
 // Table 25. Ruled out: an RFU of 8 taken, and the first byte of IAM2.
+#[tactic(auto, unfolding(crate::specs::Messages::mam2_message))]
 pub fn mam2_into(f: Mam2, room: &mut [u8]) -> bool
     ensures { Built (rfu_fits f.rfu) mam2_length (mam2_message f) room.old result room.new }
 {

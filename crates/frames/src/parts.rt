@@ -14,6 +14,7 @@ fn put(room: &mut [u8], at: usize, src: &[u8])
 
 // Three parts, one after the other, into the first bytes of a room.
 // Ruled out: a part written before it is known that all fit, and bytes behind the parts cleared.
+#[tactic(auto, using(crate::proofs::Joins::joined, crate::proofs::Joins::too_short))]
 pub fn join(room: &mut [u8], a: &[u8], b: &[u8], c: &[u8]) -> bool
     ensures { Built true (length a.now + length b.now + length c.now)
         (a.now ++ (b.now ++ c.now)) room.old result room.new }

@@ -80,6 +80,7 @@ pub fn d_of(size: BlockSize, header: bool, blockcount: u8) -> usize
 }
 
 // The bytes of all D blocks. Ruled out: D itself, and D of the other block size.
+#[tactic(auto, using(crate::proofs::Least::blocks_bound), unfolding(crate::specs::Blocks::blocks_length))]
 pub fn blocks_length(size: BlockSize, header: bool, blockcount: u8) -> usize
     ensures { result ≡ blocks_length size header blockcount }
 {
@@ -95,6 +96,7 @@ pub fn mac_length(mode: ProtMode) -> usize
 }
 
 // Where the MAC of IAM3 stands, behind the data blocks (9.5.8). Ruled out: 16 + 16D, and a place without the header.
+#[tactic(auto, using(crate::proofs::Least::blocks_bound), unfolding(crate::specs::Lengths::iam3_mac_at))]
 pub fn iam3_mac_at(size: BlockSize, blockcount: u8) -> usize
     ensures { result ≡ iam3_mac_at size blockcount }
 {
@@ -109,6 +111,7 @@ pub fn iam3_length(size: BlockSize, blockcount: u8, mode: ProtMode) -> usize
 }
 
 // Where the MAC of a TAM2 reply stands (Tables 9, 10, 13, 14). Ruled out: a header counted in Rev 0, and 20 + 16D.
+#[tactic(auto, using(crate::proofs::Least::blocks_bound), unfolding(crate::specs::Lengths::tam2_mac_at))]
 pub fn tam2_mac_at(size: BlockSize, rev: bool, blockcount: u8) -> usize
     ensures { result ≡ tam2_mac_at size rev blockcount }
 {

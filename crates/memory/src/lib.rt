@@ -199,7 +199,6 @@ fn put(area: &mut [u8], block: Block, bytes: &[u8])
 /// Nothing is stored where the bytes are not as many as the block's, or the block runs past the area.
 ///
 /// Ruled out: a store into the other area; a store that also writes filler past the block.
-#[tactic(auto, unfolding(crate::specs::Areas::stored_in, crate::specs::Address::same_area, crate::specs::Address::area_number))]
 pub fn store(identity: &mut [u8], user: &mut [u8], block: Block, bytes: &[u8])
     ensures { (identity.new ≡ stored_in Area.Identity block bytes.now identity.old)
         × (user.new ≡ stored_in Area.User block bytes.now user.old) }

@@ -15,4 +15,3 @@ twelve_bits n a b c d mode e p q r s = omega (arith, by_mode_le a b c d mode 0xF
 pub with_purpose-requires : goal.with_purpose-requires
 with_purpose-requires c =
     twelve_bits _ _ _ _ _ _ c.by_mode.ensures (omega arith) (omega arith) (omega arith) (omega arith)
-
