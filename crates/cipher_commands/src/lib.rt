@@ -59,7 +59,11 @@ fn chained<F: Fn([u8; 16], [u8; 16], &[u8], &mut [u8]) -> Result<(), ChainingFau
     let input = fields.bytes()?;
     let mut room = Bytes::<FIELD_LIMIT>::zeros(fields.room()?);
     let done = form(iv, key, input.as_slice(), room.as_mut_slice());
-    told(rt, done, octets::front(room.as_slice(), input.as_slice().len()))?;
+    told(
+        rt,
+        done,
+        octets::front(room.as_slice(), input.as_slice().len()),
+    )?;
     Ok(())
 }
 

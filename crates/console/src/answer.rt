@@ -1,7 +1,6 @@
 // Bytes as they are answered.
 use crate::bytes::FIELD_LIMIT;
-use std::fmt;
-use std::str;
+use std::{fmt, str};
 
 // Two digits for each byte. No byte string here is longer than a field.
 const DIGITS: usize = 2 * FIELD_LIMIT;

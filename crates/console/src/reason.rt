@@ -1,6 +1,5 @@
 // What a line is refused for.
-use std::fmt;
-use std::io;
+use std::{fmt, io};
 use text::{DecimalFault, HexFault};
 
 /// What is said of a line that is refused, behind `error: `.

@@ -29,7 +29,10 @@ impl<'a> Iterator for Words<'a> {
         let rest = self.rest;
         let start = rest.iter().position(|b| !is_blank(*b))?;
         let behind = &rest[start + 1..];
-        let more = behind.iter().position(|b| is_blank(*b)).unwrap_or(behind.len());
+        let more = behind
+            .iter()
+            .position(|b| is_blank(*b))
+            .unwrap_or(behind.len());
         let end = start + 1 + more;
         self.rest = &rest[end..];
         Some(&rest[start..end])

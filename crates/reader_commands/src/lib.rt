@@ -7,8 +7,8 @@ use console::answer::Hex;
 use console::fields::Fields;
 use console::reason::{Fault, Reason};
 use console::words::Words;
-use orders::Order;
 use frames::sizes::{DATA_ROOM, MESSAGE_ROOM};
+use orders::Order;
 use reader::{Keys, ReaderFault};
 use reader_judge::{Accepted, Worth, judge};
 use std::io;
@@ -68,17 +68,22 @@ impl Reader {
 }
 
 fn told(rt: &impl Print, judgement: Result<Accepted, ReaderFault>, room: &[u8]) -> io::Result<()> {
-    let accepted = match judgement {
-        Ok(accepted) => accepted,
-        Err(fault) => return println!(rt; "refused {}", u8::from(fault)),
+    match judgement {
+        Ok(accepted) => accepted_told(rt, accepted, room),
+        Err(fault) => println!(rt; "refused {}", u8::from(fault)),
+    }
+}
+
+fn accepted_told(rt: &impl Print, accepted: Accepted, room: &[u8]) -> io::Result<()> {
+    let data = Hex(octets::front(room, accepted.data));
+    let challenge = match &accepted.challenge {
+        Some(challenge) => Hex(challenge),
+        None => Hex(b""),
     };
-    let data = octets::front(room, accepted.data);
-    let challenge = accepted.challenge.unwrap_or([0; 10]);
-    let issued: &[u8] = if accepted.challenge.is_some() { &challenge } else { &[] };
     let worth = match accepted.worth {
         Worth::NoData => "-",
         Worth::Unproved => "unproved",
         Worth::Proved => "proved",
     };
-    println!(rt; "accepted data {} challenge {} {worth}", Hex(data), Hex(issued))
+    println!(rt; "accepted data {data} challenge {challenge} {worth}")
 }

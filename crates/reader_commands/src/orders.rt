@@ -159,9 +159,17 @@ impl Open {
     /// The message in the room's first bytes; its length.
     pub fn made(self, room: &mut [u8]) -> Result<usize, ReaderFault> {
         match self {
-            Open::Tam1(fields) => reader_build::tam1(byte(fields.keyid)?, whole(fields.ichallenge)?, room),
+            Open::Tam1(fields) => reader_build::tam1(
+                byte(fields.keyid)?,
+                whole(fields.ichallenge)?,
+                room,
+            ),
             Open::Iam1 { keyid } => reader_build::iam1(byte(keyid)?, room),
-            Open::Mam1(fields) => reader_build::mam1(byte(fields.keyid)?, whole(fields.ichallenge)?, room),
+            Open::Mam1(fields) => reader_build::mam1(
+                byte(fields.keyid)?,
+                whole(fields.ichallenge)?,
+                room,
+            ),
         }
     }
 }
@@ -181,7 +189,15 @@ impl Keyed {
                 let keyid = byte(keyid)?;
                 let ichallenge = whole(ichallenge)?;
                 let custom = custom(blocksize, place)?;
-                reader_build::tam2(keys, keyid, ichallenge, bit(rev)?, custom, byte(protmode)?, room)
+                reader_build::tam2(
+                    keys,
+                    keyid,
+                    ichallenge,
+                    bit(rev)?,
+                    custom,
+                    byte(protmode)?,
+                    room,
+                )
             }
             Keyed::Iam2 {
                 purpose,
@@ -202,13 +218,28 @@ impl Keyed {
                 let purpose = byte(purpose)?;
                 let irnd = whole(irnd)?;
                 let tchallenge = whole(tchallenge)?;
-                reader_build::iam3(keys, custom, protmode, purpose, irnd, tchallenge, data.as_slice(), room)
+                reader_build::iam3(
+                    keys,
+                    custom,
+                    protmode,
+                    purpose,
+                    irnd,
+                    tchallenge,
+                    data.as_slice(),
+                    room,
+                )
             }
             Keyed::Mam2 {
                 purpose,
                 ichallenge,
                 tchallenge,
-            } => reader_build::mam2(keys, byte(purpose)?, whole(ichallenge)?, whole(tchallenge)?, room),
+            } => reader_build::mam2(
+                keys,
+                byte(purpose)?,
+                whole(ichallenge)?,
+                whole(tchallenge)?,
+                room,
+            ),
         }
     }
 }

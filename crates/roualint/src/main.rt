@@ -9,9 +9,14 @@ fn main(rt: HostRuntime) -> io::Result<()> {
     let mut word = [0; 16];
     match rt.arg(1, &mut word) {
         Err(FillError::NotPresent) => input::lines(&rt),
-        Ok(n) if word[..n] == b"demo"[..] && !is_there(&rt, 2) => input::script(&rt, texts::demo::SCRIPT),
+        Ok(n) if word[..n] == b"demo"[..] && !is_there(&rt, 2) => input::script(
+            &rt,
+            texts::demo::SCRIPT,
+        ),
         _ => {
-            println!(rt; "error: unknown argument; give commands on standard input, or the argument demo")
+            println!(rt;
+                "error: unknown argument; give commands on standard input, or the argument demo"
+            )
         }
     }
 }

@@ -51,7 +51,10 @@ impl Place {
         match bench::cursor::read(sheet.as_slice()) {
             Err(SheetRefusal { fault, at }) => println!(rt; "refused {} at {at}", u8::from(fault))?,
             Ok(reading) => {
-                *self = Place::set_up(reading.terms, sheet::key_table(sheet.as_slice(), reading.keys));
+                *self = Place::set_up(
+                    reading.terms,
+                    sheet::key_table(sheet.as_slice(), reading.keys),
+                );
                 println!(rt; "ok")?;
             }
         }
@@ -72,7 +75,11 @@ impl Place {
 
     pub fn areas(&self, rt: &impl Print, words: Words<'_>) -> Result<(), Fault> {
         Fields::exactly(words, 0)?;
-        println!(rt; "area 0 {} area 1 {}", Hex(self.identity.as_slice()), Hex(self.user.as_slice()))?;
+        println!(rt;
+            "area 0 {} area 1 {}",
+            Hex(self.identity.as_slice()),
+            Hex(self.user.as_slice())
+        )?;
         Ok(())
     }
 
@@ -83,7 +90,11 @@ impl Place {
         Ok(())
     }
 
-    pub fn message(&mut self, rt: &(impl Print + RandomSource), words: Words<'_>) -> Result<(), Fault> {
+    pub fn message(
+        &mut self,
+        rt: &(impl Print + RandomSource),
+        words: Words<'_>,
+    ) -> Result<(), Fault> {
         let mut fields = Fields::between(words, 1, 3)?;
         let message = fields.bytes()?;
         let given = given_draws(fields.word())?;

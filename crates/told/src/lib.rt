@@ -11,7 +11,10 @@ pub fn outcome(rt: &impl Print, outcome: Outcome, state: State, room: &[u8]) -> 
     let state = name(state);
     match outcome {
         Ok(Answer::Replied(n)) => {
-            println!(rt; "reply {} state {state} purpose -", Hex(octets::front(room, n)))
+            println!(rt;
+                "reply {} state {state} purpose -",
+                Hex(octets::front(room, n))
+            )
         }
         Ok(Answer::Entered(purpose)) => println!(rt; "reply - state {state} purpose {purpose}"),
         Err(fault) => println!(rt; "refused {} state {state}", u8::from(fault)),

@@ -9,12 +9,11 @@ use std::path::{Path, PathBuf};
 pub const PROGRAM: &str = "roualint";
 
 /// What reads commands and writes answers, and holds nothing of the standard.
-const AROUND: [&str; 10] = [
+const AROUND: [&str; 9] = [
     "cipher_commands",
     "commands",
     "console",
     "input",
-    "lines",
     "reader_commands",
     "tag_commands",
     "text",
