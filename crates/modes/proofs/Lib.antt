@@ -3,6 +3,7 @@ pub mod Mac
 pub mod Rooms
 pub mod Whole
 pub mod Parts
+pub mod Forms
 pub mod Undone
 pub mod Results
 pub mod MacBytes

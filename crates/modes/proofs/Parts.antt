@@ -11,6 +11,7 @@ use Rattle.field.proofs.Block.{first_block_is}
 use Rattle.modes.specs.Blocks.{whole_blocks, joined}
 use Rattle.modes.specs.Cbc.{cbc_enc, cbc_dec}
 use Rattle.modes.specs.Room.{over}
+use Rattle.modes.specs.Forms.{outputs, handed}
 use Rattle.modes.proofs.Chains.{over_both, onward}
 use Rattle.modes.proofs.Whole.{joined_append, whole_parts, whole_last, whole_count}
 
@@ -45,10 +46,16 @@ dec_form F = record {
   sixteen = λ iv i. refl;
 }
 
--- what a chain over blocks hands on
-unfoldable pub handed : (List ℕ → List ℕ → List ℕ) → List ℕ → List (List ℕ) → List ℕ
-handed on iv [] = iv
-handed on iv (b ∷ bs) = handed on (on iv b) bs
+-- The form whose output blocks and what it hands on are given, block by block.
+pub form_of : (out on : List ℕ → List ℕ → List ℕ) → ((iv i : List ℕ) → length (out iv i) ≡ 16) → Form (outputs out on)
+unfolding outputs
+form_of out on h = record {
+  out = out;
+  on = on;
+  none = λ iv. refl;
+  more = λ iv i is. refl;
+  sixteen = h;
+}
 
 -- it is what the last block hands on
 handed_last : (on : List ℕ → List ℕ → List ℕ) (bs : List (List ℕ)) (c iv : List ℕ)
@@ -229,6 +236,20 @@ module _ (F : List ℕ → List ℕ) (s : List ℕ) (at end : ℕ) (w : (end - a
       part_chained (cbc_dec F) f s at end (end - at) p w h chained room last k done next
       (read ∙ hands_input (cbc_dec F) f s at end (end - at) p w h chained room last k done (omega arith)
       (end - (end - 16)) (omega arith) (λ iv b. refl))
+
+-- a part chained in its own place, for the loop: what it handed on is what the rest is chained to
+pub next_part : (out on : List ℕ → List ℕ → List ℕ) → ((iv i : List ℕ) → length (out iv i) ≡ 16) → (s : List ℕ)
+    (at end : ℕ) → (end - at) % 16 ≡ 0 → at + 16 ≤ end → end ≤ length s → (chained room last next : List ℕ)
+    → length s ≤ length room
+    → last ≡ over (joined (outputs out on chained (whole_blocks (take (end - at) (drop at s)))))
+    (take (end - at) (drop at room))
+    → next ≡ handed on chained (whole_blocks (take (end - at) (drop at s)))
+    → onward (outputs out on) s end next (take at room ++ (last ++ drop (end - at) (drop at room)))
+    ≡ onward (outputs out on) s at chained room
+unfolding form_of
+next_part out on sixteen s at end w long h chained room last next k done e =
+    let p : at + (end - at) ≡ end = omega arith in
+    part_chained (outputs out on) (form_of out on sixteen) s at end (end - at) p w h chained room last k done next e
 
 -- What holds before each part: the blocks before `at` are done, and those from there on, chained to `chained`, complete
 -- the chain.

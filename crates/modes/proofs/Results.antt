@@ -1,22 +1,15 @@
 -- The results of the forms over AES-ENC are bytes, as many as came in.
-use mathlib.Core.Path.{◌≡◌, refl, ◌∙◌}
+use mathlib.Core.Path.{◌≡◌, ◌∙◌}
 use mathlib.Core.List.{List}
 use Prim.Native.Nat.{ℕ, ◌%◌}
 use native.Mathlib.Omega.{arith}
 use lib.ListN.{length}
 use Rattle.ground.specs.Bytes.{Bytes}
-use Rattle.field.specs.Block.{xor}
 use Rattle.field.proofs.Block.{Block}
-use Rattle.aes.specs.Cipher.{cipher}
 use Rattle.aes.specs.AesEnc.{aes_enc}
 use Rattle.aes.proofs.Forward.{enc_block}
 use Rattle.modes.specs.Cbc.{cbc_enc_aes, cbc_dec_aes}
 use Rattle.modes.proofs.Undone.{enc_bytes, dec_bytes, enc_length, dec_length}
-
--- AES-ENC of anything has sixteen bytes
-pub aes_enc_sixteen : (key s : List ℕ) → length (aes_enc key s) ≡ 16
-unfolding aes_enc cipher xor
-aes_enc_sixteen key s = refl
 
 module _ (iv key s : List ℕ) (v : Bytes iv) (k : Bytes key) (h : Bytes s) where
   forward : (b : List ℕ) → Block b → Block (aes_enc key b)

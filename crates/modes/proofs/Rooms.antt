@@ -1,7 +1,8 @@
 -- The answers of the calls that write into a lent room, each test taken or left.
-use Rattle.std.specs.Prelude.{Ok, Err}
+use Rattle.std.specs.Prelude.{Result, Ok, Err}
+use Rattle.modes.specs.declared.ChainingFault.{ChainingFault}
 use Rattle.modes.specs.declared.ChainingFault.TheVariants.{BlocksOrRoom}
-use mathlib.Core.Path.{◌≡◌, sym, ap, ap₂, ◌∙◌}
+use mathlib.Core.Path.{◌≡◌, sym, ap, ap₂, ◌∙◌, subst}
 use mathlib.Core.Bool.{Bool, true, false, false≢true}
 use mathlib.Core.List.{List, ◌++◌}
 use Prim.Native.Nat.{ℕ, ◌%◌, ◌<◌, ◌≤◌}
@@ -30,6 +31,12 @@ done taken out room after e f = record {
 pub copied : (out room front : List ℕ) (n : ℕ) → length out ≡ n → front ≡ out → front ++ drop n room ≡ over out room
 copied out room front n l e =
     ap (λ (s : List ℕ). s ++ drop n room) e ∙ ap (λ (k : ℕ). out ++ drop k room) (sym l)
+
+-- the same output by another name
+pub renamed : {taken : Bool} {out out' room after : List ℕ} {answer : Result Unit ChainingFault} → out ≡ out'
+    → Into taken out room answer after → Into taken out' room answer after
+renamed {taken} {out} {out'} {room} {after} {answer} e i =
+    subst (λ (o : List ℕ). Into taken o room answer after) e i
 
 second : (a b : Bool) → both a b ≡ true → b ≡ true
 second true b e = e

@@ -6,6 +6,8 @@ use Rattle.modes.proofs.number.Reads as number
 use Rattle.modes.proofs.number.Kinds as number-kinds
 use Rattle.modes.proofs.takes.Reads as takes
 use Rattle.modes.proofs.takes.Kinds as takes-kinds
+use Rattle.modes.proofs.chain_into.Reads as chain-into
+use Rattle.modes.proofs.chain_into.Kinds as chain-into-kinds
 use Rattle.modes.proofs.cbc_enc_aes.Reads as cbc-enc-aes
 use Rattle.modes.proofs.cbc_enc_aes.Kinds as cbc-enc-aes-kinds
 use Rattle.modes.proofs.cbc_dec_aes.Reads as cbc-dec-aes
@@ -27,3 +29,7 @@ cbc_dec_aes_one κs a x y v w p q = (one p.says q.says, refl & refl & refl & one
 
 pub cmac_96_one : OneAnswer 2 cmac-96-kinds.ps cmac-96-kinds.r cmac-96.Post
 cmac_96_one κs a x y v w p q = (one p.says q.says, refl & refl & one p.leaves q.leaves & refl)
+
+pub chain_into_one : (T : _) (L : _) (G : _) (D : _)
+    → OneAnswer 3 (chain-into-kinds.ps T L) (chain-into-kinds.r T L) (chain-into.Post T L G D)
+chain_into_one T L G D κs a x y v w p q = (one p.says q.says, refl & refl & refl & one p.leaves q.leaves & refl)

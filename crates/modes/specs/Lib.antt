@@ -2,3 +2,4 @@ pub mod Blocks
 pub mod Cbc
 pub mod Cmac
 pub mod Room
+pub mod Forms

@@ -2,8 +2,11 @@
 // 800-38B).
 #![tactic(auto)]
 
-ghost use Rattle.std.specs.Prelude.{◌≡◌, ◌≤◌, ◌%◌, length};
-ghost use Rattle.modes.specs.Blocks.{whole_blocks};
+ghost use Rattle.std.specs.Prelude.{◌≡◌, ◌≤◌, ◌%◌, ℕ, List, length};
+ghost use Rattle.field.specs.Block.{xor};
+ghost use Rattle.aes.specs.AesEnc.{aes_enc};
+ghost use Rattle.modes.specs.Blocks.{whole_blocks, joined};
+ghost use Rattle.modes.specs.Forms.{outputs, handed, enc_out, dec_out, aes_enc_sixteen, xor_sixteen};
 ghost use Rattle.modes.specs.Cbc.{cbc_enc_aes, cbc_dec_aes};
 ghost use Rattle.modes.specs.Cmac.{doubled, subkey1, mac_chain, cmac, cmac96};
 ghost use Rattle.modes.specs.Room.{Into, chains, macs, over, number_of};
@@ -34,10 +37,67 @@ pub fn number(answer: Result<(), ChainingFault>) -> u8
 pub fn takes(input: usize, room: usize) -> bool
     ensures { result ≡ chains input room }
 {
-    if input % 16 != 0 {
-        return false;
+    input % 16 == 0 && input <= room
+}
+
+// What a form of chaining makes of a block: its output block, and what the next block is chained to.
+#[derive(Clone, Copy)]
+pub struct Link {
+    pub output: [u8; 16],
+    pub next: [u8; 16],
+}
+
+// A form of chaining (3.1.8 to 3.1.11), block by block.
+pub trait Form {
+    // The output block, under a key, of what a block is chained to and of the block itself.
+    ghost out: { List ℕ → List ℕ → List ℕ → List ℕ };
+
+    // What the next block is chained to.
+    ghost on: { List ℕ → List ℕ → List ℕ → List ℕ };
+
+    fn link(key: [u8; 16], chained: [u8; 16], block: [u8; 16]) -> Link
+        ensures output { result.output ≡ out key chained block }
+        ensures next { result.next ≡ on key chained block };
+
+    ghost sixteen: { (key chained b : List ℕ) → length (out key chained b) ≡ 16 };
+}
+
+// Each block is chained to the output block before it.
+struct CbcEncAes;
+
+impl Form for CbcEncAes {
+    ghost out = { enc_out aes_enc };
+
+    ghost on = { enc_out aes_enc };
+
+    ghost sixteen = { λ key chained b. aes_enc_sixteen key (xor b chained) };
+
+    fn link(key: [u8; 16], chained: [u8; 16], block: [u8; 16]) -> Link {
+        let output = aes::encrypt(key, field::xor(block, chained));
+        Link {
+            output,
+            next: output,
+        }
     }
-    input <= room
+}
+
+// Each block is chained to the input block before it.
+struct CbcDecAes;
+
+impl Form for CbcDecAes {
+    ghost out = { dec_out aes_enc };
+
+    ghost on = { λ key chained b. b };
+
+    ghost sixteen = { λ key chained b. xor_sixteen (aes_enc key b) chained };
+
+    fn link(key: [u8; 16], chained: [u8; 16], block: [u8; 16]) -> Link {
+        let output = field::xor(aes::encrypt(key, block), chained);
+        Link {
+            output,
+            next: block,
+        }
+    }
 }
 
 // CBC_ENC_AES (IV, key, data) into the first bytes of the room. Refused where the input is no whole number of blocks,
@@ -51,11 +111,7 @@ pub fn cbc_enc_aes(
     ensures { Into (chains (length input.now) (length room.old))
         (cbc_enc_aes iv key input.now) room.old result room.new }
 {
-    if takes(input.len(), room.len()) {
-        enc_parts(iv, key, input, room);
-        return Ok(());
-    }
-    Err(ChainingFault::BlocksOrRoom)
+    chain_into::<CbcEncAes>(key, iv, input, room)
 }
 
 // CBC_DEC_AES (IV, key, data) into the first bytes of the room. Refused as cbc_enc_aes is.
@@ -69,11 +125,25 @@ pub fn cbc_dec_aes(
     ensures { Into (chains (length input.now) (length room.old))
         (cbc_dec_aes iv key input.now) room.old result room.new }
 {
-    if takes(input.len(), room.len()) {
-        dec_parts(iv, key, input, room);
-        return Ok(());
+    chain_into::<CbcDecAes>(key, iv, input, room)
+}
+
+// The form's chain over an input into the first bytes of the room. Refused as cbc_enc_aes is.
+// Ruled out: another form's chain; a refused input's blocks written.
+pub fn chain_into<F: Form>(
+    key: [u8; 16],
+    iv: [u8; 16],
+    input: &[u8],
+    room: &mut [u8],
+) -> Result<(), ChainingFault>
+    ensures { Into (chains (length input.now) (length room.old))
+        (joined (outputs (F.out key) (F.on key) iv (whole_blocks input.now))) room.old result room.new }
+{
+    if !takes(input.len(), room.len()) {
+        return Err(ChainingFault::BlocksOrRoom);
     }
-    Err(ChainingFault::BlocksOrRoom)
+    in_parts::<F>(key, iv, input, room);
+    Ok(())
 }
 
 // AES-CMAC-96 (key, data) into the first 12 bytes of the room. Refused where the input is no whole number of blocks or
@@ -83,13 +153,7 @@ pub fn cmac_96(key: [u8; 16], input: &[u8], room: &mut [u8]) -> Result<(), Chain
     ensures { Into (macs (length input.now) (length room.old))
         (cmac96 key input.now) room.old result room.new }
 {
-    if input.len() < 1 {
-        return Err(ChainingFault::BlocksOrRoom);
-    }
-    if input.len() % 16 != 0 {
-        return Err(ChainingFault::BlocksOrRoom);
-    }
-    if room.len() < 12 {
+    if input.is_empty() || input.len() % 16 != 0 || room.len() < 12 {
         return Err(ChainingFault::BlocksOrRoom);
     }
     let mac = cmac(key, input);
@@ -97,65 +161,34 @@ pub fn cmac_96(key: [u8; 16], input: &[u8], room: &mut [u8]) -> Result<(), Chain
     Ok(())
 }
 
-// Enciphers an input of any length, part by part: the first block of each is chained to the last output block of the
-// part before it.
-fn enc_parts(iv: [u8; 16], key: [u8; 16], input: &[u8], room: &mut [u8])
+// Chains an input of any length, part by part: the first block of each is chained to what the part before it handed on.
+fn in_parts<F: Form>(key: [u8; 16], iv: [u8; 16], input: &[u8], room: &mut [u8])
     requires { length input.now ≤ length room.old }
-    ensures { room.new ≡ over (cbc_enc_aes iv key input.now) room.old }
+    ensures { room.new ≡ over (joined (outputs (F.out key) (F.on key) iv (whole_blocks input.now))) room.old }
 {
     let mut chained = iv;
     let mut at = 0;
     while PART < input.len() - at {
         let end = at + PART;
-        enc_chain(chained, key, &input[at..end], &mut room[at..end]);
-        chained = field::first_block(&room[end - 16..end]);
+        let handed = chain::<F>(key, chained, &input[at..end], &mut room[at..end]);
+        chained = handed;
         at = end;
     }
-    enc_chain(chained, key, &input[at..], &mut room[at..]);
+    chain::<F>(key, chained, &input[at..], &mut room[at..]);
 }
 
-// Enciphers the blocks of the input into the room, each chained to the output block before it, until none is left.
-fn enc_chain(iv: [u8; 16], key: [u8; 16], input: &[u8], room: &mut [u8])
+// Chains the blocks of the input into the room, until none is left, and hands on what a block behind them is chained to.
+fn chain<F: Form>(key: [u8; 16], iv: [u8; 16], input: &[u8], room: &mut [u8]) -> [u8; 16]
     requires { length input.now ≤ length room.old }
-    ensures { room.new ≡ over (cbc_enc_aes iv key input.now) room.old }
+    ensures written { room.new ≡ over (joined (outputs (F.out key) (F.on key) iv (whole_blocks input.now))) room.old }
+    ensures handed { result ≡ handed (F.on key) iv (whole_blocks input.now) }
 {
-    if 16 <= input.len() {
-        let block = field::first_block(input);
-        let output = aes::encrypt(key, field::xor(block, iv));
-        room[..16].copy_from_slice(&output);
-        enc_chain(output, key, &input[16..], &mut room[16..]);
+    if input.len() < 16 {
+        return iv;
     }
-}
-
-// Deciphers, by AES-ENC, an input of any length, part by part: the first block of each is chained to the last input
-// block of the part before it.
-fn dec_parts(iv: [u8; 16], key: [u8; 16], input: &[u8], room: &mut [u8])
-    requires { length input.now ≤ length room.old }
-    ensures { room.new ≡ over (cbc_dec_aes iv key input.now) room.old }
-{
-    let mut chained = iv;
-    let mut at = 0;
-    while PART < input.len() - at {
-        let end = at + PART;
-        dec_chain(chained, key, &input[at..end], &mut room[at..end]);
-        chained = field::first_block(&input[end - 16..end]);
-        at = end;
-    }
-    dec_chain(chained, key, &input[at..], &mut room[at..]);
-}
-
-// Deciphers, by AES-ENC, the blocks of the input into the room, each chained to the input block before it, until none
-// is left.
-fn dec_chain(iv: [u8; 16], key: [u8; 16], input: &[u8], room: &mut [u8])
-    requires { length input.now ≤ length room.old }
-    ensures { room.new ≡ over (cbc_dec_aes iv key input.now) room.old }
-{
-    if 16 <= input.len() {
-        let block = field::first_block(input);
-        let output = field::xor(aes::encrypt(key, block), iv);
-        room[..16].copy_from_slice(&output);
-        dec_chain(block, key, &input[16..], &mut room[16..]);
-    }
+    let link = F::link(key, iv, field::first_block(input));
+    room[..16].copy_from_slice(&link.output);
+    chain::<F>(key, link.next, &input[16..], &mut room[16..])
 }
 
 // The CMAC of whole blocks, at least one: the chain over all but the last, and then the last with K1 added to it.
@@ -208,10 +241,8 @@ fn double(l: [u8; 16]) -> [u8; 16]
     ensures { result ≡ doubled l }
 {
     let mut r = [0u8; 16];
-    let mut i = 0;
-    while i < 15 {
+    for i in 0..15 {
         r[i] = (l[i] << 1) ^ (l[i + 1] >> 7);
-        i += 1;
     }
     r[15] = (l[15] << 1) ^ ((l[0] >> 7) * 0x87);
     r

@@ -1,26 +1,19 @@
 -- Each DEC form of chaining undoes its ENC form, on every key, initialization vector and whole number of blocks; and
 -- the results of the forms over AES-DEC are bytes, as many as came in.
-use mathlib.Core.Path.{◌≡◌, refl, ◌∙◌}
+use mathlib.Core.Path.{◌≡◌, ◌∙◌}
 use mathlib.Core.List.{List}
 use Prim.Native.Nat.{ℕ, ◌%◌}
 use native.Mathlib.Omega.{arith}
 use lib.ListN.{length}
 use Rattle.ground.specs.Bytes.{Bytes}
-use Rattle.field.specs.Block.{xor}
 use Rattle.field.proofs.Block.{Block}
 use Rattle.aes.specs.AesEnc.{aes_enc}
 use Rattle.aes.proofs.Forward.{enc_block}
 use Rattle.aes_inverse.specs.AesDec.{aes_dec}
-use Rattle.aes_inverse.specs.InvCipher.{inv_cipher}
 use Rattle.aes_inverse.proofs.Inverse.{dec_block, dec_enc, enc_dec}
 use Rattle.modes.specs.Cbc.{cbc_enc_aes, cbc_dec_aes}
 use Rattle.modes.proofs.Undone.{enc_bytes, dec_bytes, enc_length, dec_length, chain_undone}
 use Rattle.modes_inverse.specs.CbcInv.{cbc_dec_aes_inv, cbc_enc_aes_inv}
-
--- AES-DEC of anything has sixteen bytes
-pub aes_dec_sixteen : (key s : List ℕ) → length (aes_dec key s) ≡ 16
-unfolding aes_dec inv_cipher xor
-aes_dec_sixteen key s = refl
 
 module _ (iv key s : List ℕ) (v : Bytes iv) (k : Bytes key) (h : Bytes s) where
   forward : (b : List ℕ) → Block b → Block (aes_enc key b)

@@ -1,21 +1,13 @@
-use mathlib.Core.Path.{sym, ◌∙◌}
-use lib.ListN.{length}
+use mathlib.Core.Path.{ap}
+use Rattle.aes.specs.AesEnc.{aes_enc}
+use Rattle.modes.specs.Blocks.{whole_blocks, joined}
 use Rattle.modes.specs.Cbc.{cbc_dec_aes}
-use Rattle.modes.proofs.Rooms.{refused, done, has_room}
+use Rattle.modes.proofs.Rooms.{renamed}
+use Rattle.modes.proofs.Forms.{dec_outputs}
 use Rattle.modes.proofs.cbc_dec_aes.Goals as goal
 
-pub dec_parts-requires : goal.dec_parts-requires
-dec_parts-requires c = let a = c.args in
-    has_room (length a.input.now) (length a.room.now)
-    (sym c.takes.ensures ∙ c.if-takes.true)
-
-pub returns-then-takes : goal.returns-then-takes
-returns-then-takes c = let a = c.args in
-    done _ (cbc_dec_aes a.iv a.key a.input.now) a.room.now _
-    (sym c.takes.ensures
-    ∙ c.if-takes.true) c.dec_parts.ensures
-
 pub returns : goal.returns
-returns c = let a = c.args in
-    refused _ (cbc_dec_aes a.iv a.key a.input.now) a.room.now
-    (sym c.takes.ensures ∙ c.if-takes.false)
+unfolding cbc_dec_aes
+returns c =
+    let a = c.args in
+    renamed (ap joined (dec_outputs aes_enc a.key (whole_blocks a.input.now) a.iv)) c.chain_into.ensures

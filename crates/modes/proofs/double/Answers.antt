@@ -9,15 +9,13 @@ use borrow.Author.Rules.{rules}
 use Rattle.modes.proofs.double.Goals as goal
 
 pub loop-i-init : goal.loop-i-init
-loop-i-init c = (search rules, none_yet (doubled_byte c.args.l) 16 (replicate 16 0) refl)
+loop-i-init c = none_yet (doubled_byte c.args.l) 16 (replicate 16 0) refl
 
 pub loop-i-preserved : goal.loop-i-preserved
-loop-i-preserved c = let s = c.args.l in (
-  search rules,
-  one_more_lem (doubled_byte s) 16 c.loop-i.r c.loop-i.i _ (omega arith)
-      (doubled_inner s c.loop-i.i (search rules) (array_bytes 16 s _ c.well_formed.0 (c.loop-i.i + 1)))
-      c.loop-i.invariant.1,
-)
+loop-i-preserved c = let s = c.args.l in
+    one_more_lem (doubled_byte s) 16 c.loop-i.r c.loop-i.i _ (omega arith)
+    (doubled_inner s c.loop-i.i (search rules) (array_bytes 16 s _ c.well_formed.0 (c.loop-i.i + 1)))
+    c.loop-i.invariant
 
 pub overflow_mul-r : goal.overflow_mul-r
 overflow_mul-r c = record { fits = omega (arith, array_bytes 16 c.args.l _ c.well_formed.0 0) }
@@ -25,4 +23,4 @@ overflow_mul-r c = record { fits = omega (arith, array_bytes 16 c.args.l _ c.wel
 pub returns : goal.returns
 returns c = let l = c.args.l in
     doubled_whole l c.loop-i.r c.loop-i.i (array_length 16 l _ c.well_formed.0)
-    (omega arith) c.loop-i.invariant.1
+    (omega arith) c.loop-i.invariant
