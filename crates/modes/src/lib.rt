@@ -40,14 +40,8 @@ pub fn takes(input: usize, room: usize) -> bool
     input % 16 == 0 && input <= room
 }
 
-// What a form of chaining makes of a block: its output block, and what the next block is chained to.
-#[derive(Clone, Copy)]
-pub struct Link {
-    pub output: [u8; 16],
-    pub next: [u8; 16],
-}
-
-// A form of chaining (3.1.8 to 3.1.11), block by block.
+// A form of chaining (3.1.8 to 3.1.11), block by block. What is lent stays where it lies: a copy would count sixteen times
+// on the stack.
 pub trait Form {
     // The output block, under a key, of what a block is chained to and of the block itself.
     ghost out: { List ℕ → List ℕ → List ℕ → List ℕ };
@@ -55,9 +49,12 @@ pub trait Form {
     // What the next block is chained to.
     ghost on: { List ℕ → List ℕ → List ℕ → List ℕ };
 
-    fn link(key: [u8; 16], chained: [u8; 16], block: [u8; 16]) -> Link
-        ensures output { result.output ≡ out key chained block }
-        ensures next { result.next ≡ on key chained block };
+    fn output(key: &[u8; 16], chained: &[u8; 16], block: &[u8; 16]) -> [u8; 16]
+        ensures { result ≡ out key.now chained.now block.now };
+
+    fn next<'a>(block: &'a [u8; 16], output: &'a [u8; 16]) -> &'a [u8; 16]
+        ensures { (key chained : List ℕ) → output.now ≡ out key chained block.now
+            → result.now ≡ on key chained block.now };
 
     ghost sixteen: { (key chained b : List ℕ) → length (out key chained b) ≡ 16 };
 }
@@ -72,12 +69,12 @@ impl Form for CbcEncAes {
 
     ghost sixteen = { λ key chained b. aes_enc_sixteen key (xor b chained) };
 
-    fn link(key: [u8; 16], chained: [u8; 16], block: [u8; 16]) -> Link {
-        let output = aes::encrypt(key, field::xor(block, chained));
-        Link {
-            output,
-            next: output,
-        }
+    fn output(key: &[u8; 16], chained: &[u8; 16], block: &[u8; 16]) -> [u8; 16] {
+        aes::encrypt(*key, field::xor(*block, *chained))
+    }
+
+    fn next<'a>(_block: &'a [u8; 16], output: &'a [u8; 16]) -> &'a [u8; 16] {
+        output
     }
 }
 
@@ -91,12 +88,12 @@ impl Form for CbcDecAes {
 
     ghost sixteen = { λ key chained b. xor_sixteen (aes_enc key b) chained };
 
-    fn link(key: [u8; 16], chained: [u8; 16], block: [u8; 16]) -> Link {
-        let output = field::xor(aes::encrypt(key, block), chained);
-        Link {
-            output,
-            next: block,
-        }
+    fn output(key: &[u8; 16], chained: &[u8; 16], block: &[u8; 16]) -> [u8; 16] {
+        field::xor(aes::encrypt(*key, *block), *chained)
+    }
+
+    fn next<'a>(block: &'a [u8; 16], _output: &'a [u8; 16]) -> &'a [u8; 16] {
+        block
     }
 }
 
@@ -142,7 +139,7 @@ pub fn chain_into<F: Form>(
     if !takes(input.len(), room.len()) {
         return Err(ChainingFault::BlocksOrRoom);
     }
-    in_parts::<F>(key, iv, input, room);
+    in_parts::<F>(&key, iv, input, room);
     Ok(())
 }
 
@@ -162,33 +159,35 @@ pub fn cmac_96(key: [u8; 16], input: &[u8], room: &mut [u8]) -> Result<(), Chain
 }
 
 // Chains an input of any length, part by part: the first block of each is chained to what the part before it handed on.
-fn in_parts<F: Form>(key: [u8; 16], iv: [u8; 16], input: &[u8], room: &mut [u8])
+fn in_parts<F: Form>(key: &[u8; 16], iv: [u8; 16], input: &[u8], room: &mut [u8])
     requires { length input.now ≤ length room.old }
-    ensures { room.new ≡ over (joined (outputs (F.out key) (F.on key) iv (whole_blocks input.now))) room.old }
+    ensures { room.new ≡ over (joined (outputs (F.out key.now) (F.on key.now) iv (whole_blocks input.now))) room.old }
 {
     let mut chained = iv;
     let mut at = 0;
     while PART < input.len() - at {
         let end = at + PART;
-        let handed = chain::<F>(key, chained, &input[at..end], &mut room[at..end]);
+        let handed = chain::<F>(key, &chained, &input[at..end], &mut room[at..end]);
         chained = handed;
         at = end;
     }
-    chain::<F>(key, chained, &input[at..], &mut room[at..]);
+    chain::<F>(key, &chained, &input[at..], &mut room[at..]);
 }
 
 // Chains the blocks of the input into the room, until none is left, and hands on what a block behind them is chained to.
-fn chain<F: Form>(key: [u8; 16], iv: [u8; 16], input: &[u8], room: &mut [u8]) -> [u8; 16]
+fn chain<F: Form>(key: &[u8; 16], iv: &[u8; 16], input: &[u8], room: &mut [u8]) -> [u8; 16]
     requires { length input.now ≤ length room.old }
-    ensures written { room.new ≡ over (joined (outputs (F.out key) (F.on key) iv (whole_blocks input.now))) room.old }
-    ensures handed { result ≡ handed (F.on key) iv (whole_blocks input.now) }
+    ensures written { room.new ≡ over (joined (outputs (F.out key.now) (F.on key.now) iv.now (whole_blocks input.now)))
+        room.old }
+    ensures handed { result ≡ handed (F.on key.now) iv.now (whole_blocks input.now) }
 {
     if input.len() < 16 {
-        return iv;
+        return *iv;
     }
-    let link = F::link(key, iv, field::first_block(input));
-    room[..16].copy_from_slice(&link.output);
-    chain::<F>(key, link.next, &input[16..], &mut room[16..])
+    let block = field::first_block(input);
+    let output = F::output(key, iv, &block);
+    room[..16].copy_from_slice(&output);
+    chain::<F>(key, F::next(&block, &output), &input[16..], &mut room[16..])
 }
 
 // The CMAC of whole blocks, at least one: the chain over all but the last, and then the last with K1 added to it.

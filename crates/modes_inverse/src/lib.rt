@@ -8,7 +8,7 @@ ghost use Rattle.modes.specs.Forms.{enc_out, dec_out, xor_sixteen};
 ghost use Rattle.modes.specs.Room.{Into, chains};
 ghost use Rattle.modes_inverse.specs.CbcInv.{cbc_dec_aes_inv, cbc_enc_aes_inv, aes_dec_sixteen};
 
-use modes::{ChainingFault, Form, Link};
+use modes::{ChainingFault, Form};
 
 // Each block is chained to the input block before it.
 struct CbcDecAesInv;
@@ -20,12 +20,12 @@ impl Form for CbcDecAesInv {
 
     ghost sixteen = { λ key chained b. xor_sixteen (aes_dec key b) chained };
 
-    fn link(key: [u8; 16], chained: [u8; 16], block: [u8; 16]) -> Link {
-        let output = field::xor(way(key, block), chained);
-        Link {
-            output,
-            next: block,
-        }
+    fn output(key: &[u8; 16], chained: &[u8; 16], block: &[u8; 16]) -> [u8; 16] {
+        field::xor(way(*key, *block), *chained)
+    }
+
+    fn next<'a>(block: &'a [u8; 16], _output: &'a [u8; 16]) -> &'a [u8; 16] {
+        block
     }
 }
 
@@ -39,12 +39,12 @@ impl Form for CbcEncAesInv {
 
     ghost sixteen = { λ key chained b. aes_dec_sixteen key (xor b chained) };
 
-    fn link(key: [u8; 16], chained: [u8; 16], block: [u8; 16]) -> Link {
-        let output = way(key, field::xor(block, chained));
-        Link {
-            output,
-            next: output,
-        }
+    fn output(key: &[u8; 16], chained: &[u8; 16], block: &[u8; 16]) -> [u8; 16] {
+        way(*key, field::xor(*block, *chained))
+    }
+
+    fn next<'a>(_block: &'a [u8; 16], output: &'a [u8; 16]) -> &'a [u8; 16] {
+        output
     }
 }
 

@@ -18,7 +18,7 @@ loop-at-preserved g c =
     let end = l.at + 256 in (
       omega arith,
       search rules,
-      next_part (g.F.Form.out a.key) (g.F.Form.on a.key) (g.met.F.Form.sixteen a.key) a.input.now l.at end
+      next_part (g.F.Form.out a.key.now) (g.F.Form.on a.key.now) (g.met.F.Form.sixteen a.key.now) a.input.now l.at end
           (omega arith) (omega arith) (omega arith) l.chained l.room r.new.room r.result
           (omega (arith, c.requires, l.invariant.1)) r.ensures.written r.ensures.handed
           ∙ l.invariant.2,
@@ -28,5 +28,5 @@ pub returns : goal.returns
 returns g c =
     let l = c.loop-at in
     let a = c.args in
-    rest_chained (outputs (g.F.Form.out a.key) (g.F.Form.on a.key)) l.chained a.input.now l.room l.at
+    rest_chained (outputs (g.F.Form.out a.key.now) (g.F.Form.on a.key.now)) l.chained a.input.now l.room l.at
     c.chain.new.room c.chain.ensures.written ∙ l.invariant.2
