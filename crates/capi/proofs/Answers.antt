@@ -1,5 +1,6 @@
 -- What the reader's side leaves, as numbers.
 use Rattle.std.specs.Prelude.{Result, Ok, Err, ℕ}
+use Rattle.std.specs.Option.{is_some, unwrap_or}
 use Rattle.reader.specs.declared.ReaderFault.{ReaderFault}
 use mathlib.Core.Path.{◌≡◌, refl, sym, ap, ◌∙◌}
 use mathlib.Core.Bool.{Bool, true, false}
@@ -19,9 +20,10 @@ use Rattle.reader_judge.specs.declared.Accepted.{Accepted}
 use Rattle.reader.specs.declared.Keys.{Keys}
 use Rattle.reader.specs.Numbers.{number_of}
 use Rattle.modes.specs.Room.{over}
-use Rattle.reader_judge.specs.Findings.{Finding, said_by, verdict_number, Judges}
+use Rattle.reader_judge.specs.Findings.{Finding, verdict_number, Judges}
 use Rattle.reader_judge.specs.Judged.{judgement_of}
-use Rattle.reader_judge.proofs.Whole.{challenge_in, is_issued, judgement_whole, whole_refusal, whole_acceptance}
+use Rattle.reader_judge.proofs.Whole.{judgement_whole, whole_refusal}
+use Rattle.reader_judge.proofs.Whole.{whole_acceptance, said_count}
 use Rattle.reader_build.specs.Makes.{made_number, taken, Makes}
 use Rattle.capi.specs.Reader.{mac_given, keys_of, made_length, worth_number, finding_of, Builds, Finds}
 
@@ -71,23 +73,19 @@ module _ (enc mac message reply room : List ℕ) where
 
     -- what is accepted, in plain numbers
     pub accepted : (a : Accepted) (worth issued : ℕ) (challenge : List ℕ) → r ≡ Ok a → worth ≡ worth_number a.worth
-        → issued ≡ bit_of (is_issued a.challenge) → challenge ≡ challenge_in a.challenge
+        → issued ≡ bit_of (is_some a.challenge) → challenge ≡ unwrap_or a.challenge (replicate 10 0)
         → Finds (finding_of enc mac message reply (length room)) room 0 a.«data» worth issued challenge after
     accepted a worth issued challenge e w i c =
         let q = whole_acceptance (judgement_whole keys message reply (length room)) (sym h.says ∙ e) in
         simp (g, sym k)
         (record {
           number = ap (λ (f : Finding). verdict_number f.verdict) (sym q);
-          long = long_of found.verdict (sym h.says ∙ e);
+          long = said_count found a (sym h.says ∙ e);
           value = w ∙ ap (λ (f : Finding). worth_number f.worth) (sym q);
           flag = i ∙ ap (λ (f : Finding). bit_of f.issued) (sym q);
           came = c ∙ ap (λ (f : Finding). f.challenge) (sym q);
           holds = h.holds;
         })
-      where
-        long_of : (v : Result Unit ReaderFault) → said_by v found ≡ Ok a → a.«data» ≡ length found.bytes
-        long_of (Ok tt) s = cc
-        long_of (Err e) s = cc
 
     -- a refusal tells neither data nor challenge
     pub refusal : (f : ReaderFault) → r ≡ Err f

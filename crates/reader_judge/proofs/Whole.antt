@@ -1,11 +1,12 @@
 -- What the judge says is, with the bytes of the data, the whole of its finding: a refusal has neither data nor challenge,
 -- and where no challenge is told there is none.
 use Rattle.std.specs.Prelude.{Result, Ok, Err, Option, Some, None}
-use mathlib.Core.Path.{◌≡◌, refl, ap, ◌∙◌}
+use Rattle.std.specs.Option.{is_some, unwrap_or}
+use mathlib.Core.Path.{◌≡◌, refl, sym, ap, ◌∙◌}
 use mathlib.Core.Bool.{Bool, true, false}
 use mathlib.Core.List.{List, [], ◌∷◌}
 use Prim.Native.Nat.{ℕ}
-use lib.ListN.{replicate}
+use lib.ListN.{length, replicate}
 use Rattle.ground.specs.Choice.{pick}
 use Rattle.ground.specs.Checks.{Check, judged_to}
 use Rattle.ground.proofs.Checked.{keeps}
@@ -20,27 +21,18 @@ use Rattle.reader.specs.declared.ReaderFault.{ReaderFault}
 use Rattle.reader.specs.declared.ReaderFault.TheVariants.{OwnMessage}
 use Rattle.reader.specs.Own.{own_fits}
 use Rattle.reader_judge.specs.declared.Accepted.{Accepted}
-use Rattle.reader_judge.specs.Findings.{Finding, refused, said_of}
+use Rattle.reader_judge.specs.Findings.{Finding, refused, said_by, said_of}
 use Rattle.reader_judge.specs.Judged.{tam1_finding, tam2_finding, iam1_finding, mam1_finding, empty_finding}
 use Rattle.reader_judge.specs.Judged.{data_finding, tam2_in_mode, by_kind, of_kind, judgement_of}
 
--- The tag's challenge, and zeros where none is told.
-abbrev pub challenge_in : Option (List ℕ) → List ℕ
-challenge_in (Some challenge) = challenge
-challenge_in None = replicate 10 0
-
-abbrev pub is_issued : Option (List ℕ) → Bool
-is_issued (Some challenge) = true
-is_issued None = false
-
--- The finding that is said, of data of these bytes.
+-- The finding that is said, of data of these bytes; zeros stand for a challenge that is not told.
 abbrev pub found_in : Result Accepted ReaderFault → List ℕ → Finding
 found_in (Ok a) bytes = record {
   verdict = Ok tt;
   bytes = bytes;
   worth = a.worth;
-  issued = is_issued a.challenge;
-  challenge = challenge_in a.challenge;
+  issued = is_some a.challenge;
+  challenge = unwrap_or a.challenge (replicate 10 0);
 }
 found_in (Err e) bytes = refused e
 
@@ -94,3 +86,14 @@ whole_refusal {f} h s = h ∙ ap (λ (r : Result Accepted ReaderFault). found_in
 -- What is accepted, with the data's bytes.
 pub whole_acceptance : {f : Finding} {a : Accepted} → Whole f → said_of f ≡ Ok a → f ≡ found_in (Ok a) f.bytes
 whole_acceptance {f} h s = h ∙ ap (λ (r : Result Accepted ReaderFault). found_in r f.bytes) s
+
+abbrev data_in : Result Accepted ReaderFault → ℕ
+data_in (Ok a) = a.«data»
+data_in (Err e) = 0
+
+pub said_count : (f : Finding) (a : Accepted) → said_of f ≡ Ok a → a.«data» ≡ length f.bytes
+said_count f a = by f.verdict
+  where
+    by : (v : Result Unit ReaderFault) → said_by v f ≡ Ok a → a.«data» ≡ length f.bytes
+    by (Ok tt) s = sym (ap data_in s)
+    by (Err e) s = cc

@@ -1,47 +1,32 @@
 -- What the callees of a turn leave is what the definition of the turn says.
 use Rattle.std.specs.Prelude.{Result, Ok, Err, ℕ}
 use Rattle.reader.specs.declared.ReaderFault.{ReaderFault}
+use Rattle.std.specs.Option.{unwrap_or}
 use mathlib.Core.Path.{◌≡◌, refl, sym, ap, ap₂, subst, ◌∙◌}
 use mathlib.Core.Bool.{Bool, true, false}
 use mathlib.Core.List.{List}
-use Prim.Native.Nat.{ℕ, ◌-◌}
-use lib.ListN.{length}
+use Prim.Native.Nat.{ℕ}
+use lib.ListN.{length, replicate}
 use Rattle.ground.specs.Choice.{pick}
 use Rattle.modes.specs.Room.{over}
 use Rattle.reader.specs.declared.ReaderFault.TheVariants.{OwnMessage}
 use Rattle.reader_build.specs.Makes.{Makes, taken}
-use Rattle.reader_judge.specs.declared.Judgement.{Judgement}
-use Rattle.reader_judge.specs.Findings.{Judges}
+use Rattle.reader_judge.specs.declared.Accepted.{Accepted}
+use Rattle.reader_judge.specs.declared.Worth.TheVariants.{NoData}
+use Rattle.reader_judge.specs.Findings.{Finding, refused, Judges}
+use Rattle.reader_judge.proofs.Whole.{found_in, judgement_whole, whole_refusal, whole_acceptance, said_count}
 use Rattle.tag.specs.declared.Stepped.{Stepped}
 use Rattle.tag.specs.States.{KeyedTag}
 use Rattle.tag.specs.Answers.{Answer, answer_of}
 use Rattle.tag.specs.Reactions.{lent, Steps}
 use Rattle.turns.specs.declared.Next.{Next}
-use Rattle.turns.specs.declared.Next.TheVariants.{RefusedByReader}
+use Rattle.turns.specs.declared.Next.TheVariants.{Done, RefusedByReader}
 use Rattle.plan.specs.declared.Plan.{Plan}
-use Rattle.turns.specs.declared.Sent.{Sent}
-use Rattle.turns.specs.declared.Reply.{Reply}
-use Rattle.turns.specs.declared.Found.{Found}
 use Rattle.turns.specs.declared.Standing.{Standing}
-use Rattle.turns.specs.Standings.{message_zeros, reply_zeros, data_zeros, verdict_next, turned, sending, concludes}
+use Rattle.turns.specs.Standings.{Reply, message_in, reply_in, message_zeros, reply_zeros, data_zeros, verdict_next, turned, sending, concludes}
 use Rattle.plan.specs.Drafts.{Draft}
 use Rattle.turns.specs.Sends.{sends, sends_made}
-use Rattle.turns.specs.Turns.{Plays, finding_in, meets, closed, ended, replied, answered_by}
-
--- a standing that is built anew, by the number of turns that are left
-pub built_anew : (next : Next) (sent : Sent) (reply : Reply) (challenge : List ℕ) (found : Found) (l m : ℕ) → l ≡ m
-    → ◌≡◌ {A = Standing}
-    (record { next = next; left = l; sent = sent; reply = reply; challenge = challenge; found = found })
-    (record { next = next; left = m; sent = sent; reply = reply; challenge = challenge; found = found })
-built_anew next sent reply challenge found l m e =
-    ap (λ (k : ℕ). record {
-      next = next;
-      left = k;
-      sent = sent;
-      reply = reply;
-      challenge = challenge;
-      found = found;
-    }) e
+use Rattle.turns.specs.Turns.{Plays, finding_in, proves, meets, closed, ended_by, ended, replied, answered_by}
 
 -- ---- the reader's messages
 
@@ -73,41 +58,60 @@ module _ (next : Next) (s : Standing) where
   sends_by h d made room r e q m =
       e ∙ ap (λ (x : Standing). sends_made next x made room) q ∙ sends_made_lem d made room m
 
-  -- the standing with a message that was sent
-  pub sends_message : (room : List ℕ) (n l : ℕ) (made : Result ℕ ReaderFault) → made ≡ Ok n → l ≡ s.left - 1
-      → ◌≡◌ {A = Standing} (record {
-        next = next;
-        left = l;
-        sent = record { bytes = room; count = n };
-        reply = s.reply;
-        challenge = s.challenge;
-        found = s.found;
-      }) (sends_made next s made room)
-  unfolding sends_made
-  sends_message room n l made e q =
-      built_anew next (record { bytes = room; count = n }) s.reply s.challenge s.found _ _ q
-      ∙ sym (ap (λ (m : Result ℕ ReaderFault). sends_made next s m room) e)
-
 -- ---- the reader's judgement
 
-module _ (p : Plan) (s : Standing) (j : Judgement) (room : List ℕ) where
-  pub closed_by : (words : List ℕ) (r : Standing) → Judges (finding_in p s s.reply) data_zeros j room
-      → r ≡ meets p words j.challenge s j.verdict → r ≡ closed p words s
-  unfolding closed
-  closed_by words r h e =
-      e ∙ ap (λ (x : Judgement). meets p words x.challenge s x.verdict) h.says
+module _ (p : Plan) (s : Standing) (j : Result Accepted ReaderFault) (room : List ℕ) (reply : Reply)
+    (h : Judges (finding_in p s reply) data_zeros j room) where
+  abbrev found : Finding
+  found = finding_in p s reply
 
-  pub ended_by_lem : (reply : Reply) (next : Next) (r : Standing) → Judges (finding_in p s reply) data_zeros j room
-      → next ≡ verdict_next j.verdict
-      → r ≡ concludes next s reply (record { bytes = room; count = j.«data»; worth = j.worth })
+  as_accepted : (a : Accepted) → j ≡ Ok a → found ≡ found_in (Ok a) found.bytes
+  unfolding finding_in
+  as_accepted a e = whole_acceptance
+      (judgement_whole p.keys (message_in s.sent) (reply_in reply) (length data_zeros)) (sym h.says ∙ e)
+
+  as_refused : (f : ReaderFault) → j ≡ Err f → found ≡ refused f
+  unfolding finding_in
+  as_refused f e = whole_refusal
+      (judgement_whole p.keys (message_in s.sent) (reply_in reply) (length data_zeros)) (sym h.says ∙ e)
+
+  pub ended_accepted : (a : Accepted) (r : Standing) → j ≡ Ok a
+      → r ≡ concludes Done s reply (record { bytes = room; count = a.«data»; worth = a.worth }) → r ≡ ended p s reply
+  unfolding ended verdict_next
+  ended_accepted a r e w =
+      w
+      ∙ ap₂ {C = Standing} (λ x n. concludes Done s reply (record { bytes = x; count = n; worth = a.worth }))
+      h.holds (said_count found a (sym h.says ∙ e))
+      ∙ sym (ap (λ (f : Finding). concludes (verdict_next f.verdict) s reply (record {
+        bytes = over found.bytes data_zeros;
+        count = length found.bytes;
+        worth = f.worth;
+      })) (as_accepted a e))
+
+  pub ended_refused : (f : ReaderFault) (r : Standing) → j ≡ Err f
+      → r ≡ concludes (RefusedByReader f) s reply (record { bytes = room; count = 0; worth = NoData })
       → r ≡ ended p s reply
-  unfolding ended
-  ended_by_lem reply next r h n e =
-      e
-      ∙ ap (λ (x : Next). concludes x s reply (record { bytes = room; count = j.«data»; worth = j.worth })) n
-      ∙ ap₂ {C = Standing} (λ (x : Judgement) (y : List ℕ).
-      concludes (verdict_next x.verdict) s reply (record { bytes = y; count = x.«data»; worth = x.worth }))
-      h.says h.holds
+  unfolding ended verdict_next
+  ended_refused f r e w =
+      w
+      ∙ ap (λ (x : List ℕ). concludes (RefusedByReader f) s reply (record { bytes = x; count = 0; worth = NoData }))
+      (h.holds ∙ ap (λ (x : Finding). over x.bytes data_zeros) (as_refused f e))
+      ∙ sym (ap (ended_by s reply) (as_refused f e))
+
+module _ (p : Plan) (s : Standing) (j : Result Accepted ReaderFault) (room words : List ℕ)
+    (h : Judges (finding_in p s s.reply) data_zeros j room) where
+  pub closed_accepted : (challenge : List ℕ) (a : Accepted) (r : Standing) → j ≡ Ok a
+      → challenge ≡ unwrap_or a.challenge (replicate 10 0) → r ≡ proves p words challenge s → r ≡ closed p words s
+  unfolding closed meets
+  closed_accepted challenge a r e q w =
+      w ∙ ap (λ (x : List ℕ). proves p words x s) q
+      ∙ sym (ap (λ (f : Finding). meets p words f.challenge s f.verdict) (as_accepted p s j room s.reply h a e))
+
+  pub closed_refused : (f : ReaderFault) (r : Standing) → j ≡ Err f → r ≡ turned (RefusedByReader f) s
+      → r ≡ closed p words s
+  unfolding closed meets
+  closed_refused f r e w =
+      w ∙ sym (ap (λ (x : Finding). meets p words x.challenge s x.verdict) (as_refused p s j room s.reply h f e))
 
 -- ---- the tag's answer
 

@@ -10,8 +10,7 @@ use Rattle.plan.specs.declared.Method.TheVariants.{Tam1, Tam2, Iam2, Iam3, Mam}
 use Rattle.turns.specs.declared.Next.{Next}
 use Rattle.turns.specs.declared.Next.TheVariants.{ReaderOpens, TagAnswers, ReaderCloses, TagEnds, Done}
 use Rattle.turns.specs.declared.Next.TheVariants.{RefusedByTag, RefusedByReader}
-use Rattle.turns.specs.declared.Sent.{Sent}
-use Rattle.turns.specs.declared.Reply.{Reply}
+use Rattle.turns.specs.declared.Counted.{Counted}
 use Rattle.turns.specs.declared.Found.{Found}
 use Rattle.turns.specs.declared.Standing.{Standing}
 use Rattle.turns.specs.declared.Begun.{Begun}
@@ -25,6 +24,13 @@ reply_zeros = replicate 172 0
 
 abbrev pub data_zeros : List ℕ
 data_zeros = replicate 144 0
+
+-- The last message, and the last reply.
+abbrev pub Sent : Type 0
+Sent = Counted 176
+
+abbrev pub Reply : Type 0
+Reply = Counted 172
 
 -- The message and the reply that stand there.
 abbrev pub message_in : Sent → List ℕ

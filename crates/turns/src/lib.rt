@@ -2,11 +2,11 @@
 // be the last that is played for now. Crate exchange plays turn after turn.
 #![tactic(auto)]
 
-ghost use Rattle.std.specs.Prelude.{◌≡◌};
-ghost use Rattle.turns.specs.Standings.{begun_of, number_of, readers, tags, reader_next, tag_next, waiting};
+ghost use Rattle.std.specs.Prelude.{◌≡◌, take};
+ghost use Rattle.turns.specs.Standings.{begun_of, number_of, reader_next, tag_next};
 
 use frames::sizes::{DATA_ROOM, MESSAGE_ROOM, REPLY_ROOM};
-use offer::{Outcome, TagFault};
+use offer::TagFault;
 use reader::ReaderFault;
 use reader_judge::Worth;
 use tag::Tag;
@@ -28,19 +28,27 @@ pub enum Next {
     RefusedByReader(ReaderFault),
 }
 
-/// The last message that was sent: so many of the bytes; zeros stand behind them.
+/// The first `count` bytes of a room; zeros stand behind them.
 #[derive(Clone, Copy)]
-pub struct Sent {
-    pub bytes: [u8; MESSAGE_ROOM],
+pub struct Counted<const N: usize> {
+    pub bytes: [u8; N],
     pub count: usize,
 }
 
-/// The last reply that came: so many of the bytes; zeros stand behind them.
-#[derive(Clone, Copy)]
-pub struct Reply {
-    pub bytes: [u8; REPLY_ROOM],
-    pub count: usize,
+impl<const N: usize> Counted<N> {
+    // Those bytes.
+    pub(crate) fn held(&self) -> &[u8]
+        ensures { result.now ≡ take self.now.count self.now.bytes }
+    {
+        octets::front(&self.bytes, self.count)
+    }
 }
+
+/// The last message that was sent.
+pub type Sent = Counted<MESSAGE_ROOM>;
+
+/// The last reply that came.
+pub type Reply = Counted<REPLY_ROOM>;
 
 /// The data that the reader's side found in the reply that ended the exchange: so many of the bytes, and their worth.
 #[derive(Clone, Copy)]
@@ -79,99 +87,57 @@ pub struct Played {
 /// An exchange with a limit of turns, before its first: 40 for a limit of 0 or over 64.
 ///
 /// Ruled out: a limit of 65 taken; an exchange that begins with the tag's turn.
+#[tactic(auto, unfolding(crate::specs::Standings::begun_of, crate::specs::Standings::limit_fits))]
 pub fn begin(limit: usize) -> Begun
     ensures { result ≡ begun_of limit }
 {
-    if limit == 0 {
-        return standings::unbegun();
+    if limit == 0 || 64 < limit {
+        Begun {
+            number: 40,
+            standing: standings::fresh(0),
+        }
+    } else {
+        Begun {
+            number: 0,
+            standing: standings::fresh(limit as u8),
+        }
     }
-    if 64 < limit {
-        return standings::unbegun();
-    }
-    Begun {
-        number: 0,
-        standing: standings::fresh(limit as u8),
-    }
-}
-
-// The number of an exchange that has not ended: 41 where no turn is left.
-fn number_waiting(left: u8) -> u8
-    ensures { result ≡ waiting left }
-{
-    if left == 0 {
-        return 41;
-    }
-    0
 }
 
 /// The number of what stands: that of the half that refused; 41 where the limit is used up and the exchange is neither
 /// done nor ended by a refusal; else 0.
 ///
 /// Ruled out: 41 where the last turn of the limit ended the exchange; the tag's number for a refusal of the reader.
+#[tactic(auto, unfolding(crate::specs::Standings::number_of, crate::specs::Standings::waiting))]
 pub fn number(next: Next, left: u8) -> u8
     ensures { result ≡ number_of next left }
 {
     match next {
-        Next::ReaderOpens => number_waiting(left),
-        Next::TagAnswers => number_waiting(left),
-        Next::ReaderCloses => number_waiting(left),
-        Next::TagEnds => number_waiting(left),
         Next::Done => 0,
         Next::RefusedByTag(fault) => u8::from(fault),
         Next::RefusedByReader(fault) => u8::from(fault),
-    }
-}
-
-fn is_readers(next: Next) -> bool
-    ensures { result ≡ readers next }
-{
-    match next {
-        Next::ReaderOpens => true,
-        Next::TagAnswers => false,
-        Next::ReaderCloses => true,
-        Next::TagEnds => false,
-        Next::Done => false,
-        Next::RefusedByTag(_) => false,
-        Next::RefusedByReader(_) => false,
-    }
-}
-
-fn is_tags(next: Next) -> bool
-    ensures { result ≡ tags next }
-{
-    match next {
-        Next::ReaderOpens => false,
-        Next::TagAnswers => true,
-        Next::ReaderCloses => false,
-        Next::TagEnds => true,
-        Next::Done => false,
-        Next::RefusedByTag(_) => false,
-        Next::RefusedByReader(_) => false,
+        Next::ReaderOpens | Next::TagAnswers | Next::ReaderCloses | Next::TagEnds => {
+            if left == 0 { 41 } else { 0 }
+        }
     }
 }
 
 /// Is a turn left, and is it the reader's?
 ///
 /// Ruled out: a turn after the last of the limit; a turn after the exchange ended.
+#[tactic(auto, unfolding(crate::specs::Standings::readers))]
 pub fn reader_next(standing: Standing) -> bool
     ensures { result ≡ reader_next standing }
 {
-    if standing.left == 0 {
-        return false;
-    }
-    let next = standing.next;
-    is_readers(next)
+    standing.left != 0 && matches!(standing.next, Next::ReaderOpens | Next::ReaderCloses)
 }
 
 /// Is a turn left, and is it the tag's?
 ///
 /// Ruled out: a turn after the last of the limit; the reader's turn taken for the tag's.
+#[tactic(auto, unfolding(crate::specs::Standings::tags))]
 pub fn tag_next(standing: Standing) -> bool
     ensures { result ≡ tag_next standing }
 {
-    if standing.left == 0 {
-        return false;
-    }
-    let next = standing.next;
-    is_tags(next)
+    standing.left != 0 && matches!(standing.next, Next::TagAnswers | Next::TagEnds)
 }

@@ -1,11 +1,11 @@
 // What a turn makes of what stands: one turn fewer is left, and what the turn brought is kept.
-ghost use Rattle.std.specs.Prelude.{◌≡◌, ◌-◌};
-ghost use Rattle.turns.specs.Standings.{fresh, unbegun, turned, challenged, waits, concludes};
+ghost use Rattle.std.specs.Prelude.{◌≡◌};
+ghost use Rattle.turns.specs.Standings.{fresh, turned, waits, concludes};
 ghost use Rattle.turns.specs.Sends.{sends_made};
 
-use reader::ReaderFault;
-use super::{Begun, Found, Next, Reply, Sent, Standing};
+use super::{Counted, Found, Next, Reply, Standing};
 use frames::sizes::{DATA_ROOM, MESSAGE_ROOM, REPLY_ROOM};
+use reader::ReaderFault;
 use reader_judge::Worth;
 
 /// Before the first turn. Ruled out: a limit that is not kept; bytes that stand there already.
@@ -15,106 +15,56 @@ pub fn fresh(limit: u8) -> Standing
     Standing {
         next: Next::ReaderOpens,
         left: limit,
-        sent: Sent {
-            bytes: [0u8; MESSAGE_ROOM],
+        sent: Counted {
+            bytes: [0; MESSAGE_ROOM],
             count: 0,
         },
-        reply: Reply {
-            bytes: [0u8; REPLY_ROOM],
+        reply: Counted {
+            bytes: [0; REPLY_ROOM],
             count: 0,
         },
-        challenge: [0u8; 10],
+        challenge: [0; 10],
         found: Found {
-            bytes: [0u8; DATA_ROOM],
+            bytes: [0; DATA_ROOM],
             count: 0,
             worth: Worth::NoData,
         },
     }
 }
 
-/// Number 40: an exchange in which no turn is left. Ruled out: a turn that can be played; number 41.
-pub fn unbegun() -> Begun
-    ensures { result ≡ unbegun }
-{
-    Begun {
-        number: 40,
-        standing: fresh(0),
-    }
-}
-
-// One turn fewer.
-fn fewer(left: u8) -> u8
-    ensures { result ≡ left - 1 }
-{
-    if left == 0 {
-        return 0;
-    }
-    left - 1
-}
-
 /// A turn that brings neither message nor reply. Ruled out: a turn that is not counted; a message that is forgotten.
 pub fn turned(next: Next, standing: Standing) -> Standing
     ensures { result ≡ turned next standing }
 {
-    let left = fewer(standing.left);
-    let sent = standing.sent;
-    let reply = standing.reply;
-    let challenge = standing.challenge;
-    let found = standing.found;
     Standing {
         next,
-        left,
-        sent,
-        reply,
-        challenge,
-        found,
-    }
-}
-
-/// The tag's challenge, as the reader's side found it. Ruled out: the challenge of an exchange before; a turn counted.
-pub fn challenged(challenge: [u8; 10], standing: Standing) -> Standing
-    ensures { result ≡ challenged challenge standing }
-{
-    let next = standing.next;
-    let sent = standing.sent;
-    let reply = standing.reply;
-    let found = standing.found;
-    Standing {
-        next,
-        left: standing.left,
-        sent,
-        reply,
-        challenge,
-        found,
+        left: standing.left.saturating_sub(1),
+        ..standing
     }
 }
 
 /// A message that was built is sent; one that was refused ends the exchange.
 /// Ruled out: a refused message sent; a turn that is not counted.
-pub fn sends(next: Next, standing: Standing, made: Result<usize, ReaderFault>, room: [u8; MESSAGE_ROOM]) -> Standing
+#[tactic(auto, unfolding(crate::specs::Sends::sends_made))]
+pub fn sends(
+    next: Next,
+    standing: Standing,
+    made: Result<usize, ReaderFault>,
+    room: [u8; MESSAGE_ROOM],
+) -> Standing
     ensures { result ≡ sends_made next standing made room }
 {
     match made {
-        Ok(n) => {
-            let left = fewer(standing.left);
-            let reply = standing.reply;
-            let challenge = standing.challenge;
-            let found = standing.found;
-            return Standing {
-                next,
-                left,
-                sent: Sent {
-                    bytes: room,
-                    count: n,
-                },
-                reply,
-                challenge,
-                found,
-            };
-        }
-        Err(fault) => {
-            return turned(Next::RefusedByReader(fault), standing);
-        }
+        Ok(n) => Standing {
+            next,
+            left: standing.left.saturating_sub(1),
+            sent: Counted {
+                bytes: room,
+                count: n,
+            },
+            ..standing
+        },
+        Err(fault) => turned(Next::RefusedByReader(fault), standing),
     }
 }
 
@@ -122,17 +72,11 @@ pub fn sends(next: Next, standing: Standing, made: Result<usize, ReaderFault>, r
 pub fn waits(standing: Standing, reply: Reply) -> Standing
     ensures { result ≡ waits standing reply }
 {
-    let left = fewer(standing.left);
-    let sent = standing.sent;
-    let challenge = standing.challenge;
-    let found = standing.found;
     Standing {
         next: Next::ReaderCloses,
-        left,
-        sent,
+        left: standing.left.saturating_sub(1),
         reply,
-        challenge,
-        found,
+        ..standing
     }
 }
 
@@ -141,15 +85,11 @@ pub fn waits(standing: Standing, reply: Reply) -> Standing
 pub fn concludes(next: Next, standing: Standing, reply: Reply, found: Found) -> Standing
     ensures { result ≡ concludes next standing reply found }
 {
-    let left = fewer(standing.left);
-    let sent = standing.sent;
-    let challenge = standing.challenge;
     Standing {
         next,
-        left,
-        sent,
+        left: standing.left.saturating_sub(1),
         reply,
-        challenge,
         found,
+        ..standing
     }
 }

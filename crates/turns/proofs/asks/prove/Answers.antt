@@ -1,4 +1,5 @@
 -- `turns::asks::prove` meets its contract.
+use mathlib.Core.Path.{refl}
 use Rattle.turns.specs.declared.Next.TheVariants.{TagEnds}
 use Rattle.turns.specs.Standings.{challenged}
 use Rattle.plan.specs.Drafts.{closing}
@@ -11,4 +12,4 @@ unfolding proves
 returns c =
     sends_by TagEnds (challenged c.args.challenge c.args.standing) _
     (closing c.args.plan c.args.words.now c.args.challenge c.args.plan.method) _ _ _ c.sends.ensures
-    c.challenged-held.ensures c.closing-made.ensures
+    refl c.closing-made.ensures
