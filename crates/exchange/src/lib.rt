@@ -26,10 +26,7 @@ fn reader_turn(
         (table standing tag identity.old user.old)) result identity.new
         user.new }
 {
-    if turns == 0 {
-        return Played { standing, tag };
-    }
-    if !reader_next(standing) {
+    if turns == 0 || !reader_next(standing) {
         return Played { standing, tag };
     }
     let after = asks::act(plan, words, standing);
@@ -63,23 +60,18 @@ fn tag_turn(
         (table standing tag identity.old user.old)) result identity.new
         user.new }
 {
-    if turns == 0 {
-        return Played { standing, tag };
-    }
-    if !tag_next(standing) {
+    if turns == 0 || !tag_next(standing) {
         return Played { standing, tag };
     }
     let acted = answers::act(plan, keys, draws, standing, tag, identity, user);
-    let after = acted.standing;
-    let held = acted.tag;
     reader_turn(
         turns - 1,
         plan,
         words,
         keys,
         draws,
-        after,
-        held,
+        acted.standing,
+        acted.tag,
         identity,
         user,
     )
