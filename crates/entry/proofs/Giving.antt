@@ -89,7 +89,8 @@ module _ (setup : Setup) (held : Session) (m : List ℕ) (k : Key) (ke : k ≡ k
         then_wrong _ fault (iam3_field_checks (terms_of setup) named m) (fields_judged ∙ x) in
         record {
           lets_in = turns_away _ (iam3_purpose setup held m) r fault wrong t;
-          in_identity = ap (λ (y : Result Unit TagFault). settled y (iam3_stored setup held m Identity i) (λ f. i)) (sym wrong);
+          in_identity = ap (λ (y : Result Unit TagFault). settled y (iam3_stored setup held m Identity i) (λ f. i))
+              (sym wrong);
           in_user = ap (λ (y : Result Unit TagFault). settled y (iam3_stored setup held m User u) (λ f. u)) (sym wrong);
         }
 
@@ -106,7 +107,8 @@ module _ (setup : Setup) (held : Session) (m : List ℕ) (k : Key) (ke : k ≡ k
           let h1 = subst (λ (x : Key). ProofDecides x held f b m i u r i' u') ke h in
           let h2 = subst (λ (g : Iam3Fields). ProofDecides named held g b m i u r i' u') e h1 in
           let s = subst (λ (y : Block). ProofDecides named held (iam3_of m) y m i u r i' u') asked h2 in
-          subst (λ (y : Result Unit TagFault). Writes y (iam3_purpose setup held m) (iam3_stored setup held m) i u r i' u') (sym d)
+          subst (λ (y : Result Unit TagFault). Writes y (iam3_purpose setup held m) (iam3_stored setup held m) i u r i' u')
+          (sym d)
           (by_proof proof (iam3_purpose setup held m) (iam3_stored setup held m) i u r i' u' s.outcome s.session
           s.in_identity s.in_user)
 

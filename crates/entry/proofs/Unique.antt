@@ -32,7 +32,10 @@ refused_one κs a x y v w p q = ((λ j. record { outcome = one p.0 q.0 j; sessio
 
 challenged_one : (v : Result Unit TagFault) (bytes : List ℕ) (next : Session) (n : ℕ) (x y : Challenged n)
     → Challenges v bytes next x.reply x.session → Challenges v bytes next y.reply y.session → x ≡ y
-challenged_one v bytes next n x y p q = λ j. record { reply = one p.reply q.reply j; session = one p.session q.session j }
+challenged_one v bytes next n x y p q = λ j. record {
+  reply = one p.reply q.reply j;
+  session = one p.session q.session j;
+}
 
 pub iam1_one : OneAnswer 2 iam1-kinds.ps iam1-kinds.r iam1.Post
 iam1_one κs a x y v w p q = (challenged_one _ _ _ 10 x y p q, refl)

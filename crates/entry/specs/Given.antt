@@ -92,8 +92,8 @@ pub record LetsIn (v : Result Unit TagFault) (purpose : ℕ) (r : Reacted) : Typ
   pub session : r.session ≡ settled v entered (λ f. cleared)
 
 -- The same, and what the areas hold afterwards: a refusal writes no word.
-pub record Writes (v : Result Unit TagFault) (purpose : ℕ) (stored : Area → List ℕ → List ℕ) (identity user : List ℕ) (r : Reacted)
-    (i u : List ℕ) : Type 0
+pub record Writes (v : Result Unit TagFault) (purpose : ℕ) (stored : Area → List ℕ → List ℕ) (identity user : List ℕ)
+    (r : Reacted) (i u : List ℕ) : Type 0
   where
     pub lets_in : LetsIn v purpose r
     pub in_identity : i ≡ settled v (stored Identity identity) (λ f. identity)

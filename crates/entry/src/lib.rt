@@ -17,11 +17,13 @@ ghost use Rattle.entry.specs.Given.{iam3_stored, mam1_checked, mam1_sent, mam1_h
 
 use frames::Kind;
 use frames::fields::{iam1_of, iam2_of, iam3_of, mam1_of, mam2_of};
+use message::Sent;
 use offer::{Answer, Outcome, TagFault, records};
 use sheet::{Key, Terms};
 
 mod judged; // judged.rt: the checks of IAM2, MAM2 and IAM3, in their order
 mod replies; // replies.rt: what the tag sends
+mod message; // message.rt: an IAM3 as it was sent
 mod opened; // opened.rt: what is judged of what the reader sent
 
 /// The states of Annex A.
@@ -229,13 +231,6 @@ pub fn iam3(
         return refused(fault);
     }
     let f = iam3_of(message);
-    opened::iam3(
-        key,
-        held,
-        f,
-        records::words_asked(terms.profiles, f.custom),
-        message,
-        identity,
-        user,
-    )
+    let block = records::words_asked(terms.profiles, f.custom);
+    opened::iam3(key, held, &Sent { f, m: message }, block, identity, user)
 }

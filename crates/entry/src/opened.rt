@@ -4,19 +4,18 @@ ghost use Rattle.aes.specs.AesEnc.{aes_enc};
 ghost use Rattle.modes.specs.Room.{over};
 ghost use Rattle.frames.specs.Blocks.{blocks_length};
 ghost use Rattle.frames.specs.Constants.{iam3_constant};
-ghost use Rattle.frames.specs.Lengths.{iam3_head_length};
-ghost use Rattle.frames.specs.Messages.{iam3_of};
 ghost use Rattle.frames.specs.Modes.{prot_mode_of};
 ghost use Rattle.memory.specs.Areas.{stored_in};
 ghost use Rattle.entry.specs.Opened.{iam_proof, mam_proof, proved_in, purpose_in, purpose_allowed, sent_block};
 ghost use Rattle.entry.specs.Opened.{opened_in, sent_mac_fits, words_in};
 ghost use Rattle.entry.specs.Decided.{ProofDecides};
 
+use super::message::Sent;
 use super::{Reacted, Session, let_in, refused};
 use frames::constants::iam3_constant;
 use frames::protection::{encrypts, prot_mode};
 use frames::sizes::{DATA_ROOM, blocks_length};
-use frames::{Custom, Iam3, ProtMode};
+use frames::{Custom, ProtMode};
 use memory::{Area, Block};
 use offer::TagFault;
 use sheet::Key;
@@ -77,21 +76,20 @@ fn constant_of(mode: ProtMode) -> u16
 }
 
 // IAM3's first block, opened (9.5.8).
-fn first_opened(key: Key, m: &[u8]) -> [u8; 16]
-    requires { iam3_head_length ≤ length m.now }
-    ensures { result ≡ aes_enc key.enc (sent_block m.now) }
+fn first_opened(key: Key, sent: &Sent) -> [u8; 16]
+    ensures { result ≡ aes_enc key.enc (sent_block sent.now.m.now) }
 {
-    aes::encrypt(key.enc, field::first_block(&m[4..]))
+    aes::encrypt(key.enc, field::first_block(&sent.m[4..]))
 }
 
 // Header, data and filler of an IAM3 in the clear, over the first bytes of `out` (9.5.8.2 to 9.5.8.5).
 // Ruled out: the chain started at another block than A, and data that are opened in ProtMode 2.
-fn open_data(key: Key, mode: ProtMode, f: Iam3, m: &[u8], out: &mut [u8])
-    requires { (iam3_head_length + blocks_length f.custom.blocksize true f.custom.blockcount ≤ length m.now)
-        × (blocks_length f.custom.blocksize true f.custom.blockcount ≤ length out.old) }
-    ensures { out.new ≡ over (opened_in key mode f m.now) out.old }
+fn open_data(key: Key, mode: ProtMode, sent: &Sent, out: &mut [u8])
+    requires { blocks_length sent.now.f.custom.blocksize true sent.now.f.custom.blockcount ≤ length out.old }
+    ensures { out.new ≡ over (opened_in key mode sent.now.f sent.now.m.now) out.old }
 {
-    let end = 20 + blocks_length(f.custom.blocksize, true, f.custom.blockcount);
+    let m = sent.m;
+    let end = 20 + blocks_length(sent.f.custom.blocksize, true, sent.f.custom.blockcount);
     if encrypts(mode) {
         let iv = field::first_block(&m[4..]);
         modes::cbc_dec_aes(iv, key.enc, &m[20..end], out).unwrap();
@@ -102,11 +100,11 @@ fn open_data(key: Key, mode: ProtMode, f: Iam3, m: &[u8], out: &mut [u8])
 
 // Where the ProtMode has a MAC: is it that of A and the data blocks as they were sent (9.5.8.4, 9.5.8.5)?
 // Ruled out: a MAC over the data in the clear, and one that leaves A out.
-fn mac_fits(key: Key, mode: ProtMode, f: Iam3, m: &[u8]) -> bool
-    requires { iam3_head_length + blocks_length f.custom.blocksize true f.custom.blockcount ≤ length m.now }
-    ensures { result ≡ sent_mac_fits key mode f m.now }
+fn mac_fits(key: Key, mode: ProtMode, sent: &Sent) -> bool
+    ensures { result ≡ sent_mac_fits key mode sent.now.f sent.now.m.now }
 {
-    let end = 20 + blocks_length(f.custom.blocksize, true, f.custom.blockcount);
+    let m = sent.m;
+    let end = 20 + blocks_length(sent.f.custom.blocksize, true, sent.f.custom.blockcount);
     payload::mac_fits(key.mackey, mode, &m[4..end], &m[end..])
 }
 
@@ -123,16 +121,16 @@ fn write(block: Block, c: Custom, p: &[u8], identity: &mut [u8], user: &mut [u8]
 // clear.
 // Ruled out: a MAC that is not asked for in ProtModes 2 and 3, and a header that may name other words than the message.
 #[tactic(auto, unfolding(crate::specs::Opened::proved_in))]
-fn proved(key: Key, held: Session, mode: ProtMode, f: Iam3, m: &[u8], b: [u8; 16], p: &[u8]) -> bool
-    requires { (iam3_head_length + blocks_length f.custom.blocksize true f.custom.blockcount ≤ length m.now)
-        × (b ≡ aes_enc key.enc (sent_block m.now))
-        × (p.now ≡ opened_in key mode f m.now) }
-    ensures { result ≡ proved_in key held mode f m.now }
+fn proved(key: Key, held: Session, mode: ProtMode, sent: &Sent, b: [u8; 16], p: &[u8]) -> bool
+    requires { (b ≡ aes_enc key.enc (sent_block sent.now.m.now))
+        × (p.now ≡ opened_in key mode sent.now.f sent.now.m.now) }
+    ensures { result ≡ proved_in key held mode sent.now.f sent.now.m.now }
 {
+    let custom = sent.f.custom;
     let first = iam_proof(constant_of(mode), held, b);
-    let mac = mac_fits(key, mode, f, m);
-    let header = payload::header_fits(true, f.custom, p);
-    let filler = payload::filler_fits(true, f.custom, p);
+    let mac = mac_fits(key, mode, sent);
+    let header = payload::header_fits(true, custom, p);
+    let filler = payload::filler_fits(true, custom, p);
     first & mac & header & filler
 }
 
@@ -141,47 +139,42 @@ fn iam3_in_mode(
     key: Key,
     held: Session,
     mode: ProtMode,
-    f: Iam3,
+    sent: &Sent,
     block: Block,
-    m: &[u8],
     identity: &mut [u8],
     user: &mut [u8],
 ) -> Reacted
-    requires { (f ≡ iam3_of m.now) × (prot_mode_of f.protmode ≡ Some mode)
-        × (iam3_head_length + blocks_length f.custom.blocksize true f.custom.blockcount ≤ length m.now) }
-    ensures { ProofDecides key held f block m.now identity.old user.old result
+    requires { prot_mode_of sent.now.f.protmode ≡ Some mode }
+    ensures { ProofDecides key held sent.now.f block sent.now.m.now identity.old user.old result
         identity.new user.new }
 {
-    let b = first_opened(key, m);
+    let b = first_opened(key, sent);
     let mut room = [0u8; DATA_ROOM];
-    open_data(key, mode, f, m, &mut room);
-    let n = blocks_length(f.custom.blocksize, true, f.custom.blockcount);
-    if !proved(key, held, mode, f, m, b, &room[..n]) {
+    open_data(key, mode, sent, &mut room);
+    let n = blocks_length(sent.f.custom.blocksize, true, sent.f.custom.blockcount);
+    if !proved(key, held, mode, sent, b, &room[..n]) {
         return refused(TagFault::ProofWrong);
     }
-    write(block, f.custom, &room[..n], identity, user);
+    write(block, sent.f.custom, &room[..n], identity, user);
     let_in(purpose(b))
 }
 
-// An IAM3 whose fields f were judged (9.5.8, 9.5.9): where the proof holds, the words are written and the reader is let
+// An IAM3 whose fields were judged (9.5.8, 9.5.9): where the proof holds, the words are written and the reader is let
 // in.
 // Ruled out: words written before the MAC is judged, and a Purpose taken from another block.
 pub fn iam3(
     key: Key,
     held: Session,
-    f: Iam3,
+    sent: &Sent,
     block: Block,
-    m: &[u8],
     identity: &mut [u8],
     user: &mut [u8],
 ) -> Reacted
-    requires { (f ≡ iam3_of m.now)
-        × (iam3_head_length + blocks_length f.custom.blocksize true f.custom.blockcount ≤ length m.now) }
-    ensures { ProofDecides key held f block m.now identity.old user.old result
+    ensures { ProofDecides key held sent.now.f block sent.now.m.now identity.old user.old result
         identity.new user.new }
 {
-    match prot_mode(f.protmode) {
-        Some(mode) => iam3_in_mode(key, held, mode, f, block, m, identity, user),
+    match prot_mode(sent.f.protmode) {
+        Some(mode) => iam3_in_mode(key, held, mode, sent, block, identity, user),
         None => refused(TagFault::ProofWrong),
     }
 }

@@ -41,8 +41,8 @@ module _ (P : TagFault → Type 0) where
   Each [] = Unit
   Each (k ∷ ks) = P k.otherwise × Each ks
 
-  after_fault : (b : Bool) (g f : TagFault) (v : Result Unit TagFault) → P g → (v ≡ Err f → P f) → pick b v (Err g) ≡ Err f
-      → P f
+  after_fault : (b : Bool) (g f : TagFault) (v : Result Unit TagFault) → P g → (v ≡ Err f → P f)
+      → pick b v (Err g) ≡ Err f → P f
   after_fault true g f v p h e = h e
   after_fault false g f v p h e = let q : g ≡ f = cc in subst (λ (x : TagFault). P x) q p
 
@@ -79,8 +79,8 @@ module _ (c : Call) (setup : Setup) where
   unfolding let_in
   entry_keeps purpose identity user f e = let z : ◌≡◌ {A = ℕ} 0 1 = cc in absurd (omega arith)
 
-  verdict_keeps : (v : Result Unit TagFault) (e : Effect) → ((f : TagFault) → v ≡ Err f → ToInitial f) → UnchangedInitial e
-      → UnchangedInitial (if_fine c v e)
+  verdict_keeps : (v : Result Unit TagFault) (e : Effect) → ((f : TagFault) → v ≡ Err f → ToInitial f)
+      → UnchangedInitial e → UnchangedInitial (if_fine c v e)
   unfolding if_fine
   verdict_keeps (Ok tt) e g k = k
   verdict_keeps (Err f) e g k = refusal_keeps f (g f refl)
@@ -132,8 +132,8 @@ module _ (c : Call) (setup : Setup) where
     message_keeps [] = refusal_keeps OtherError (λ h. refl)
     message_keeps (b ∷ m) = order_keeps (kind_of b)
 
-    bench_keeps : (v : Result Unit TagFault) → ((f : TagFault) → v ≡ Err f → session_after f held ≡ held) → (f : TagFault)
-        → (of_lending c setup held v).outcome ≡ Err f
+    bench_keeps : (v : Result Unit TagFault) → ((f : TagFault) → v ≡ Err f → session_after f held ≡ held)
+        → (f : TagFault) → (of_lending c setup held v).outcome ≡ Err f
         → Unchanged c (holding setup (session_after f held)) (answer_with setup (of_lending c setup held v))
     unfolding refused
     bench_keeps (Ok tt) h f e =

@@ -33,7 +33,8 @@ bytes_of (Ok bytes) = bytes
 bytes_of (Err f) = []
 
 -- The same of a reply that is there, or of a refusal, and what is held then.
-pub record Sends (reply : Result (List ℕ) TagFault) (held : Session) (room : List ℕ) (r : Reacted) (after : List ℕ) : Type 0
+pub record Sends (reply : Result (List ℕ) TagFault) (held : Session) (room : List ℕ) (r : Reacted) (after : List ℕ)
+    : Type 0
   where
     pub outcome : r.outcome ≡ told reply
     pub session : r.session ≡ held

@@ -49,7 +49,8 @@ mac_of mode mackey s = pick (has_mac mode) (cmac96 mackey s) []
 -- ---- the data as they are sent, into a room
 
 module _ (mode : ProtMode) (b : Bool) (enc a p room : List ℕ) (told : b ≡ encrypts mode) where
-  pub body_chained : (after : List ℕ) (answer : Result Unit ChainingFault) → b ≡ true → length p % 16 ≡ 0 → length p ≤ length room
+  pub body_chained : (after : List ℕ) (answer : Result Unit ChainingFault) → b ≡ true → length p % 16 ≡ 0
+      → length p ≤ length room
       → Into (chains (length p) (length room)) (cbc_enc_aes a enc p) room answer after
       → after ≡ over (pick (encrypts mode) (cbc_enc_aes a enc p) p) room
   body_chained after answer t w h i =

@@ -5,13 +5,12 @@ ghost use Rattle.modes.specs.Cbc.{cbc_enc_aes};
 ghost use Rattle.modes.specs.Room.{over};
 ghost use Rattle.frames.specs.Blocks.{data_length};
 ghost use Rattle.frames.specs.Fields.{custom_fits};
-ghost use Rattle.frames.specs.Lengths.{reply_room};
 ghost use Rattle.frames.specs.Modes.{encrypts};
 ghost use Rattle.payload.specs.Data.{carried_data};
 ghost use Rattle.tam.specs.Replies.{tam_block, tam1_reply, tam2_in_mode, tam2_reply};
 
 use frames::protection::{encrypts, prot_mode};
-use frames::sizes::{DATA_MOST, DATA_ROOM, data_length};
+use frames::sizes::{DATA_MOST, DATA_ROOM, REPLY_ROOM, data_length};
 use frames::{Custom, ProtMode, Tam1, Tam2};
 use sheet::Key;
 
@@ -86,11 +85,10 @@ fn tam2_in_mode(
     words: &[u8],
     draws: [u8; 10],
     mode: ProtMode,
-    room: &mut [u8],
+    room: &mut [u8; REPLY_ROOM],
 ) -> usize
     requires { (custom_fits m.custom ≡ true)
-        × (length words.now ≤ data_length m.custom.blocksize m.custom.blockcount)
-        × (reply_room ≤ length room.old) }
+        × (length words.now ≤ data_length m.custom.blocksize m.custom.blockcount) }
     ensures { (result ≡ length (tam2_in_mode key m words.now draws mode))
         × (room.new ≡ over (tam2_in_mode key m words.now draws mode) room.old) }
 {
@@ -106,10 +104,15 @@ fn tam2_in_mode(
 
 /// The reply to TAM2 (9.4.6) into the first bytes of the room; its length.
 /// Ruled out: the MAC of the data before they are chained, and a header in Rev 0.
-pub fn tam2_reply(key: Key, m: Tam2, words: &[u8], draws: [u8; 10], room: &mut [u8]) -> usize
+pub fn tam2_reply(
+    key: Key,
+    m: Tam2,
+    words: &[u8],
+    draws: [u8; 10],
+    room: &mut [u8; REPLY_ROOM],
+) -> usize
     requires { (custom_fits m.custom ≡ true)
-        × (length words.now ≤ data_length m.custom.blocksize m.custom.blockcount)
-        × (reply_room ≤ length room.old) }
+        × (length words.now ≤ data_length m.custom.blocksize m.custom.blockcount) }
     ensures { (result ≡ length (tam2_reply key m words.now draws))
         × (room.new ≡ over (tam2_reply key m words.now draws) room.old) }
 {

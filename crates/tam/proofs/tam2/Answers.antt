@@ -1,8 +1,5 @@
 -- `tam::tam2` meets its contract.
 use mathlib.Core.Path.{ap, ◌∙◌}
-use Prim.Native.Nat.{ℕ}
-use native.Mathlib.Omega.{arith}
-use lib.ListN.{length-replicate}
 use Rattle.frames.specs.declared.Tam2.{Tam2}
 use Rattle.frames.specs.Fields.{custom_fits}
 use Rattle.tam.proofs.Tam2Asked.{tam2_custom_fits, words_fit}
@@ -15,5 +12,4 @@ tam2_reply-length-requires c =
       ap (λ (g : Tam2). custom_fits g.custom) c.tam2_of-f.ensures ∙ fit,
       words_fit c.args.terms.profiles f.custom c.args.identity.now c.args.user.now c.words_asked.ensures
           c.window-words.ensures,
-      omega (arith, length-replicate {A = ℕ} 172 0),
     )

@@ -13,10 +13,10 @@ use Rattle.entry.proofs.opened.mac_fits.Goals as goal
 pub returns : goal.returns
 unfolding sent_mac_fits
 returns c = let b = c.blocks_length-end in
-    let m = c.args.m.now in
-    let n = blocks_length c.args.f.custom.blocksize true c.args.f.custom.blockcount in
-    let over : take (20 + b.result - 4) (drop 4 m) ≡ sent_block m ++ sent_data c.args.f.custom m =
+    let m = c.args.sent.now.m.now in
+    let n = blocks_length c.args.sent.now.f.custom.blocksize true c.args.sent.now.f.custom.blockcount in
+    let over : take (20 + b.result - 4) (drop 4 m) ≡ sent_block m ++ sent_data c.args.sent.now.f.custom m =
     ap (λ (k : ℕ). take (20 + k - 4) (drop 4 m)) b.ensures ∙ covered m n in
-    let behind : take (length m - (20 + b.result)) (drop (20 + b.result) m) ≡ sent_mac c.args.f.custom m =
+    let behind : take (length m - (20 + b.result)) (drop (20 + b.result) m) ≡ sent_mac c.args.sent.now.f.custom m =
     rest_sent m (20 + b.result) ∙ ap (λ (k : ℕ). drop (20 + k) m) b.ensures in
     c.mac_fits.ensures ∙ ap₂ (λ (x y : List ℕ). mac_fits c.args.key.mackey c.args.mode x y) over behind

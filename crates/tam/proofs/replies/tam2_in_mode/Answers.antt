@@ -26,7 +26,7 @@ authenticated-requires c = let n = c.blocks_length-n in
     let whole = blocks_whole c.args.m.custom.blocksize c.args.m.rev c.args.m.custom.blockcount in
     let l : length (take n.result p.result) ≡ n.result =
     length-take-le n.result p.result (omega (arith, n.ensures, most)) in
-    (omega (arith, n.ensures, whole, l), omega (arith, n.ensures, most, l, c.requires.2))
+    (omega (arith, n.ensures, whole, l), omega (arith, n.ensures, most, l))
 
 pub overflow_add-n : goal.overflow_add-n
 overflow_add-n c =
@@ -43,5 +43,5 @@ returns c =
     let z = c.mac_behind in
     tam2_made_lem a.key a.m a.words.now a.draws a.mode c.requires.0 c.requires.1
     n.result c.tam2_reply_length.result z.result p.result k.result b.result a.room.now r.new.room z.new.room
-    n.ensures p.ensures k.ensures b.ensures r.ensures (search rules) c.requires.2 z.ensures
+    n.ensures p.ensures k.ensures b.ensures r.ensures (search rules) (omega arith) z.ensures
     c.tam2_reply_length.ensures
