@@ -9,7 +9,6 @@ use native.Mathlib.Omega.{arith}
 use lib.ListN.{length, drop, length-take}
 use Rattle.ground.specs.Choice.{pick}
 use Rattle.ground.specs.Bytes.{Bytes}
-use Rattle.sheet.specs.declared.SheetFault.{SheetFault}
 use Rattle.sheet.specs.declared.Reading.{Reading}
 use Rattle.sheet.specs.declared.Terms.{Terms}
 use Rattle.sheet.specs.Limits.{key_limit, profile_limit, lock_limit}

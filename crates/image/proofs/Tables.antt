@@ -1,48 +1,43 @@
--- Bodies that stand one behind the other: read into a table a body a turn, laid into an image a body a turn, and read
--- again.
-use mathlib.Core.Path.{◌≡◌, refl, sym, ap, ap₂, ◌∙◌}
+-- Bodies that stand one behind the other: read into a table, laid into an image, and read again.
+use mathlib.Core.Path.{◌≡◌, refl, sym, ap, ap₂, subst, ◌∙◌}
 use mathlib.Core.List.{List, [], ◌∷◌, ◌++◌, append_assoc, append-nil}
-use Prim.Native.Nat.{ℕ, suc, ◌+◌, ◌*◌, ◌-◌, ◌≤◌, ◌<◌}
+use Prim.Native.Nat.{ℕ, zero, suc, ◌+◌, ◌*◌, ◌≤◌, ◌<◌}
 use native.Mathlib.Omega.{arith}
 use native.Mathlib.Nat.{mul-suc}
-use lib.ListN.{length, take, drop, set, get_or, length-append}
-use lib.Seq.{take-suc, take-suc-set, take_all, take_at, drop_at, drop-drop, length-take-le}
+use denote.Param.Members.{Mut, Called}
+use Rattle.std.specs.Array.{IsFromFnResult, IsFromFnResultFrom}
+use lib.ListN.{length, take, drop, get_or, length-append, drop_of_length-le}
+use lib.Seq.{take-suc, take_at, drop_at, drop-drop, drop-cons, length-take-le}
 use Rattle.modes.specs.Room.{over}
 use Rattle.payload.proofs.Overs.{put_next}
 use Rattle.image.specs.Image.{bodies, said_in}
 
 -- ---- read
 
-module _ {A : Type 0} (says : List ℕ → A) (long : ℕ) (whole : List A) (n : ℕ) (image : List ℕ) where
-  -- t has what the first i bodies say, and the others stand from place p on
-  abbrev pub ReadTo : List A → ℕ → ℕ → Type 0
-  ReadTo t i p = take i t ++ said_in says long (n - i) (drop p image) ≡ whole
+-- An array whose element i is what body i says, by a closure that is called at each place and changes nothing that it
+-- captured.
+module _ {A F : Type 0} {g : Mut F (ℕ × Unit {0}) A} {f : F} (says : List ℕ → A) (long at : ℕ) (image : List ℕ) (n : ℕ)
+    (answers : (i : ℕ) (y : A) (q : F) → i < n → Called g f (i, tt) y q
+      → (q ≡ f) × (y ≡ says (take long (drop (at + long * i) image)))) where
+  said_behind : (ys : List A) (m i : ℕ) → i + m ≡ n → length ys ≡ n → IsFromFnResultFrom g f ys i m
+      → drop i ys ≡ said_in says long m (drop (at + long * i) image)
+  unfolding said_in
+  said_behind ys zero i e l r = drop_of_length-le ys {i = i} (omega arith)
+  said_behind ys (suc m) i e l (q, y, el, called, r) =
+      let a = answers i y q (omega arith) called in
+      let p : at + long * (i + 1) ≡ at + long * i + long = let h = mul-suc long i in omega arith in
+      let rest =
+      said_behind ys m (i + 1) (omega arith) l (subst (λ (p : F). IsFromFnResultFrom g p ys (i + 1) m) a.0 r) in
+      drop-cons ys i y (omega arith)
+      ∙ ap₂ ◌∷◌ (el.1 y ∙ a.1)
+      (ap (λ (j : ℕ). drop j ys) (let h : suc i ≡ i + 1 = omega arith in h)
+      ∙ rest
+      ∙ ap (said_in says long m) (ap (λ (j : ℕ). drop j image) p ∙ sym (drop-drop long (at + long * i) image)))
 
-  module _ (t : List A) (i : ℕ) (l : length t ≡ n) where
-    pub read_more : (p e q : ℕ) (x : A) → i < n → e - p ≡ long → q ≡ p + long
-        → x ≡ says (take (e - p) (drop p image)) → ReadTo t i p → ReadTo (set t i x) (i + 1) q
-    unfolding said_in
-    read_more p e q x h k j f g =
-        let m : n - i ≡ suc (n - (i + 1)) = omega arith in
-        let a : i + 1 ≡ suc i = omega arith in
-        let y : x ≡ says (take long (drop p image)) = f ∙ ap (λ (z : ℕ). says (take z (drop p image))) k in
-        let r = said_in says long (n - (i + 1)) (drop long (drop p image)) in
-        ap₂ {C = List A} (λ u v. u ++ said_in says long (n - (i + 1)) v)
-        (ap (λ (z : ℕ). take z (set t i x)) a ∙ take-suc-set t i x (omega arith))
-        (ap (λ (z : ℕ). drop z image) j ∙ sym (drop-drop long p image))
-        ∙ append_assoc (take i t) (x ∷ []) r
-        ∙ ap (λ (z : A). take i t ++ z ∷ r) y
-        ∙ sym (ap (λ (z : ℕ). take i t ++ said_in says long z (drop p image)) m)
-        ∙ g
-
-    pub read_all : (p : ℕ) → n ≤ i → ReadTo t i p → t ≡ whole
-    unfolding said_in
-    read_all p h g =
-        let m : n - i ≡ 0 = omega arith in
-        sym (append-nil t)
-        ∙ sym (ap (λ (z : List A). z ++ []) (take_all i t (omega arith)))
-        ∙ sym (ap (λ (z : ℕ). take i t ++ said_in says long z (drop p image)) m)
-        ∙ g
+  pub said_each : {ys : List A} → IsFromFnResult g f ys n → ys ≡ said_in says long n (drop at image)
+  said_each {ys} r =
+      said_behind ys n 0 (omega arith) r.long r.each
+      ∙ ap (λ (j : ℕ). said_in says long n (drop j image)) (let h : at + long * 0 ≡ at = omega arith in h)
 
 -- ---- laid
 

@@ -1,16 +1,16 @@
 -- No second answer fits the contracts of the exported functions.
 use mathlib.Core.Path.{refl}
 use Rattle.ground.specs.OneAnswer.{OneAnswer, OneLent, one, ◌&◌}
-use Rattle.image.proofs.session.Reads as session
-use Rattle.image.proofs.session.Kinds as session-kinds
-use Rattle.image.proofs.sizes.Reads as sizes
-use Rattle.image.proofs.sizes.Kinds as sizes-kinds
-use Rattle.image.proofs.terms.Reads as terms
-use Rattle.image.proofs.terms.Kinds as terms-kinds
-use Rattle.image.proofs.key_table.Reads as key-table
-use Rattle.image.proofs.key_table.Kinds as key-table-kinds
-use Rattle.image.proofs.is_tag.Reads as is-tag
-use Rattle.image.proofs.is_tag.Kinds as is-tag-kinds
+use Rattle.image.proofs.read.session.Reads as session
+use Rattle.image.proofs.read.session.Kinds as session-kinds
+use Rattle.image.proofs.read.sizes.Reads as sizes
+use Rattle.image.proofs.read.sizes.Kinds as sizes-kinds
+use Rattle.image.proofs.read.terms.Reads as terms
+use Rattle.image.proofs.read.terms.Kinds as terms-kinds
+use Rattle.image.proofs.read.key_table.Reads as key-table
+use Rattle.image.proofs.read.key_table.Kinds as key-table-kinds
+use Rattle.image.proofs.read.is_tag.Reads as is-tag
+use Rattle.image.proofs.read.is_tag.Kinds as is-tag-kinds
 use Rattle.image.proofs.keep.Reads as keep
 use Rattle.image.proofs.keep.Kinds as keep-kinds
 use Rattle.image.proofs.lay.Reads as lay

@@ -1,16 +1,16 @@
 // What an image says, by the sheet's own definitions of a body.
-ghost use Rattle.std.specs.Prelude.{◌≡◌, length, drop};
+ghost use Rattle.std.specs.Prelude.{◌≡◌, drop};
 ghost use Rattle.sheet.specs.Limits.{profile_limit, lock_limit};
 ghost use Rattle.sheet.specs.Records.{lock_of};
-ghost use Rattle.image.specs.Places.{image_length, profiles_at, locks_at};
+ghost use Rattle.image.specs.Places.{profiles_at, locks_at};
 ghost use Rattle.image.specs.Image.{state_of, session_in, slot_in, said_in, terms_in, table_in, rests, is_tag};
 
 use crate::{
     FEATURES_AT, IMAGE, KEY_COUNT_AT, KEY_TABLE_AT, LOCK_COUNT_AT, LOCKS_AT, PROFILES_AT, SIZES_AT,
 };
 use entry::{Session, State};
-use memory::{Area, Lock, Profile, Word};
-use octets::word_at;
+use memory::Lock;
+use octets::{byte, bytes_at, front, tail, word_at, zeros};
 use sheet::bodies::{features_of, lock_of, sizes_of, slot_of};
 use sheet::{
     KEY_LIMIT, KEY_RECORD, LOCK_BODY, LOCK_LIMIT, Locks, PROFILE_BODY, PROFILE_LIMIT, Sizes, Slot,
@@ -21,152 +21,113 @@ use sheet::{
 fn state_of(n: u8) -> State
     ensures { result ≡ state_of n }
 {
-    if n == 0 {
-        return State::Initial;
+    match n {
+        0 => State::Initial,
+        1 => State::IamInit,
+        2 => State::MamInit,
+        _ => State::IaOk,
     }
-    if n == 1 {
-        return State::IamInit;
-    }
-    if n == 2 {
-        return State::MamInit;
-    }
-    State::IaOk
 }
 
-pub fn session(image: &[u8]) -> Session
-    requires { length image.now ≡ image_length }
+/// What the tag of an image holds.
+///
+/// Ruled out: IChallenge before TChallenge; the KeyID taken for the state.
+#[tactic(auto, unfolding(crate::specs::Image::session_in))]
+pub fn session(image: &[u8; IMAGE]) -> Session
     ensures { result ≡ session_in image.now }
 {
-    let keyid = image[1];
-    let tchallenge = octets::bytes_at(image, 2);
-    let ichallenge = [image[12], image[13], image[14], image[15]];
-    let state = state_of(image[0]);
     Session {
-        state,
-        keyid,
-        tchallenge,
-        ichallenge,
+        state: state_of(image[0]),
+        keyid: image[1],
+        tchallenge: bytes_at(image, 2),
+        ichallenge: bytes_at(image, 12),
     }
 }
 
-pub fn sizes(image: &[u8]) -> Sizes
-    requires { length image.now ≡ image_length }
+/// The sizes of its areas, in words.
+///
+/// Ruled out: the two areas exchanged; the least significant byte first.
+#[tactic(auto, unfolding(crate::specs::Image::terms_in))]
+pub fn sizes(image: &[u8; IMAGE]) -> Sizes
     ensures { result ≡ (terms_in image.now).sizes }
 {
     sizes_of(&image[SIZES_AT..PROFILES_AT])
 }
 
+#[tactic(auto, unfolding(crate::specs::Image::slot_in))]
 fn slot_in(b: &[u8]) -> Slot
-    requires { length b.now ≡ 6 }
     ensures { result ≡ slot_in b.now }
 {
-    let said = slot_of(b);
-    let profile = said.profile;
     Slot {
-        present: b[0] == 1,
-        profile,
+        present: byte(b, 0) == 1,
+        profile: slot_of(b).profile,
     }
 }
 
-fn profiles(image: &[u8]) -> [Slot; PROFILE_LIMIT]
-    requires { length image.now ≡ image_length }
+fn profiles(image: &[u8; IMAGE]) -> [Slot; PROFILE_LIMIT]
     ensures { result ≡ said_in slot_in 6 profile_limit (drop profiles_at image.now) }
 {
-    let none = Profile {
-        area: Area::Identity,
-        base: Word(0),
-        words: 0,
-    };
-    let mut slots = [Slot {
-        present: false,
-        profile: none,
-    }; PROFILE_LIMIT];
-    let mut i = 0;
-    while i < PROFILE_LIMIT {
+    std::array::from_fn(|i: usize| {
         let at = PROFILES_AT + PROFILE_BODY * i;
-        let end = at + PROFILE_BODY;
-        slots[i] = slot_in(&image[at..end]);
-        i += 1;
-    }
-    slots
+        slot_in(&image[at..at + PROFILE_BODY])
+    })
 }
 
-fn locks(image: &[u8]) -> [Lock; LOCK_LIMIT]
-    requires { length image.now ≡ image_length }
+fn locks(image: &[u8; IMAGE]) -> [Lock; LOCK_LIMIT]
     ensures { result ≡ said_in lock_of 5 lock_limit (drop locks_at image.now) }
 {
-    let mut table = [Lock {
-        area: Area::Identity,
-        first: Word(0),
-        words: 0,
-    }; LOCK_LIMIT];
-    let mut i = 0;
-    while i < LOCK_LIMIT {
+    std::array::from_fn(|i: usize| {
         let at = LOCKS_AT + LOCK_BODY * i;
-        let end = at + LOCK_BODY;
-        table[i] = lock_of(&image[at..end]);
-        i += 1;
-    }
-    table
+        lock_of(&image[at..at + LOCK_BODY])
+    })
 }
 
-pub fn terms(image: &[u8]) -> Terms
-    requires { length image.now ≡ image_length }
+/// The terms on which it serves.
+///
+/// Ruled out: a profile that is not there taken for one of no words; fifteen locks of sixteen.
+#[tactic(auto, unfolding(crate::specs::Image::terms_in))]
+pub fn terms(image: &[u8; IMAGE]) -> Terms
     ensures { result ≡ terms_in image.now }
 {
-    let features = features_of(&image[FEATURES_AT..SIZES_AT]);
-    let sizes = sizes(image);
-    let profiles = profiles(image);
-    let count = image[LOCK_COUNT_AT] as usize;
-    let table = locks(image);
     Terms {
-        features,
-        sizes,
-        profiles,
-        locks: Locks { count, table },
+        features: features_of(&image[FEATURES_AT..SIZES_AT]),
+        sizes: sizes(image),
+        profiles: profiles(image),
+        locks: Locks {
+            count: usize::from(image[LOCK_COUNT_AT]),
+            table: locks(image),
+        },
     }
 }
 
-pub fn key_table(image: &[u8]) -> &[u8]
-    requires { length image.now ≡ image_length }
+/// Its key table: as many records as the image says, as far as it goes.
+///
+/// Ruled out: the room of all records lent where there are fewer; a table that starts with its own number.
+#[tactic(auto, unfolding(crate::specs::Image::table_in))]
+pub fn key_table(image: &[u8; IMAGE]) -> &[u8]
     ensures { result.now ≡ table_in image.now }
 {
-    let records = word_at(image, KEY_COUNT_AT) as usize;
-    if KEY_LIMIT < records {
-        return &image[KEY_TABLE_AT..IMAGE];
-    }
-    let end = KEY_TABLE_AT + KEY_RECORD * records;
-    &image[KEY_TABLE_AT..end]
+    let records = usize::from(word_at(image, KEY_COUNT_AT));
+    front(tail(image, KEY_TABLE_AT), KEY_RECORD * records)
 }
 
 // Is nothing held where no challenge waits?
-fn rests(image: &[u8]) -> bool
-    requires { length image.now ≡ image_length }
+fn rests(image: &[u8; IMAGE]) -> bool
     ensures { result ≡ rests (session_in image.now) }
 {
-    if !tag::at_rest(state_of(image[0])) {
-        return true;
-    }
-    octets::zeros(&image[1..16])
+    !tag::at_rest(state_of(image[0])) || zeros(&image[1..16])
 }
 
-pub fn is_tag(image: &[u8]) -> bool
-    requires { length image.now ≡ image_length }
+/// Are the bytes a tag's?
+///
+/// Ruled out: a fifth state taken for IA-OK; a held KeyID that no record has; a challenge that is held in Initial.
+#[tactic(auto, unfolding(crate::specs::Image::is_tag, sheet::specs::Limits::lock_limit, sheet::specs::Limits::key_limit))]
+pub fn is_tag(image: &[u8; IMAGE]) -> bool
     ensures { result ≡ is_tag image.now }
 {
-    if 4 <= image[0] {
-        return false;
-    }
-    let count = image[LOCK_COUNT_AT] as usize;
-    if LOCK_LIMIT < count {
-        return false;
-    }
-    let records = word_at(image, KEY_COUNT_AT) as usize;
-    if KEY_LIMIT < records {
-        return false;
-    }
-    if !tag::key_held(session(image), key_table(image)) {
-        return false;
-    }
-    rests(image)
+    image[0] < 4
+        && usize::from(image[LOCK_COUNT_AT]) <= LOCK_LIMIT
+        && usize::from(word_at(image, KEY_COUNT_AT)) <= KEY_LIMIT
+        && tag::key_held(session(image), key_table(image))
+        && rests(image)
 }
