@@ -3,7 +3,8 @@ use mathlib.Core.Path.{◌≡◌, refl, sym, ap, ap₂, ◌∙◌}
 use mathlib.Core.List.{List, [], ◌∷◌, ◌++◌, append_assoc}
 use Prim.Native.Nat.{ℕ, ◌+◌, ◌*◌, ◌≤◌}
 use native.Mathlib.Omega.{arith}
-use lib.ListN.{length, take, drop, replicate, length-append}
+use borrow.Rule.Slice.PartMut.{put_mid}
+use lib.ListN.{length, take, drop, set, replicate, length-append, length-take, length-drop, length-set}
 use lib.Seq.{drop-drop, length-take-le}
 use Rattle.ground.specs.Bytes.{two_bytes}
 use Rattle.modes.specs.Room.{over}
@@ -49,6 +50,26 @@ session_laid a b c room r s t k l e f g =
     let n : length (a ++ b) ≡ 12 = length-append a b ∙ ap₂ ◌+◌ k l in
     put_next (a ++ b) c room s t 12 n (put_next a b room r s 2 k e f) g
     ∙ ap (λ (x : List ℕ). over x room) (append_assoc a b c)
+
+two_set : (x y : ℕ) (room : List ℕ) → 2 ≤ length room → set (set room 0 x) 1 y ≡ over (x ∷ y ∷ []) room
+two_set x y [] h = absurd (omega arith)
+two_set x y (a ∷ []) h = absurd (omega arith)
+two_set x y (a ∷ b ∷ r) h = refl
+
+-- a session over the first bytes of an image
+pub session_kept : (x y : ℕ) (b c room : List ℕ) → length room ≡ 793
+    → length b ≡ length (take 10 (drop 2 (set (set room 0 x) 1 y)))
+    → length c ≡ length (take 4 (drop 12 (put_mid 2 10 (set (set room 0 x) 1 y) b)))
+    → put_mid 12 4 (put_mid 2 10 (set (set room 0 x) 1 y) b) c ≡ over (x ∷ y ∷ b ++ c) room
+session_kept x y b c room h d e =
+    let r = set (set room 0 x) 1 y in
+    let s = put_mid 2 10 r b in
+    let k : length b ≡ 10 = d ∙ simp (length-take, length-drop, length-set) (omega arith) in
+    let l : length c ≡ 4 =
+    e ∙ simp (length-take, length-drop, length-append, length-set) (omega (arith, k)) in
+    session_laid (x ∷ y ∷ []) b c room r s (put_mid 12 4 s c) refl k (two_set x y room (omega arith))
+    (ap (λ (n : ℕ). take 2 r ++ (b ++ drop n (drop 2 r))) (sym k))
+    (ap (λ (n : ℕ). take 12 s ++ (c ++ drop n (drop 12 s))) (sym l))
 
 -- d behind p, which stands from place n on
 next : (n k : ℕ) (p d room r s : List ℕ) → n ≤ length room → length p ≡ k → r ≡ take n room ++ over p (drop n room)

@@ -11,8 +11,8 @@ use Rattle.image.proofs.read.key_table.Reads as key-table
 use Rattle.image.proofs.read.key_table.Kinds as key-table-kinds
 use Rattle.image.proofs.read.is_tag.Reads as is-tag
 use Rattle.image.proofs.read.is_tag.Kinds as is-tag-kinds
-use Rattle.image.proofs.keep.Reads as keep
-use Rattle.image.proofs.keep.Kinds as keep-kinds
+use Rattle.image.proofs.write.keep.Reads as keep
+use Rattle.image.proofs.write.keep.Kinds as keep-kinds
 use Rattle.image.proofs.lay.Reads as lay
 use Rattle.image.proofs.lay.Kinds as lay-kinds
 

@@ -1,11 +1,8 @@
 // A tag in the memory of its caller: an image of bytes that is taken apart by copying (specs/Image.antt).
 #![tactic(auto)]
 
-ghost use Rattle.std.specs.Prelude.{◌≡◌};
-ghost use Rattle.image.specs.Image.{kept};
 ghost use Rattle.image.specs.Kept.{Laid};
 
-use entry::Session;
 use sheet::{
     FEATURE_BODY, KEY_LIMIT, KEY_RECORD, LOCK_BODY, LOCK_LIMIT, PROFILE_BODY, PROFILE_LIMIT,
     SIZE_BODY, SheetRefusal,
@@ -15,6 +12,7 @@ mod read; // read.rt: what an image says
 mod write; // write.rt: how one is written
 
 pub use read::{is_tag, key_table, session, sizes, terms};
+pub use write::keep;
 
 // Where each part stands (specs/Places.antt).
 pub const FEATURES_AT: usize = 16;
@@ -33,15 +31,6 @@ pub const KEY_TABLE_AT: usize = KEY_COUNT_AT + 2;
 
 /// The bytes of an image: 793.
 pub const IMAGE: usize = KEY_TABLE_AT + KEY_LIMIT * KEY_RECORD;
-
-/// Keeps a session in an image: its first sixteen bytes.
-///
-/// Ruled out: IChallenge before TChallenge; a byte of the terms changed.
-pub fn keep(image: &mut [u8; IMAGE], session: Session)
-    ensures { image.new ≡ kept session image.old }
-{
-    write::keep(image, session);
-}
 
 /// Lays the tag of a sheet into an image, powered up. One that is refused changes no byte.
 ///
