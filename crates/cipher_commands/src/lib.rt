@@ -81,6 +81,6 @@ pub fn cmac(rt: &impl Print, words: Words<'_>) -> Result<(), Fault> {
 fn told(rt: &impl Print, done: Result<(), ChainingFault>, written: &[u8]) -> io::Result<()> {
     match done {
         Ok(()) => println!(rt; "out {}", Hex(written)),
-        Err(_) => println!(rt; "refused {}", modes::number(done)),
+        Err(fault) => println!(rt; "refused {}", u8::from(fault)),
     }
 }

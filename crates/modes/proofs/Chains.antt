@@ -5,9 +5,7 @@ use Prim.Native.Nat.{ℕ, suc, ◌+◌, ◌-◌, ◌/◌, ◌≤◌, ◌<◌}
 use native.Mathlib.Omega.{arith}
 use lib.ListN.{length, take, drop, length-drop, length-append, drop_of_length-le}
 use lib.Seq.{take_all, take_at, drop_at, drop-drop}
-use Rattle.field.specs.Block.{xor}
 use Rattle.modes.specs.Blocks.{blocks, whole_blocks, joined}
-use Rattle.modes.specs.Cbc.{cbc_enc, cbc_dec}
 use Rattle.modes.specs.Room.{over}
 
 -- ---- the blocks of a list
@@ -29,18 +27,6 @@ tail_part k s = take_all (length s - k) (drop k s) (simp length-drop (omega arit
 
 nothing_after : (k : ℕ) (s : List ℕ) → drop (length s - k) (drop k s) ≡ []
 nothing_after k s = drop_of_length-le (drop k s) {i = length s - k} (simp length-drop (omega arith))
-
--- ---- a step of each form
-
-pub enc_step : (F : List ℕ → List ℕ) (iv i o : List ℕ) → o ≡ F (xor i iv) → (is : List (List ℕ))
-    → cbc_enc F iv (i ∷ is) ≡ o ∷ cbc_enc F o is
-unfolding cbc_enc
-enc_step F iv i o e is = λ k. sym e k ∷ cbc_enc F (sym e k) is
-
-pub dec_step : (F : List ℕ → List ℕ) (iv i j o : List ℕ) → j ≡ i → o ≡ xor (F j) iv → (is : List (List ℕ))
-    → cbc_dec F iv (i ∷ is) ≡ o ∷ cbc_dec F j is
-unfolding cbc_dec
-dec_step F iv i j o p e is = (λ k. xor (F (sym p k)) iv ∷ cbc_dec F (sym p k) is) ∙ (λ k. sym e k ∷ cbc_dec F j is)
 
 -- ---- the chain in a room
 

@@ -5,19 +5,12 @@ use Rattle.modes.specs.declared.ChainingFault.TheVariants.{BlocksOrRoom}
 use mathlib.Core.Path.{◌≡◌, sym, ap, ap₂, ◌∙◌, subst}
 use mathlib.Core.Bool.{Bool, true, false, false≢true}
 use mathlib.Core.List.{List, ◌++◌}
-use Prim.Native.Nat.{ℕ, ◌%◌, ◌<◌, ◌≤◌}
+use Prim.Native.Nat.{ℕ, ◌%◌, ◌≤◌}
 use lib.Dec.{eqb, leb}
 use lib.ListN.{length, drop}
-use borrow.Author.Tests.{eq-eqb, ne_eqb, le-leb, lt-leb, leb-true}
+use borrow.Author.Tests.{eq-eqb, le-leb, leb-true}
 use Rattle.ground.specs.Choice.{pick, both}
 use Rattle.modes.specs.Room.{Into, chains, macs, over}
-
-pub refused : (taken : Bool) (out room : List ℕ) → taken ≡ false → Into taken out room (Err BlocksOrRoom) room
-refused taken out room e = record {
-  says = ap (λ (b : Bool). pick b (Ok tt) (Err BlocksOrRoom)) (sym e);
-  number = ap (λ (b : Bool). pick b 0 8) (sym e);
-  leaves = ap (λ (b : Bool). pick b (over out room) room) (sym e);
-}
 
 pub done : (taken : Bool) (out room after : List ℕ) → taken ≡ true → after ≡ over out room
     → Into taken out room (Ok tt) after
@@ -44,9 +37,6 @@ second false b e = absurd (false≢true e)
 
 -- ---- chaining
 
-pub part_of_block : (n m : ℕ) → (n % 16 ≡ 0 → ⊥) → chains n m ≡ false
-part_of_block n m h = ap (λ (b : Bool). both b (leb n m)) (ne_eqb (n % 16) 0 h)
-
 pub enough : (n m : ℕ) → n % 16 ≡ 0 → n ≤ m → chains n m ≡ true
 enough n m e h = ap₂ both (eq-eqb (n % 16) 0 e) (le-leb n m h)
 
@@ -55,15 +45,6 @@ pub has_room : (n m : ℕ) → chains n m ≡ true → n ≤ m
 has_room n m e = leb-true n m (second (eqb (n % 16) 0) (leb n m) e)
 
 -- ---- the MAC
-
-pub no_mac_of_none : (n m : ℕ) → n < 1 → macs n m ≡ false
-no_mac_of_none n m h = ap (λ (b : Bool). both b (both (eqb (n % 16) 0) (leb 12 m))) (lt-leb 1 n h)
-
-pub no_mac_of_part : (n m : ℕ) → 1 ≤ n → (n % 16 ≡ 0 → ⊥) → macs n m ≡ false
-no_mac_of_part n m l h = ap₂ both (le-leb 1 n l) (ap (λ (b : Bool). both b (leb 12 m)) (ne_eqb (n % 16) 0 h))
-
-pub no_room_for_mac : (n m : ℕ) → 1 ≤ n → n % 16 ≡ 0 → m < 12 → macs n m ≡ false
-no_room_for_mac n m l e h = ap₂ both (le-leb 1 n l) (ap₂ both (eq-eqb (n % 16) 0 e) (lt-leb 12 m h))
 
 pub room_for_mac : (n m : ℕ) → 1 ≤ n → n % 16 ≡ 0 → 12 ≤ m → macs n m ≡ true
 room_for_mac n m l e h = ap₂ both (le-leb 1 n l) (ap₂ both (eq-eqb (n % 16) 0 e) (le-leb 12 m h))

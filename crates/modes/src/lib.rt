@@ -2,7 +2,7 @@
 // 800-38B).
 #![tactic(auto)]
 
-ghost use Rattle.std.specs.Prelude.{◌≡◌, ◌≤◌, ◌%◌, ℕ, List, length};
+ghost use Rattle.std.specs.Prelude.{◌≡◌, ◌≤◌, ◌%◌, ℕ, List, Err, length};
 ghost use Rattle.field.specs.Block.{xor};
 ghost use Rattle.aes.specs.AesEnc.{aes_enc};
 ghost use Rattle.modes.specs.Blocks.{whole_blocks, joined};
@@ -21,6 +21,18 @@ pub enum ChainingFault {
     BlocksOrRoom,
 }
 
+// The house's number of a refusal.
+// Ruled out: 0; the number of another half's refusal.
+impl From<ChainingFault> for u8 {
+    ghost from_gives = { λ fault n. n ≡ number_of (Err fault) };
+
+    fn from(fault: ChainingFault) -> u8 {
+        match fault {
+            ChainingFault::BlocksOrRoom => 8,
+        }
+    }
+}
+
 // The house's number of an answer: 8 for a refusal, 0 for none.
 // Ruled out: the two exchanged; another number for the refusal.
 pub fn number(answer: Result<(), ChainingFault>) -> u8
@@ -28,7 +40,7 @@ pub fn number(answer: Result<(), ChainingFault>) -> u8
 {
     match answer {
         Ok(()) => 0,
-        Err(ChainingFault::BlocksOrRoom) => 8,
+        Err(fault) => u8::from(fault),
     }
 }
 
