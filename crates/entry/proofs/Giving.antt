@@ -107,8 +107,9 @@ module _ (setup : Setup) (held : Session) (m : List ℕ) (k : Key) (ke : k ≡ k
           let h1 = subst (λ (x : Key). ProofDecides x held f b m i u r i' u') ke h in
           let h2 = subst (λ (g : Iam3Fields). ProofDecides named held g b m i u r i' u') e h1 in
           let s = subst (λ (y : Block). ProofDecides named held (iam3_of m) y m i u r i' u') asked h2 in
-          subst (λ (y : Result Unit TagFault). Writes y (iam3_purpose setup held m) (iam3_stored setup held m) i u r i' u')
-          (sym d)
+          let Given : Result Unit TagFault → Type 0 =
+          λ y. Writes y (iam3_purpose setup held m) (iam3_stored setup held m) i u r i' u' in
+          subst Given (sym d)
           (by_proof proof (iam3_purpose setup held m) (iam3_stored setup held m) i u r i' u' s.outcome s.session
           s.in_identity s.in_user)
 

@@ -10,7 +10,8 @@ unfolding tam2_answer
 returns-in-Ok c =
     let s = c.send.ensures in
     reacts_sent (lent c.args.m.now c.args.draws c.args.room.now c.args.identity.now c.args.user.now) c.args.room.now
-    _ _ _ _ _ _ (record { outcome = s.0; session = s.1; sent = s.2 }) _ (sym (in_room _ _ _ c.tam2.ensures _ c.in-Ok.is))
+    _ _ _ _ _ _ (record { outcome = s.0; session = s.1; sent = s.2 }) _
+    (sym (in_room _ _ _ c.tam2.ensures _ c.in-Ok.is))
     (c.cleared.ensures ∙ nothing _)
 
 pub returns-in-Err : goal.returns-in-Err
@@ -18,5 +19,6 @@ unfolding tam2_answer
 returns-in-Err c =
     let s = c.refused.ensures in
     reacts_sent (lent c.args.m.now c.args.draws c.args.room.now c.args.identity.now c.args.user.now) c.args.room.now
-    _ _ _ _ _ _ (record { outcome = s.0; session = s.1; sent = refl }) _ (sym (in_none _ _ _ c.tam2.ensures _ c.in-Err.is))
+    _ _ _ _ _ _ (record { outcome = s.0; session = s.1; sent = refl }) _
+    (sym (in_none _ _ _ c.tam2.ensures _ c.in-Err.is))
     (nothing _)
