@@ -14,9 +14,8 @@ use Rattle.plan.specs.declared.Plan.{Plan}
 use Rattle.turns.specs.declared.Next.{Next}
 use Rattle.turns.specs.declared.Next.TheVariants.{ReaderOpens, TagAnswers, ReaderCloses, TagEnds, Done}
 use Rattle.turns.specs.declared.Next.TheVariants.{RefusedByTag, RefusedByReader}
-use Rattle.turns.specs.declared.Reply.{Reply}
 use Rattle.turns.specs.declared.Standing.{Standing}
-use Rattle.turns.specs.Standings.{readers, tags, verdict_next, ends_with}
+use Rattle.turns.specs.Standings.{Reply, readers, tags, verdict_next, ends_with}
 use Rattle.plan.specs.Drafts.{Draft}
 use Rattle.turns.specs.Sends.{sends}
 use Rattle.turns.specs.Turns.{proves, meets, opened, closed, asked, ended, received, replied}

@@ -18,10 +18,9 @@ use Rattle.tag.specs.States.{keyed, keyless}
 use Rattle.reader_judge.specs.Findings.{Finding, issues}
 use Rattle.reader_judge.specs.Judged.{judgement_of}
 use Rattle.turns.specs.declared.Next.TheVariants.{TagAnswers, ReaderCloses, TagEnds, RefusedByReader}
-use Rattle.turns.specs.declared.Reply.{Reply}
 use Rattle.turns.specs.declared.Standing.{Standing}
 use Rattle.turns.specs.Standings.{message_zeros, reply_zeros, data_zeros, message_in, readers, tags, has_two, ends_with}
-use Rattle.turns.specs.Standings.{draws_of, turned, sending, challenged, waits}
+use Rattle.turns.specs.Standings.{Reply, draws_of, turned, sending, challenged, waits}
 use Rattle.plan.specs.Drafts.{opening, closing}
 use Rattle.turns.specs.Sends.{sends}
 use Rattle.turns.specs.Turns.{

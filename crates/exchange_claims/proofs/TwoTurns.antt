@@ -21,10 +21,9 @@ use Rattle.reader_judge.specs.Findings.{Finding}
 use Rattle.reader_judge.specs.Judged.{judgement_of}
 use Rattle.turns.specs.declared.Next.{Next}
 use Rattle.turns.specs.declared.Next.TheVariants.{ReaderOpens, TagAnswers, RefusedByReader}
-use Rattle.turns.specs.declared.Reply.{Reply}
 use Rattle.turns.specs.declared.Standing.{Standing}
 use Rattle.turns.specs.Standings.{message_zeros, reply_zeros, data_zeros, message_in, fresh, readers, tags, has_two}
-use Rattle.turns.specs.Standings.{turn_of, ends_with, draws_of, turned, sending, waits}
+use Rattle.turns.specs.Standings.{Reply, turn_of, ends_with, draws_of, turned, sending, waits}
 use Rattle.plan.specs.Drafts.{opening}
 use Rattle.turns.specs.Sends.{sends}
 use Rattle.turns.specs.Turns.{

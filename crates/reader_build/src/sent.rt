@@ -17,6 +17,7 @@ use reader::Keys;
 
 /// The block that the tag opens by encryption: the reader makes it by decryption (9.5.5, 9.5.8.1 a, 9.6.5).
 /// Ruled out: AES-ENC; the challenge before the four bytes.
+#[tactic(auto, unfolding(crate::specs::Builds::response))]
 pub fn response(enc: [u8; 16], constant: [u8; 2], middle: [u8; 4], tchallenge: [u8; 10]) -> [u8; 16]
     ensures { result ≡ response enc constant middle tchallenge }
 {
