@@ -3,7 +3,7 @@ use mathlib.Core.Path.{◌≡◌, subst, ap}
 use mathlib.Core.Bool.{true}
 use mathlib.Core.List.{List, [], ◌∷◌}
 use Prim.Native.Nat.{ℕ, ◌<◌}
-use native.Mathlib.Omega.{arith}
+use Rattle.std.proofs.Common.{rules}
 use Rattle.ground.specs.Bytes.{Bytes}
 use Rattle.ground.proofs.Bytes.{bytes_none, bytes_cons}
 use Rattle.sheet.specs.Limits.{key_limit}
@@ -31,32 +31,7 @@ small_bytes [] h = bytes_none
 small_bytes (x ∷ s) (h, t) = bytes_cons x s h (small_bytes s t)
 
 smallest_bytes : Bytes smallest
-smallest_bytes =
-    small_bytes smallest (
-      omega arith,
-      (
-        omega arith,
-        (
-          omega arith,
-          (
-            omega arith,
-            (
-              omega arith,
-              (
-                omega arith,
-                (
-                  omega arith,
-                  (
-                    omega arith,
-                    (omega arith, tt),
-                  ),
-                ),
-              ),
-            ),
-          ),
-        ),
-      ),
-    )
+smallest_bytes = small_bytes smallest (search rules)
 
 pub smallest_tag : is_tag (sheet_image cleared smallest) ≡ true
 smallest_tag = sheet_tag smallest smallest_bytes smallest_accepted

@@ -1,5 +1,5 @@
+pub mod Findings
 pub mod Keeps
-pub mod Answers
 pub mod Runs
 pub mod Stays
 pub mod Examples

@@ -20,6 +20,7 @@ ghost use Rattle.reader_build.specs.Builds.{
 ghost use Rattle.capi.specs.Reader.{mac_given, size_given, bits_given, keys_of, custom_of, Builds};
 
 use super::given;
+use reader::ReaderFault;
 
 /// TAM1. Ruled out: a message in a room of 175 bytes; the challenge cut.
 pub fn roualint_build_tam1(
@@ -31,9 +32,7 @@ pub fn roualint_build_tam1(
     ensures { Builds true (tam1_made keyid ichallenge.now) room.old result told.new
         room.new }
 {
-    let made = reader_build::tam1(keyid, *ichallenge, room);
-    *told = given::length_of(made);
-    given::made_number(made)
+    given::told_of(reader_build::tam1(keyid, *ichallenge, room), told)
 }
 
 /// TAM2, by the reader's keys: BlockSize 0 (64-bit blocks) or 1 (16-bit blocks), Rev 0 or 1.
@@ -59,23 +58,19 @@ pub fn roualint_build_tam2(
         room.old result told.new room.new }
 {
     if !given::bits_given(mac, blocksize, rev) {
-        *told = 0;
-        return 24;
+        return given::told_of(Err(ReaderFault::OwnMessage), told);
     }
     let keys = given::keys_of(*enc, mac);
     let custom = given::custom_of(blocksize, profile, offset, blockcount);
     let made = reader_build::tam2(keys, keyid, *ichallenge, rev == 1, custom, protmode, room);
-    *told = given::length_of(made);
-    given::made_number(made)
+    given::told_of(made, told)
 }
 
 /// IAM1. Ruled out: the first byte of MAM1; bytes behind the message cleared.
 pub fn roualint_build_iam1(keyid: u8, room: &mut [u8], told: &mut usize) -> u8
     ensures { Builds true (iam1_made keyid) room.old result told.new room.new }
 {
-    let made = reader_build::iam1(keyid, room);
-    *told = given::length_of(made);
-    given::made_number(made)
+    given::told_of(reader_build::iam1(keyid, room), told)
 }
 
 /// IAM2, by the reader's keys: the answer to the challenge of an IAM1.
@@ -94,13 +89,11 @@ pub fn roualint_build_iam2(
         room.old result told.new room.new }
 {
     if !given::mac_given(mac) {
-        *told = 0;
-        return 24;
+        return given::told_of(Err(ReaderFault::OwnMessage), told);
     }
     let keys = given::keys_of(*enc, mac);
     let made = reader_build::iam2(keys, purpose, *irnd, *tchallenge, room);
-    *told = given::length_of(made);
-    given::made_number(made)
+    given::told_of(made, told)
 }
 
 /// IAM3, by the reader's keys: the same answer, and data to be written.
@@ -127,8 +120,7 @@ pub fn roualint_build_iam3(
         words.now) room.old result told.new room.new }
 {
     if !given::size_given(mac, blocksize) {
-        *told = 0;
-        return 24;
+        return given::told_of(Err(ReaderFault::OwnMessage), told);
     }
     let keys = given::keys_of(*enc, mac);
     let custom = given::custom_of(blocksize, profile, offset, blockcount);
@@ -142,8 +134,7 @@ pub fn roualint_build_iam3(
         words,
         room,
     );
-    *told = given::length_of(made);
-    given::made_number(made)
+    given::told_of(made, told)
 }
 
 /// MAM1. Ruled out: the first byte of TAM1; a room of 175 bytes taken.
@@ -156,9 +147,7 @@ pub fn roualint_build_mam1(
     ensures { Builds true (mam1_made keyid ichallenge.now) room.old result told.new
         room.new }
 {
-    let made = reader_build::mam1(keyid, *ichallenge, room);
-    *told = given::length_of(made);
-    given::made_number(made)
+    given::told_of(reader_build::mam1(keyid, *ichallenge, room), told)
 }
 
 /// MAM2, by the reader's keys: the answer to the challenge of a MAM1.
@@ -177,11 +166,9 @@ pub fn roualint_build_mam2(
         tchallenge.now) room.old result told.new room.new }
 {
     if !given::mac_given(mac) {
-        *told = 0;
-        return 24;
+        return given::told_of(Err(ReaderFault::OwnMessage), told);
     }
     let keys = given::keys_of(*enc, mac);
     let made = reader_build::mam2(keys, purpose, *ichallenge, *tchallenge, room);
-    *told = given::length_of(made);
-    given::made_number(made)
+    given::told_of(made, told)
 }

@@ -7,7 +7,7 @@ ghost use Rattle.capi.specs.Kept.{SetUp, PoweredUp, state_said, AreasOf, purpose
 
 use entry::cleared;
 use image::IMAGE;
-use offer::{Answer, Outcome};
+use offer::{Answer, Outcome, TagFault};
 use sheet::SheetRefusal;
 use tag::Tag;
 
@@ -15,15 +15,20 @@ use tag::Tag;
 /// and the tag as it was.
 /// Ruled out: a tag changed by a refused sheet; a place of 0 for every refusal; bytes of an older tag left in the
 /// image.
+#[tactic(auto, unfolding(sheet::specs::Sheet::read_number, sheet::specs::Sheet::read_place))]
 pub fn roualint_sheet(sheet: &[u8], tag: &mut [u8; IMAGE], place: &mut usize) -> u8
     ensures { SetUp sheet.now tag.old result place.new tag.new }
 {
-    if let Err(SheetRefusal { fault, at }) = image::lay(sheet, tag) {
-        *place = at;
-        return u8::from(fault);
+    match image::lay(sheet, tag) {
+        Ok(()) => {
+            *place = 0;
+            0
+        }
+        Err(SheetRefusal { fault, at }) => {
+            *place = at;
+            u8::from(fault)
+        }
     }
-    *place = 0;
-    0
 }
 
 /// Power-up and reset: 0, and nothing is held; the rest stays. Bytes that are no tag's: 7, and they stay as they are.
@@ -32,7 +37,7 @@ pub fn roualint_power_up(tag: &mut [u8; IMAGE]) -> u8
     ensures { PoweredUp tag.old result tag.new }
 {
     if !image::is_tag(tag) {
-        return 7;
+        return u8::from(TagFault::BenchFault);
     }
     image::keep(tag, cleared());
     0
@@ -44,18 +49,17 @@ pub fn roualint_power_up(tag: &mut [u8; IMAGE]) -> u8
 pub fn roualint_state(tag: &[u8; IMAGE]) -> u8
     ensures { result ≡ state_said (byte_at tag.now 0) }
 {
-    let state = tag[0];
-    if 4 <= state {
-        return 255;
+    match tag[0] {
+        state @ 0..=3 => state,
+        _ => 255,
     }
-    state
 }
 
 // The bytes of so many words.
 fn bytes_of(words: u16) -> usize
     ensures { result ≡ words * word_bytes }
 {
-    (words as usize) * 2
+    usize::from(words) * 2
 }
 
 /// The sizes of the areas that the tag wants lent, in bytes: 0. Bytes that are no tag's: 7, and both sizes are 0.
@@ -66,7 +70,7 @@ pub fn roualint_areas(tag: &[u8; IMAGE], identity: &mut usize, user: &mut usize)
     if !image::is_tag(tag) {
         *identity = 0;
         *user = 0;
-        return 7;
+        return u8::from(TagFault::BenchFault);
     }
     let sizes = image::sizes(tag);
     *identity = bytes_of(sizes.identity);
@@ -79,9 +83,8 @@ fn purpose_of(outcome: Outcome) -> u8
     ensures { result ≡ purpose_given outcome }
 {
     match outcome {
-        Ok(Answer::Replied(_)) => 255,
         Ok(Answer::Entered(purpose)) => purpose,
-        Err(_) => 255,
+        Ok(Answer::Replied(_)) | Err(_) => 255,
     }
 }
 
@@ -89,6 +92,7 @@ fn purpose_of(outcome: Outcome) -> u8
 /// where none is); or 1 to 7, with length 0 and no byte of room and areas changed. The tag holds its next session.
 /// Bytes that are no tag's: 7, and they stay as they are.
 /// Ruled out: a session that is not kept; a Purpose told of a reader that is not let in; a length told with a refusal.
+#[tactic(auto, unfolding(tag::specs::Answers::refused))]
 pub fn roualint_message(
     tag: &mut [u8; IMAGE],
     message: &[u8],
@@ -107,11 +111,12 @@ pub fn roualint_message(
     if !image::is_tag(tag) {
         *told = 0;
         *purpose = 255;
-        return 7;
+        return u8::from(TagFault::BenchFault);
     }
-    let terms = image::terms(tag);
-    let session = image::session(tag);
-    let held = Tag { terms, session };
+    let held = Tag {
+        terms: image::terms(tag),
+        session: image::session(tag),
+    };
     let stepped = tag::step(
         held,
         image::key_table(tag),
@@ -121,11 +126,8 @@ pub fn roualint_message(
         identity,
         user,
     );
-    let outcome = stepped.outcome;
-    let next = stepped.tag;
-    let kept = next.session;
-    image::keep(tag, kept);
-    *told = offer::reply_length(outcome);
-    *purpose = purpose_of(outcome);
-    offer::number(outcome)
+    image::keep(tag, stepped.tag.session);
+    *told = offer::reply_length(stepped.outcome);
+    *purpose = purpose_of(stepped.outcome);
+    offer::number(stepped.outcome)
 }

@@ -25,8 +25,7 @@ pub fn roualint_tag_bytes() -> usize
 pub fn roualint_aes_enc(key: &[u8; 16], block: &mut [u8; 16])
     ensures { block.new ≡ aes_enc key.now block.old }
 {
-    let output = aes::encrypt(*key, *block);
-    *block = output;
+    *block = aes::encrypt(*key, *block);
 }
 
 /// AES-DEC of a block, in place.
@@ -34,6 +33,5 @@ pub fn roualint_aes_enc(key: &[u8; 16], block: &mut [u8; 16])
 pub fn roualint_aes_dec(key: &[u8; 16], block: &mut [u8; 16])
     ensures { block.new ≡ aes_dec key.now block.old }
 {
-    let output = aes_inverse::decrypt(*key, *block);
-    *block = output;
+    *block = aes_inverse::decrypt(*key, *block);
 }
