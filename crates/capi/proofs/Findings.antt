@@ -1,5 +1,5 @@
 -- What the judge says, as plain numbers: a finding is whole, so that what is said and the data's bytes are all of it.
-use Rattle.std.specs.Prelude.{Result, Ok, Err, Option, Some, None}
+use Rattle.std.specs.Prelude.{Result, Ok, Err}
 use Rattle.std.specs.Option.{is_some, unwrap_or}
 use mathlib.Core.Path.{◌≡◌, refl, sym, ap, ◌∙◌}
 use mathlib.Core.Bool.{Bool, true, false}
@@ -12,16 +12,9 @@ use Rattle.reader.specs.declared.ReaderFault.{ReaderFault}
 use Rattle.reader.specs.declared.ReaderFault.TheVariants.{OwnMessage}
 use Rattle.reader.specs.Numbers.{number_of}
 use Rattle.reader_judge.specs.declared.Accepted.{Accepted}
-use Rattle.reader_judge.specs.Findings.{Finding, refused, said_by, verdict_number, Judges}
+use Rattle.reader_judge.specs.Findings.{Finding, refused, verdict_number, Judges}
 use Rattle.reader_judge.specs.Judged.{judgement_of}
-use Rattle.reader_judge.proofs.Whole.{
-  Whole,
-  challenge_in,
-  is_issued,
-  judgement_whole,
-  whole_refusal,
-  whole_acceptance,
-}
+use Rattle.reader_judge.proofs.Whole.{Whole, judgement_whole, whole_refusal, whole_acceptance, said_count}
 use Rattle.capi.specs.Reader.{mac_given, keys_of, worth_number, finding_of, Finds}
 
 pub finding_whole : (enc mac message reply : List ℕ) (room : ℕ) → Whole (finding_of enc mac message reply room)
@@ -42,24 +35,12 @@ module _ {f : Finding} {room after : List ℕ} {r : Result Accepted ReaderFault}
       let q = sym (whole_acceptance w s) in
       record {
         number = ap (λ (x : Finding). verdict_number x.verdict) q;
-        long = long_of f.verdict s;
+        long = said_count f a s;
         value = ap (λ (x : Finding). worth_number x.worth) q;
-        flag = ap bit_of (issued_of a.challenge) ∙ ap (λ (x : Finding). bit_of x.issued) q;
-        came = challenge_of a.challenge ∙ ap (λ (x : Finding). x.challenge) q;
+        flag = ap (λ (x : Finding). bit_of x.issued) q;
+        came = ap (λ (x : Finding). x.challenge) q;
         holds = h.holds;
       }
-    where
-      issued_of : (o : Option (List ℕ)) → is_some o ≡ is_issued o
-      issued_of (Some c) = refl
-      issued_of None = refl
-
-      challenge_of : (o : Option (List ℕ)) → unwrap_or o (replicate 10 0) ≡ challenge_in o
-      challenge_of (Some c) = refl
-      challenge_of None = refl
-
-      long_of : (v : Result Unit ReaderFault) → said_by v f ≡ Ok a → a.«data» ≡ length f.bytes
-      long_of (Ok u) s = cc
-      long_of (Err e) s = cc
 
   -- a refusal tells neither data nor challenge
   pub refusal : {e : ReaderFault} → r ≡ Err e → Finds f room (number_of e) 0 0 0 (replicate 10 0) after
