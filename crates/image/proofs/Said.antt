@@ -1,6 +1,6 @@
 -- What an accepted sheet says fits an image.
 use Rattle.sheet.specs.declared.SheetRefusal.{SheetRefusal}
-use Rattle.std.specs.Prelude.{Result, Ok, Err}
+use Rattle.std.specs.Prelude.{Result, Ok}
 use mathlib.Core.Path.{◌≡◌, refl, sym, ap, subst, ◌∙◌}
 use mathlib.Core.Bool.{Bool}
 use mathlib.Core.List.{List}
@@ -92,11 +92,6 @@ module _ (sheet : List ℕ) (y : Bytes sheet) (e : Accepted key_limit sheet) whe
 -- ---- what `lay` leaves
 
 module _ (sheet : List ℕ) (q : Result Reading SheetRefusal) (e : q ≡ read_of key_limit sheet) where
-  pub laid_refused : (image : List ℕ) (x : SheetRefusal) → q ≡ Err x → Laid sheet image (Err x) image
-  laid_refused image x h =
-      let v : verdict_of (read_of key_limit sheet) ≡ Err x = ap verdict_of (sym e ∙ h) in
-      record { verdict = sym v; holds = simp v }
-
   module _ (r : Reading) (h : q ≡ Ok r) (t : List ℕ) (f : t ≡ key_table sheet r.keys) where
     said : Ok r ≡ read_of key_limit sheet
     said = sym h ∙ e

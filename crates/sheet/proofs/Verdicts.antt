@@ -3,7 +3,7 @@ use Rattle.std.specs.Prelude.{Result}
 use mathlib.Core.Path.{◌≡◌, ap}
 use mathlib.Core.List.{List}
 use Prim.Native.Nat.{ℕ}
-use Rattle.sheet.specs.Judgement.{JudgedAs, judged_of, finding_number, judged_number}
+use Rattle.sheet.specs.Judgement.{judged_of, finding_number, judged_number}
 use Rattle.sheet.specs.Kinds.{number_of}
 use Rattle.sheet.specs.Sheet.{ReadAs, read_of, verdict_number, verdict_place, read_number, read_place}
 use Rattle.sheet.specs.Sheet.{verdict_of, refused_at, RefusedBy}
@@ -28,9 +28,6 @@ pub read_told : (limit : ℕ) (s : List ℕ) (r : Result Reading SheetRefusal) �
     → (r ≡ read_of limit s) × ((number_of_lem r ≡ read_number limit s) × (place_of r ≡ read_place limit s))
 unfolding read_number read_place
 read_told limit s r e = (e, (ap number_of_lem e, ap place_of e))
-
-pub judged_as : (r x : Judged) → r ≡ x → JudgedAs r x
-judged_as r x e = (e, ap (λ (q : Judged). finding_number q.finding) e)
 
 pub read_as : (r x : Result Reading SheetRefusal) → r ≡ x → ReadAs r x
 read_as r x e = (e, ap number_of_lem e, ap place_of e)

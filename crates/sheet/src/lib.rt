@@ -64,7 +64,7 @@ pub enum SheetFault {
 }
 
 // The kind of a record, by its first byte: 01 to 06.
-#[derive(Clone, Copy)]
+#[derive(Clone, Copy, Debug, PartialEq, Eq)]
 pub enum Kind {
     FeatureRecord,
     SizeRecord,
@@ -130,9 +130,9 @@ pub struct Terms {
     pub locks: Locks,
 }
 
-// What the next record is held against: the kind of the record before (0 where there is none), how many keys and how
-// many profiles there are, the least KeyID and the least profile number that may come, and the area and the end of the
-// lock before (0 where there is none).
+// What the next record is held against: the kind byte of the record before (0 where there is none; kinds and areas are
+// numbers here, since the rules compare them), how many keys and how many profiles there are, the least KeyID and the
+// least profile number that may come, and the area and the end of the lock before (0 where there is none).
 #[derive(Clone, Copy)]
 pub struct Marks {
     pub last: u8,
