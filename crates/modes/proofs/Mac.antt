@@ -1,10 +1,12 @@
 -- The MAC's chain, block by block; and the doubling, byte by byte.
-use mathlib.Core.Path.{◌≡◌, refl, sym, ap, ◌∙◌, subst}
-use mathlib.Core.List.{List, [], ◌∷◌, ◌++◌}
-use Prim.Native.Nat.{ℕ, ◌+◌, ◌-◌, ◌*◌, ◌/◌, ◌%◌, ◌≤◌, ◌<◌}
+use mathlib.Core.Path.{◌≡◌, refl, sym, ap, ap₂, ◌∙◌, subst}
+use mathlib.Core.Logic.{◌⊎◌, inl, inr, ⊎_elim}
+use mathlib.Core.List.{List, [], ◌∷◌, ◌++◌, append-nil}
+use Prim.Native.Nat.{ℕ, zero, suc, min, ◌+◌, ◌-◌, ◌*◌, ◌/◌, ◌%◌, ◌≤◌, ◌<◌}
 use native.Mathlib.Omega.{arith}
-use lib.ListN.{length, get_or, set, take, drop, length-drop, get_or-eq_default}
-use lib.Seq.{drop-drop}
+use lib.ListN.{length, get_or, set, take, drop, length-drop, length-append, get_or-eq_default}
+use Rattle.std.proofs.lemmas.List.{nil_from_length}
+use lib.Seq.{drop-drop, take_at, drop_at}
 use lib.Bits.{bit_xor, xor_shifted, xor_zero_r}
 use Rattle.field.specs.Block.{xor}
 use Rattle.field.proofs.Table.{same_at, entry_at}
@@ -103,3 +105,30 @@ doubled_whole l r i e f inv =
     (omega arith)
     (one_more_lem (doubled_byte l) 16 r 15 (bit_xor (get_or l 15 0 * 2 % 256) (get_or l 0 0 / 128 * 0x87)) (omega arith)
     (doubled_last l e) (subst (λ (j : ℕ). Filled (doubled_byte l) 16 r j) f inv))
+
+less_or_more : (a b : ℕ) → (a < b) ⊎ (b ≤ a)
+less_or_more a zero = inr (omega arith)
+less_or_more zero (suc b) = inl (omega arith)
+less_or_more (suc a) (suc b) =
+    ⊎_elim (λ (h : a < b). inl (omega arith)) (λ (h : b ≤ a). inr (omega arith)) (less_or_more a b)
+
+-- the chain over the first n bytes, or over all where there are fewer, and then over the rest
+pub mac_first : (key c s part rest : List ℕ) (n : ℕ) → n % 16 ≡ 0 → s ≡ part ++ rest → length part ≡ min n (length s)
+    → mac_chain key (mac_chain key c (whole_blocks part)) (whole_blocks rest) ≡ mac_chain key c (whole_blocks s)
+mac_first key c s part rest n w e l =
+    let both : length s ≡ length part + length rest = ap length e ∙ length-append part rest in
+    ⊎_elim
+    (λ (short : length s < n).
+    let none : length rest ≡ 0 = omega arith in
+    let all : part ≡ s = sym (append-nil part) ∙ ap (λ (t : List ℕ). part ++ t) (sym (nil_from_length rest none))
+    ∙ sym e in
+    mac_none key (mac_chain key c (whole_blocks part)) rest (omega arith)
+    ∙ ap (λ (t : List ℕ). mac_chain key c (whole_blocks t)) all)
+    (λ (long : n ≤ length s).
+    let m : length part ≡ n = omega arith in
+    ap₂ (λ (x y : List ℕ). mac_chain key (mac_chain key c (whole_blocks x)) (whole_blocks y))
+    (sym (ap (take n) e ∙ take_at part rest n m)) (sym (ap (drop n) e ∙ drop_at part rest n m))
+    ∙ ap (λ (k : ℕ). mac_chain key (mac_chain key c (whole_blocks (take k s))) (whole_blocks (drop n s)))
+    (let z : n ≡ n - 0 = omega arith in z)
+    ∙ mac_part key c s 0 n (omega (arith, w)) (omega arith) long)
+    (less_or_more (length s) n)

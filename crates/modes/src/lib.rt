@@ -219,14 +219,11 @@ fn mac_parts(key: [u8; 16], c: [u8; 16], input: &[u8]) -> [u8; 16]
     ensures { result ≡ mac_chain key c (whole_blocks input.now) }
 {
     let mut chained = c;
-    let mut at = 0;
-    while PART < input.len() - at {
-        let end = at + PART;
-        let given = mac_chain(key, chained, &input[at..end]);
+    for part in input.chunks(PART) {
+        let given = mac_chain(key, chained, part);
         chained = given;
-        at = end;
     }
-    mac_chain(key, chained, &input[at..])
+    chained
 }
 
 // The MAC's chain over the blocks of the input, until none is left.
