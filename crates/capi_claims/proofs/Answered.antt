@@ -33,18 +33,19 @@ use Rattle.tag.specs.Answers.{Answer, Call, answer_of, refused}
 use Rattle.tag.specs.Reactions.{lent}
 use Rattle.tag.specs.States.{KeyedTag, session_after}
 use Rattle.tag.proofs.Unchanged.{refusal_unchanged}
-use Rattle.reader.specs.declared.ReaderFault.TheVariants.{OwnMessage}
-use Rattle.reader_judge.specs.Findings.{Finding, verdict_number as judged_number}
+use Rattle.reader_judge.specs.Findings.{Finding, refused as refused_finding, said_by, verdict_number as judged_number}
+use Rattle.reader_judge.proofs.Whole.{whole_refusal}
 use Rattle.reader_build.specs.Makes.{taken}
 use Rattle.image.specs.Image.{kept, session_in, keyed_in, is_tag}
 use Rattle.image.specs.Kept.{accepts, sheet_image}
 use Rattle.image.proofs.Stays.{kept_same}
 use Rattle.capi.specs.Kept.{purpose_given, answer_in, Answered}
-use Rattle.capi.specs.Reader.{mac_given, keys_of, worth_number, finding_of, Finds}
+use Rattle.capi.specs.Reader.{worth_number, finding_of, Finds}
+use Rattle.capi.proofs.Findings.{finding_whole}
 use Rattle.capi.proofs.Keeps.{answer_of_lem}
 use Rattle.claims.specs.Answered.{Among, among, tag_numbers, reader_numbers, sheet_numbers}
 use Rattle.claims.proofs.Answered.{tag_number, sheet_number}
-use Rattle.claims.proofs.AnsweredReader.{reader_number, Quiet, refused_quiet, picked_quiet, judgement_quiet}
+use Rattle.claims.proofs.AnsweredReader.{reader_number}
 use Rattle.capi_claims.specs.Answered.{
   Answers,
   SheetAnswers,
@@ -186,9 +187,9 @@ module _ (enc mac message reply room : List ℕ) (r told worth issued : ℕ) (ch
   abbrev found : Finding
   found = finding_of enc mac message reply (length room)
 
-  quiet : Quiet found
-  quiet = picked_quiet (mac_given mac) _ _ (judgement_quiet (keys_of enc mac) message reply (length room))
-      (refused_quiet OwnMessage)
+  quiet : (f : ReaderFault) → found.verdict ≡ Err f → found ≡ refused_finding f
+  quiet f e = whole_refusal (finding_whole enc mac message reply (length room))
+      (ap (λ (v : Result Unit ReaderFault). said_by v found) e)
 
   by_verdict : (v : Result Unit ReaderFault) → found.verdict ≡ v → Finds found room r told worth issued challenge after
       → Answers reader_numbers r (Rejects room told worth issued challenge after)

@@ -6,7 +6,6 @@ use mathlib.Core.Path.{◌≡◌, refl, sym, ap, ◌∙◌, subst}
 use mathlib.Core.Bool.{Bool}
 use mathlib.Core.List.{List}
 use Prim.Native.Nat.{ℕ}
-use native.Mathlib.Omega.{arith}
 use lib.ListN.{length, take}
 use Rattle.ground.specs.Bytes.{Bytes}
 use Rattle.ground.specs.Choice.{pick}
@@ -40,8 +39,7 @@ taken_by (Ok (Replied n)) e = tt
 taken_by (Ok (Entered purpose)) e = tt
 taken_by (Err f) e =
     let h = sym (ap (among tag_numbers) e) ∙ tag_number f in
-    let z : ◌≡◌ {A = ℕ} 0 1 = cc in
-    absurd (omega arith)
+    absurd cc
 
 pub recovery_calls : RecoveryCalls
 recovery_calls image t identity user b z enc mac room r told worth issued challenge after fit given share enough sends

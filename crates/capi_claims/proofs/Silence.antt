@@ -4,7 +4,6 @@ use Rattle.std.specs.Prelude.{Result, Ok, Err}
 use mathlib.Core.Path.{◌≡◌, refl, sym, ap, ◌∙◌, subst}
 use mathlib.Core.List.{List, [], ◌∷◌}
 use Prim.Native.Nat.{ℕ}
-use native.Mathlib.Omega.{arith}
 use Rattle.ground.specs.Bytes.{Bytes}
 use Rattle.modes.specs.Room.{over}
 use Rattle.sheet.specs.Limits.{key_limit}
@@ -51,8 +50,7 @@ whole_by : (v : Result Unit SheetRefusal) → verdict_number v ≡ 0 → v ≡ O
 whole_by (Ok tt) e = refl
 whole_by (Err x) e =
     let h = sym (ap (among sheet_numbers) e) ∙ sheet_number x.fault in
-    let z : ◌≡◌ {A = ℕ} 0 1 = cc in
-    absurd (omega arith)
+    absurd cc
 
 -- a run of calls from what `roualint_sheet` made
 module _ (sheet : List ℕ) (p : Bytes sheet) (e : Accepted key_limit sheet) (before : List ℕ) (r at : ℕ)
