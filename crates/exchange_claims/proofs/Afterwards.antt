@@ -33,8 +33,8 @@ module _ (P : Next → Bool) (v : Bool) where
     unfolding sends
     sends_next next s d h = chosen d.fit _ _ h (λ e. refused OwnMessage)
 
-    pub meets_next : (p : Plan) (words challenge : List ℕ) (s : Standing) (verdict : Result Unit ReaderFault) → P TagEnds ≡ v
-        → P (meets p words challenge s verdict).next ≡ v
+    pub meets_next : (p : Plan) (words challenge : List ℕ) (s : Standing) (verdict : Result Unit ReaderFault)
+        → P TagEnds ≡ v → P (meets p words challenge s verdict).next ≡ v
     unfolding meets proves
     meets_next p words challenge s (Ok tt) h = sends_next TagEnds _ _ h
     meets_next p words challenge s (Err f) h = refused f

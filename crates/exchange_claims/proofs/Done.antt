@@ -45,7 +45,8 @@ module _ (x : Setting) (limit : ℕ) (tag : Tag) (identity user : List ℕ) (eno
     (two : has_two x.plan.method ≡ true) (fit : (opening x.plan x.plan.method).fit ≡ true) (r : List ℕ)
     (e : answer x limit tag identity user
     ≡ answer_with (keyed tag x.keys).setup (replied (first_call x identity user) r cleared)) where
-  pub taken : (answer x limit tag identity user).outcome ≡ Ok (Replied (length (answer x limit tag identity user).reply))
+  pub taken : (answer x limit tag identity user).outcome
+      ≡ Ok (Replied (length (answer x limit tag identity user).reply))
   unfolding replied
   taken = ap (λ (z : Answer). z.outcome) e ∙ sym (ap (λ (z : Answer). Ok (Replied (length z.reply))) e)
 

@@ -8,7 +8,7 @@ use frames::Custom;
 use reader::{Keys, ReaderFault};
 
 /// What the trainee picks.
-#[derive(Clone, Copy)]
+#[derive(Clone, Copy, Debug, PartialEq, Eq)]
 pub enum Method {
     Tam1,
     Tam2,

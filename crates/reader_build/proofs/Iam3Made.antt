@@ -92,7 +92,8 @@ module _ (keys : Keys) (custom : Custom) (protmode purpose : ℕ) (words room p 
             ≡ iam3_made keys custom protmode purpose irnd tchallenge words =
             ap₂ (iam3_whole keys custom protmode mode)
             (ea ∙ ap (λ (x : List ℕ). response keys.enc x irnd tchallenge) ek) data_there
-            ∙ ap (λ (x : Option ProtMode). in_mode x (iam3_in_mode keys custom protmode purpose irnd tchallenge words) [])
+            ∙ ap (λ (x : Option ProtMode).
+            in_mode x (iam3_in_mode keys custom protmode purpose irnd tchallenge words) [])
             (sym named) in
             decided (iam3_fits keys custom protmode purpose (length words)) true
             (iam3_made keys custom protmode purpose irnd tchallenge words) out after (Ok result)

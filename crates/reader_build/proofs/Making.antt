@@ -61,8 +61,8 @@ unfit fit message room e = decided fit false message room room (Err OwnMessage)
     (ap (λ (b : Bool). both b (leb message_room (length room))) (sym e)) refl refl
 
 -- what frames built, in a room that has the bytes of the longest message
-pub built : (fit fields b : Bool) (n : ℕ) (message room after : List ℕ) (answer : Result ℕ ReaderFault) → message_room ≤ length room
-    → fields ≡ fit → length message ≡ n → n ≤ message_room
+pub built : (fit fields b : Bool) (n : ℕ) (message room after : List ℕ) (answer : Result ℕ ReaderFault)
+    → message_room ≤ length room → fields ≡ fit → length message ≡ n → n ≤ message_room
     → Built fields n message room b after → answer ≡ pick b (Ok n) (Err OwnMessage)
     → Makes fit message room answer after
 built fit fields b n message room after answer h e l m r says =

@@ -42,7 +42,8 @@ use Rattle.reader_build.specs.Builds.{sent_data, iam3_response, iam3_whole}
 -- ---- the data as they are sent
 
 module _ (mode : ProtMode) (b : Bool) (enc a p room : List ℕ) (told : b ≡ encrypts mode) where
-  pub data_chained : (after : List ℕ) (answer : Result Unit ChainingFault) → b ≡ true → length p % 16 ≡ 0 → length p ≤ length room
+  pub data_chained : (after : List ℕ) (answer : Result Unit ChainingFault) → b ≡ true → length p % 16 ≡ 0
+      → length p ≤ length room
       → Into (chains (length p) (length room)) (cbc_enc_aes_inv a enc p) room answer after
       → after ≡ over (sent_data enc mode a p) room
   unfolding sent_data

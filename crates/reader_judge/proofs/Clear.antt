@@ -101,7 +101,8 @@ module _ (keys : Keys) (mode : ProtMode) (f : Tam2) (reply : List ℕ)
     sent : take (16 + r - 16) (drop 16 reply) ≡ data_sent f reply
     sent = let k : 16 + r - 16 ≡ r = omega arith in ap (λ (j : ℕ). take j (drop 16 reply)) (k ∙ e)
 
-    pub opened_chained : (iv after : List ℕ) (answer : Result Unit ChainingFault) → encrypts mode ≡ true → iv ≡ first_block reply
+    pub opened_chained : (iv after : List ℕ) (answer : Result Unit ChainingFault) → encrypts mode ≡ true
+        → iv ≡ first_block reply
         → Into (chains (length (take (16 + r - 16) (drop 16 reply))) (length room))
         (cbc_dec_aes_inv iv keys.enc (take (16 + r - 16) (drop 16 reply))) room answer after
         → after ≡ over (opened_data keys mode f reply) room

@@ -24,7 +24,8 @@ use Rattle.reader_judge.specs.Judged.{by_kind, of_kind, judgement_of}
 use Rattle.reader.specs.Own.{data_room, fields_fit, own_fits}
 
 -- Data over the room's first bytes, as many as are said.
-pub judges : (f : Finding) (room after : List ℕ) (r : Result Accepted ReaderFault) → r ≡ said_of f → after ≡ over f.bytes room → Judges f room r after
+pub judges : (f : Finding) (room after : List ℕ) (r : Result Accepted ReaderFault) → r ≡ said_of f
+    → after ≡ over f.bytes room → Judges f room r after
 judges f room after r e h = record {
   says = e;
   number = ap verdict_number e ∙ numbered f.verdict;
@@ -73,7 +74,9 @@ by_first : (keys : Keys) (m reply : List ℕ) (room x : ℕ) → slice_get m 0 �
     → judgement_of keys m reply room ≡ of_kind keys m reply room (kind_of x)
 unfolding judgement_of
 by_first keys [] reply room x e = cc
-by_first keys (y ∷ m) reply room x e = let q : y ≡ x = cc in ap (λ (z : ℕ). of_kind keys (y ∷ m) reply room (kind_of z)) q
+by_first keys (y ∷ m) reply room x e =
+    let q : y ≡ x = cc in
+    ap (λ (z : ℕ). of_kind keys (y ∷ m) reply room (kind_of z)) q
 
 module _ (keys : Keys) (m reply : List ℕ) (room : ℕ) where
   pub own_told : (x : ℕ) (kind : Kind) → slice_get m 0 ≡ Some x → kind ≡ kind_of x

@@ -1,5 +1,5 @@
--- What the judge says is, with the bytes of the data, the whole of its finding: a refusal has neither data nor challenge,
--- and where no challenge is told there is none.
+-- What the judge says is, with the bytes of the data, the whole of its finding: a refusal has neither data nor
+-- challenge, and where no challenge is told there is none.
 use Rattle.std.specs.Prelude.{Result, Ok, Err, Option, Some, None}
 use Rattle.std.specs.Option.{is_some, unwrap_or}
 use mathlib.Core.Path.{◌≡◌, refl, sym, ap, ◌∙◌}

@@ -23,7 +23,8 @@ use Rattle.turns.specs.declared.Next.{Next}
 use Rattle.turns.specs.declared.Next.TheVariants.{Done, RefusedByReader}
 use Rattle.plan.specs.declared.Plan.{Plan}
 use Rattle.turns.specs.declared.Standing.{Standing}
-use Rattle.turns.specs.Standings.{Reply, message_in, reply_in, message_zeros, reply_zeros, data_zeros, verdict_next, turned, sending, concludes}
+use Rattle.turns.specs.Standings.{Reply, message_in, reply_in, message_zeros, reply_zeros, data_zeros, verdict_next}
+use Rattle.turns.specs.Standings.{turned, sending, concludes}
 use Rattle.plan.specs.Drafts.{Draft}
 use Rattle.turns.specs.Sends.{sends, sends_made}
 use Rattle.turns.specs.Turns.{Plays, finding_in, proves, meets, closed, ended_by, ended, replied, answered_by}

@@ -19,8 +19,8 @@ use Rattle.turns.specs.declared.Next.TheVariants.{ReaderOpens, TagAnswers, Reade
 use Rattle.turns.specs.declared.Next.TheVariants.{RefusedByTag, RefusedByReader}
 use Rattle.turns.specs.declared.Standing.{Standing}
 use Rattle.turns.specs.declared.Played.{Played}
-use Rattle.turns.specs.Standings.{Reply, reply_zeros, data_zeros, message_in, reply_in, ends_with, draws_of, verdict_next}
-use Rattle.turns.specs.Standings.{turned, challenged, waits, concludes}
+use Rattle.turns.specs.Standings.{Reply, reply_zeros, data_zeros, message_in, reply_in, ends_with, draws_of}
+use Rattle.turns.specs.Standings.{verdict_next, turned, challenged, waits, concludes}
 use Rattle.plan.specs.Drafts.{opening, closing}
 use Rattle.turns.specs.Sends.{sends}
 

@@ -17,7 +17,7 @@ pub mod asks; // asks.rt: the reader's turns
 pub mod answers; // answers.rt: the tag's turns
 
 /// Whose turn is next, or how the exchange ended. TAM has the first two turns, IAM and MAM all four.
-#[derive(Clone, Copy)]
+#[derive(Clone, Copy, Debug, PartialEq, Eq)]
 pub enum Next {
     ReaderOpens,
     TagAnswers,

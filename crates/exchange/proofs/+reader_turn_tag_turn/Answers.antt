@@ -18,7 +18,8 @@ reader_turn-returns-then-turns-eq0 t c =
       | reader_turn-then-turns-eq0-via-then-turns-eq0 w ↦
           reader_stops x a.standing a.tag a.identity.now a.user.now _ w.if-turns-eq0.true
       | reader_turn-then-turns-eq0-via-else-turns-eq0+then-not-reader_next w ↦
-          reader_waits x a.standing a.tag a.identity.now a.user.now _ (said w.reader_next.ensures w.if-not-reader_next.true)
+          reader_waits x a.standing a.tag a.identity.now a.user.now _
+          (said w.reader_next.ensures w.if-not-reader_next.true)
     ]
 
 pub reader_turn-returns : goal.reader_turn-returns

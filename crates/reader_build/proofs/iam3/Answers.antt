@@ -17,7 +17,8 @@ returns-in_err-taken c =
 
 pub returns-in_default : goal.returns-in_default
 unfolding iam3_fits
-returns-in_default c = unfit _ _ _ (rw (no_mode c.args.keys c.args.protmode (sym c.prot_mode.ensures ∙ c.in_default.is)))
+returns-in_default c =
+    unfit _ _ _ (rw (no_mode c.args.keys c.args.protmode (sym c.prot_mode.ensures ∙ c.in_default.is)))
 
 pub returns-then-not-carried_into : goal.returns-then-not-carried_into
 returns-then-not-carried_into c =
@@ -43,5 +44,6 @@ returns c =
     let a = c.args in
     let asked = let_in _ _ _ _ c.taken.ensures c.in_ok-taken.was in
     iam3_built a.keys a.custom a.protmode a.purpose a.words.now _ _ _ refl (said c.iam3_fits.ensures asked.0)
-    c.carried_into.ensures c.if-not-carried_into.false _ c.blocks_length-n.ensures _ _ _ _ _ _ _ _ (sym c.prot_mode.ensures ∙ c.in-Some.is)
+    c.carried_into.ensures c.if-not-carried_into.false _ c.blocks_length-n.ensures _ _ _ _ _ _ _ _
+    (sym c.prot_mode.ensures ∙ c.in-Some.is)
     c.iam3_constant.ensures c.response-a.ensures asked.1 c.iam3_whole.ensures

@@ -6,7 +6,8 @@ use Rattle.turns.proofs.asks.closes.Goals as goal
 pub returns-in-Ok : goal.returns-in-Ok
 unfolding finding_in
 returns-in-Ok c =
-    closed_accepted c.args.plan c.args.standing _ _ c.args.words.now c.judged.ensures _ _ _ c.in-Ok.is c.unwrap_or.ensures
+    closed_accepted c.args.plan c.args.standing _ _ c.args.words.now c.judged.ensures _ _ _ c.in-Ok.is
+    c.unwrap_or.ensures
     c.prove.ensures
 
 pub returns-in-Err : goal.returns-in-Err
