@@ -35,11 +35,10 @@ pub fn closing(proof: bool, rfu: u8, kind: Kind, m: &[u8]) -> Result<(), TagFaul
 fn iam3_block(terms: Terms, key: Key, f: Iam3, slot: Slot, block: Block) -> Result<(), TagFault>
     ensures { result ≡ judged (iam3_block_checks terms key f slot block) }
 {
-    let custom = f.custom;
-    if !slot.present || !memory::permits(key.mpi, custom.profile) {
+    if !slot.present || !memory::permits(key.mpi, f.custom.profile) {
         return Err(TagFault::NotSupported);
     }
-    if !records::size_offered(terms.features, custom.blocksize)
+    if !records::size_offered(terms.features, f.custom.blocksize)
         || !memory::fits(slot.profile, block)
     {
         return Err(TagFault::MemoryOverrun);

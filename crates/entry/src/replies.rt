@@ -20,9 +20,7 @@ fn with_clear(block: [u8; 16], draws: [u8; 10]) -> [u8; 22]
 pub fn mam1_reply(key: Key, m: Mam1, draws: [u8; 10]) -> [u8; 22]
     ensures { result ≡ mam1_reply key m draws }
 {
-    let enc = key.enc;
-    let ichallenge = m.ichallenge;
     let last = [draws[6], draws[7], draws[8], draws[9]];
-    let block = payload::block_of(frames::constants::mam1_constant(), last, ichallenge);
-    with_clear(aes::encrypt(enc, block), draws)
+    let block = payload::block_of(frames::constants::mam1_constant(), last, m.ichallenge);
+    with_clear(aes::encrypt(key.enc, block), draws)
 }

@@ -53,8 +53,7 @@ fn select(custom: Custom, protmode: u8) -> [u8; 3]
     requires { select_fits 0 custom protmode ≡ true }
     ensures { result ≡ select_bytes custom protmode }
 {
-    let offset = custom.offset;
-    let o = offset.0;
+    let o = custom.offset.0;
     [
         custom.profile * 16 + (o / 256) as u8,
         (o % 256) as u8,
@@ -99,10 +98,8 @@ fn header_start(custom: Custom) -> [u8; 3]
     requires { custom_fits custom ≡ true }
     ensures { result ≡ header_start custom }
 {
-    let blocksize = custom.blocksize;
-    let b = u8::from(blocksize);
-    let offset = custom.offset;
-    let o = offset.0;
+    let b = u8::from(custom.blocksize);
+    let o = custom.offset.0;
     [
         b * 128 + custom.profile * 8 + (o / 512) as u8,
         (o / 2 % 256) as u8,
@@ -118,9 +115,8 @@ pub fn tam1_into(f: Tam1, room: &mut [u8]) -> bool
     if f.rfu != 0 {
         return false;
     }
-    let ichallenge = f.ichallenge;
     let none = [0u8; 0];
-    with_challenge(room, [0x00, f.keyid], ichallenge, &none)
+    with_challenge(room, [0x00, f.keyid], f.ichallenge, &none)
 }
 
 // Table 6. Ruled out: BlockSize 1 for 64-bit blocks, and an Offset of 4096 cut to 12 bits.
@@ -128,15 +124,12 @@ pub fn tam2_into(f: Tam2, room: &mut [u8]) -> bool
     ensures { Built (select_fits f.rfu f.custom f.protmode) tam2_length (tam2_message f)
         room.old result room.new }
 {
-    let custom = f.custom;
-    if !select_fits(f.rfu, custom, f.protmode) {
+    if !select_fits(f.rfu, f.custom, f.protmode) {
         return false;
     }
-    let blocksize = custom.blocksize;
-    let first = tam2_first(blocksize, f.rev);
-    let rest = select(custom, f.protmode);
-    let ichallenge = f.ichallenge;
-    with_challenge(room, [first, f.keyid], ichallenge, &rest)
+    let first = tam2_first(f.custom.blocksize, f.rev);
+    let rest = select(f.custom, f.protmode);
+    with_challenge(room, [first, f.keyid], f.ichallenge, &rest)
 }
 
 // Table 15. Ruled out: RFU bits sent on, and the first byte of MAM1.
@@ -160,9 +153,8 @@ pub fn iam2_into(f: Iam2, room: &mut [u8]) -> bool
     if f.rfu != 0 {
         return false;
     }
-    let iresponse = f.iresponse;
     let head = [0x50];
-    with_response(room, &head, iresponse)
+    with_response(room, &head, f.iresponse)
 }
 
 // Table 18, up to the first block of IResponse; the data blocks and the MAC are the caller's.
@@ -171,16 +163,13 @@ pub fn iam3_into(f: Iam3, room: &mut [u8]) -> bool
     ensures { Built (select_fits f.rfu f.custom f.protmode) iam3_head_length (iam3_head f)
         room.old result room.new }
 {
-    let custom = f.custom;
-    if !select_fits(f.rfu, custom, f.protmode) {
+    if !select_fits(f.rfu, f.custom, f.protmode) {
         return false;
     }
-    let blocksize = custom.blocksize;
-    let b = u8::from(blocksize);
-    let s = select(custom, f.protmode);
+    let b = u8::from(f.custom.blocksize);
+    let s = select(f.custom, f.protmode);
     let head = [0x58 + b * 4, s[0], s[1], s[2]];
-    let iresponse = f.iresponse;
-    with_response(room, &head, iresponse)
+    with_response(room, &head, f.iresponse)
 }
 
 // Table 23. Ruled out: the first byte of TAM1, and a challenge of nine bytes.
@@ -191,9 +180,8 @@ pub fn mam1_into(f: Mam1, room: &mut [u8]) -> bool
     if f.rfu != 0 {
         return false;
     }
-    let ichallenge = f.ichallenge;
     let none = [0u8; 0];
-    with_challenge(room, [0x80, f.keyid], ichallenge, &none)
+    with_challenge(room, [0x80, f.keyid], f.ichallenge, &none)
 }
 
 // Table 25. Ruled out: an RFU of 8 taken, and the first byte of IAM2.
@@ -204,9 +192,8 @@ pub fn mam2_into(f: Mam2, room: &mut [u8]) -> bool
     if f.rfu != 0 {
         return false;
     }
-    let iresponse = f.iresponse;
     let head = [0x90];
-    with_response(room, &head, iresponse)
+    with_response(room, &head, f.iresponse)
 }
 
 // HEADER (9.2). Ruled out: Offset before Profile, and eight bytes for 16-bit blocks.
@@ -217,8 +204,7 @@ pub fn header_into(custom: Custom, room: &mut [u8]) -> bool
     if !custom_fits(custom) {
         return false;
     }
-    let blocksize = custom.blocksize;
-    let zeros = header_length(blocksize) - 3;
+    let zeros = header_length(custom.blocksize) - 3;
     let start = header_start(custom);
     let padding = [0u8; 5];
     pair(room, &start, &padding[..zeros])

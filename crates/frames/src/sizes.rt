@@ -66,9 +66,8 @@ pub fn block_asked(profile: Profile, custom: Custom) -> Block
     ensures { result ≡ block_asked profile custom }
 {
     let size = custom.blocksize;
-    let offset = custom.offset;
     let count = custom.blockcount as u16 + 1;
-    address(profile, size, offset, count)
+    address(profile, size, custom.offset, count)
 }
 
 // D (9.2): the least number of 128-bit blocks that holds the header, where there is one, and the data.
@@ -135,10 +134,9 @@ fn iam3_length_fits(m: &[u8]) -> bool
         return false;
     }
     let f = iam3_of(m);
-    let custom = f.custom;
-    let size = custom.blocksize;
+    let size = f.custom.blocksize;
     match prot_mode(f.protmode) {
-        Some(mode) => m.len() == iam3_length(size, custom.blockcount, mode),
+        Some(mode) => m.len() == iam3_length(size, f.custom.blockcount, mode),
         None => true,
     }
 }

@@ -124,12 +124,11 @@ pub fn step(size: BlockSize) -> usize
 pub fn address(profile: Profile, size: BlockSize, offset: Offset, count: u16) -> Block
     ensures { result ≡ address_of profile size offset count }
 {
-    let area = profile.area;
     let base = profile.base.0 as usize;
     let blocks = offset.0 as usize;
     let each = step(size);
     Block {
-        area,
+        area: profile.area,
         first: FarWord(base + blocks * each),
         words: (count as usize) * each,
     }

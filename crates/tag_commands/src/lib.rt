@@ -37,12 +37,11 @@ impl Place {
 
     // A tag at its power-up, with areas of zeros in the sheet's sizes.
     fn set_up(terms: Terms, keys: &[u8]) -> Place {
-        let sizes = terms.sizes;
         Place {
             tag: Some(tag::power_up(terms)),
             keys: Bytes::of(keys),
-            identity: Bytes::zeros(2 * usize::from(sizes.identity)),
-            user: Bytes::zeros(2 * usize::from(sizes.user)),
+            identity: Bytes::zeros(2 * usize::from(terms.sizes.identity)),
+            user: Bytes::zeros(2 * usize::from(terms.sizes.user)),
         }
     }
 

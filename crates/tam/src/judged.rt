@@ -45,9 +45,8 @@ fn tam2_fields(terms: Terms, keys: &[u8], f: Tam2) -> Result<Key, TagFault>
     ensures { result ≡ settled (judged (tam2_field_checks (setup_of terms keys.now) f))
         (Ok (key_with f.keyid (keys_in keys.now))) Err }
 {
-    let features = terms.features;
-    if !records::size_offered(features, f.custom.blocksize)
-        || !records::rev_offered(features, f.rev)
+    if !records::size_offered(terms.features, f.custom.blocksize)
+        || !records::rev_offered(terms.features, f.rev)
         || f.rfu != 0
     {
         return Err(TagFault::NotSupported);
@@ -55,7 +54,7 @@ fn tam2_fields(terms: Terms, keys: &[u8], f: Tam2) -> Result<Key, TagFault>
     let key = keytable::find(keys, f.keyid).ok_or(TagFault::NotSupported)?;
     let slot = records::slot(terms.profiles, f.custom.profile);
     tam2_block(
-        features,
+        terms.features,
         key,
         f,
         slot,

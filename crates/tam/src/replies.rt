@@ -92,14 +92,13 @@ fn tam2_in_mode(
     ensures { (result ≡ length (tam2_in_mode key m words.now draws mode))
         × (room.new ≡ over (tam2_in_mode key m words.now draws mode) room.old) }
 {
-    let custom = m.custom;
-    let n = frames::sizes::blocks_length(custom.blocksize, m.rev, custom.blockcount);
-    let p = carried(m.rev, custom, words);
+    let n = frames::sizes::blocks_length(m.custom.blocksize, m.rev, m.custom.blockcount);
+    let p = carried(m.rev, m.custom, words);
     let constant = frames::constants::tam2_constant(m.rev, mode);
     let a = tam_block(key.enc, constant, draws, m.ichallenge);
     authenticated(key.enc, mode, a, &p[..n], &mut *room);
     payload::mac_behind(key.mackey, mode, 16 + n, room);
-    frames::sizes::tam2_reply_length(custom.blocksize, m.rev, custom.blockcount, mode)
+    frames::sizes::tam2_reply_length(m.custom.blocksize, m.rev, m.custom.blockcount, mode)
 }
 
 /// The reply to TAM2 (9.4.6) into the first bytes of the room; its length.
