@@ -22,12 +22,11 @@ use Rattle.modes_inverse.proofs.Inverse.{dec_inv_undoes_enc}
 use Rattle.sheet.specs.declared.Key.{Key}
 use Rattle.frames.specs.declared.Tam2.{Tam2}
 use Rattle.frames.specs.Blocks.{data_length, blocks_length}
-use Rattle.frames.specs.Constants.{c_tam2_0, c_tam2_1, c_tam2_2, c_tam2_3, tam2_constant}
+use Rattle.frames.specs.Constants.{tam2_constant}
 use Rattle.frames.specs.Fields.{custom_fits}
 use Rattle.frames.specs.declared.ProtMode.{ProtMode}
 use Rattle.frames.specs.Modes.{encrypts, has_mac, in_mode, prot_mode_of}
 use Rattle.frames.specs.Lengths.{tam2_mac_at}
-use Rattle.frames.proofs.Bounds.{by_mode_le}
 use Rattle.octets.specs.Alike.{same}
 use Rattle.payload.specs.Data.{carried_data}
 use Rattle.payload.specs.Protected.{with_mac, mac_fits}
@@ -37,7 +36,7 @@ use Rattle.payload.proofs.Lengths.{blocks_whole}
 use Rattle.payload.proofs.Recovered.{header_carried, words_carried, filler_carried}
 use Rattle.tam.specs.Replies.{tam_block, tam2_body, tam2_in_mode, tam2_reply}
 use Rattle.offer.proofs.Bytes.{Ten}
-use Rattle.tam.proofs.ReplyBytes.{tam_block_block, carried_bytes}
+use Rattle.tam.proofs.ReplyBytes.{tam2_constant_le, tam_block_block, carried_bytes}
 use Rattle.tam.proofs.ReplyLengths.{tam_block_long, body_long, tam2_long, tam2_named}
 use Rattle.reader.specs.declared.Keys.{Keys}
 use Rattle.reader_judge.specs.Findings.{carries, worth_of}
@@ -47,12 +46,6 @@ use Rattle.reader_judge.proofs.Clear.{tam2_named as tam2-found-named}
 use Rattle.reader_judge.specs.Opened.{opened_block, block_fits, data_sent, opened_data}
 use Rattle.claims.specs.Recovery.{Shares, worth_asked}
 use Rattle.claims.proofs.Opens.{opens, block_right}
-
-constant_le : (rev : Bool) (mode : ProtMode) → tam2_constant rev mode ≤ 0xFFFF
-unfolding tam2_constant
-constant_le false mode = omega arith
-constant_le true mode = by_mode_le c_tam2_0 c_tam2_1 c_tam2_2 c_tam2_3 mode 0xFFFF (omega arith) (omega arith)
-    (omega arith) (omega arith)
 
 made_block : (enc constant draws ichallenge : List ℕ)
     → tam_block enc constant draws ichallenge ≡ aes_enc enc (constant ++ (take 4 draws ++ ichallenge))
@@ -66,7 +59,7 @@ undone true a enc p ha he hp w = dec_inv_undoes_enc a enc p ha he hp w
 undone false a enc p ha he hp w = refl
 
 -- the MAC that was put there, where there is one
-mac_there : (b : Bool) (mackey s : List ℕ) → macs (length s) 12 ≡ true
+pub mac_there : (b : Bool) (mackey s : List ℕ) → macs (length s) 12 ≡ true
     → implies b (both (macs (length s) 12) (same (cmac96 mackey s) (pick b (cmac96 mackey s) []))) ≡ true
 mac_there true mackey s t = ap₂ both t (same_self (cmac96 mackey s))
 mac_there false mackey s t = refl
@@ -130,7 +123,7 @@ module _ (keys : Keys) (key : Key) (e : Shares keys key) (b : Bytes keys.enc) (d
         let k = tam2_constant f.rev mode in
         ap (block_fits (two_bytes k) f.ichallenge) (opens k (take 4 draws) f.ichallenge four keys key.enc reply
         e.has.enc b
-        (constant_le f.rev mode) (bytes_take 4 draws d.bytes) t
+        (tam2_constant_le f.rev mode) (bytes_take 4 draws d.bytes) t
         (front ∙ made_block key.enc (two_bytes k) draws f.ichallenge))
         ∙ block_right k (take 4 draws) f.ichallenge four
 
@@ -153,7 +146,7 @@ module _ (keys : Keys) (key : Key) (e : Shares keys key) (b : Bytes keys.enc) (d
         (λ i. pick (encrypts mode) (cbc_dec_aes_inv (front i) (e.has.enc i) (middle i)) (middle i))
         ∙ undone (encrypts mode) block key.enc clear
         (tam_block_block draws d key.enc f.ichallenge (tam2_constant f.rev mode) be
-        (constant_le f.rev mode) t).bytes be
+        (tam2_constant_le f.rev mode) t).bytes be
         (carried_bytes f.rev f.custom words fit w) clear_whole
 
     clear_found : data_finding mode f clear ≡ carries (worth_of mode) words

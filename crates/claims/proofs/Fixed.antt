@@ -1,5 +1,6 @@
 -- An accepted reply is made again from what was found in it.
 use Rattle.std.specs.Prelude.{Ok, Option, Some, None}
+use Rattle.std.proofs.lemmas.List.{nil_from_length}
 use mathlib.Core.Path.{◌≡◌, refl, sym, ap, ap₂, ◌∙◌}
 use mathlib.Core.Bool.{Bool, true, false}
 use mathlib.Core.List.{List, [], ◌∷◌, ◌++◌}
@@ -72,10 +73,6 @@ accepted_first : (b : Bool) (x : Finding) (f : ReaderFault) → (pick b x (refus
     × (x.verdict ≡ Ok tt) × (pick b x (refused f) ≡ x)
 accepted_first true x f e = (refl, e, refl)
 accepted_first false x f e = absurd cc
-
-none : (s : List ℕ) → length s ≡ 0 → s ≡ []
-none [] e = refl
-none (x ∷ s) e = absurd (let z : ⊥ = omega arith in z)
 
 six_left : (l : List ℕ) → length l ≡ 22 → length (drop 16 l) ≡ 6
 six_left l n = omega (arith, length-drop 16 l)
@@ -188,7 +185,7 @@ module _ (keys : Keys) (key : Key) (share : Shares keys key) (he : Bytes keys.en
         sym (same_equal (cmac96 keys.mackey covered) mac
         (both_right (macs (length covered) 12) (same (cmac96 keys.mackey covered) mac) h))
         ∙ (λ j. cmac96 (share.has.mackey j) covered)
-    mac_again false covered mac l h = none mac l
+    mac_again false covered mac l h = nil_from_length mac l
 
     module _ (mode : ProtMode) where
       abbrev opened : List ℕ
@@ -272,7 +269,7 @@ module _ (keys : Keys) (key : Key) (share : Shares keys key) (he : Bytes keys.en
 
   empty_fixed : (empty_finding reply).verdict ≡ Ok tt → reply ≡ []
   unfolding empty_finding judged_to
-  empty_fixed e = none reply (eqb-true _ _ (accepted_first _ _ _ e).0)
+  empty_fixed e = nil_from_length reply (eqb-true _ _ (accepted_first _ _ _ e).0)
 
   kind_fixed : (m : List ℕ) (k : Kind) → (by_kind keys m reply k).verdict ≡ Ok tt
       → reply ≡ remade key m (trnd_in keys reply) (by_kind keys m reply k) k

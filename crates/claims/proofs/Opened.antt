@@ -8,7 +8,7 @@ use native.Mathlib.Omega.{arith}
 use lib.ListN.{length, take, drop, length-append}
 use lib.Seq.{take_at, drop_at, drop-drop}
 use Rattle.ground.specs.Bytes.{Bytes}
-use Rattle.ground.specs.Choice.{pick, both, implies}
+use Rattle.ground.specs.Choice.{pick}
 use Rattle.modes.specs.Cbc.{cbc_dec_aes}
 use Rattle.modes.specs.Cmac.{cmac96}
 use Rattle.modes.specs.Room.{macs}
@@ -25,15 +25,14 @@ use Rattle.frames.specs.Modes.{encrypts, has_mac}
 use Rattle.frames.specs.Lengths.{mac_length}
 use Rattle.frames.specs.Messages.{iam3_head}
 use Rattle.frames.proofs.Shape.{iam3_head_lem}
-use Rattle.octets.specs.Alike.{same}
 use Rattle.payload.specs.Protected.{with_mac, mac_fits}
-use Rattle.octets.proofs.Alike.{same_self}
 use Rattle.payload.proofs.Lengths.{blocks_whole, mac_long}
 use Rattle.entry.specs.Opened.{sent_block, sent_data, sent_mac, opened_in, sent_mac_fits}
 use Rattle.reader.specs.declared.Keys.{Keys}
 use Rattle.reader_build.specs.Builds.{sent_data as reader_data, iam3_response, iam3_whole}
 use Rattle.reader_build.proofs.Sending.{data_sent_long}
 use Rattle.claims.specs.Entry.{Knows}
+use Rattle.claims.proofs.Data.{mac_there}
 
 module _ (keys : Keys) (custom : Custom) (protmode : ℕ) (mode : ProtMode) (a p : List ℕ) (sixteen : length a ≡ 16)
     (blocks : length p ≡ blocks_length custom.blocksize true custom.blockcount) where
@@ -81,11 +80,6 @@ module _ (keys : Keys) (custom : Custom) (protmode : ℕ) (mode : ProtMode) (a p
     -- ---- the MAC
 
     module _ (key : Key) (knows : Knows keys key) where
-      mac_right : (t : Bool) (k s : List ℕ) → macs (length s) 12 ≡ true
-          → implies t (both (macs (length s) 12) (same (cmac96 k s) (pick t (cmac96 k s) []))) ≡ true
-      mac_right true k s h = ap₂ both h (same_self (cmac96 k s))
-      mac_right false k s h = refl
-
       pub mac_fits_lem : sent_mac_fits key mode head m ≡ true
       unfolding sent_mac_fits mac_fits
       mac_fits_lem =
@@ -97,7 +91,7 @@ module _ (keys : Keys) (custom : Custom) (protmode : ℕ) (mode : ProtMode) (a p
           ap₂ (λ (x y : List ℕ). mac_fits key.mackey mode x y)
           (ap₂ {C = List ℕ} (λ x y. x ++ y) block_sent data_sent_lem) mac_sent
           ∙ ap (λ (x : List ℕ). mac_fits x mode (a ++ body) mac) (sym knows.has.mackey)
-          ∙ mac_right (has_mac mode) keys.mackey (a ++ body) k
+          ∙ mac_there (has_mac mode) keys.mackey (a ++ body) k
 
       -- ---- the data in the clear
 

@@ -2,12 +2,12 @@
 use mathlib.Core.Path.{◌≡◌, sym, ap, ap₂, ◌∙◌}
 use mathlib.Core.Bool.{true}
 use mathlib.Core.List.{List, ◌++◌}
-use Prim.Native.Nat.{ℕ, zero, suc, ◌≤◌}
+use Prim.Native.Nat.{ℕ, ◌≤◌}
 use native.Mathlib.Omega.{arith}
 use borrow.Author.Tests.{eq-eqb}
-use lib.Dec.{lit<}
 use lib.ListN.{length, take, drop, length-append, length-drop, take-append-drop}
 use lib.Seq.{take_at, drop_at, take_all, length-take-le}
+use Rattle.ground.proofs.Bytes.{two_bytes_lem}
 use Rattle.ground.specs.Bytes.{Bytes, two_bytes}
 use Rattle.ground.specs.Choice.{both}
 use Rattle.ground.proofs.Checked.{passes, ends}
@@ -36,11 +36,6 @@ use Rattle.reader_judge.specs.Opened.{opened_block, block_fits, challenge_in}
 
 -- ---- a block
 
-two_bytes_lem : (c : ℕ) → c ≤ 0xFFFF → Bytes (two_bytes c)
-two_bytes_lem c h zero = omega arith
-two_bytes_lem c h (suc zero) = omega arith
-two_bytes_lem c h (suc (suc i)) = lit< tt
-
 module _ (k : ℕ) (middle challenge : List ℕ) (four : length middle ≡ 4) where
   pub plain_block : k ≤ 0xFFFF → Bytes middle → Ten challenge → Block (two_bytes k ++ (middle ++ challenge))
   plain_block l h t =
@@ -48,7 +43,7 @@ module _ (k : ℕ) (middle challenge : List ℕ) (four : length middle ≡ 4) wh
       let n : length s ≡ 14 = omega (arith, length-append middle challenge, t.ten) in
       record {
         sixteen = omega arith;
-        bytes = joined_bytes (two_bytes k) s (two_bytes_lem k l)
+        bytes = joined_bytes (two_bytes k) s (two_bytes_lem k (omega arith))
             (joined_bytes middle challenge h t.bytes);
       }
 

@@ -35,7 +35,7 @@ use Rattle.tam.specs.Replies.{tam_block, tam1_reply, tam2_body, tam2_in_mode, ta
 
 -- ---- constants, header and data
 
-tam2_constant_le : (rev : Bool) (mode : ProtMode) → tam2_constant rev mode ≤ 0xFFFF
+pub tam2_constant_le : (rev : Bool) (mode : ProtMode) → tam2_constant rev mode ≤ 0xFFFF
 unfolding tam2_constant
 tam2_constant_le false mode = omega arith
 tam2_constant_le true mode =
