@@ -2,6 +2,8 @@
 -- the room.
 use mathlib.Core.Path.{refl}
 use Rattle.ground.specs.OneAnswer.{OneAnswer, one, ◌&◌}
+use Rattle.modes.proofs.U8FromChainingFault.from.Reads as fault-number
+use Rattle.modes.proofs.U8FromChainingFault.from.Kinds as fault-number-kinds
 use Rattle.modes.proofs.number.Reads as number
 use Rattle.modes.proofs.number.Kinds as number-kinds
 use Rattle.modes.proofs.takes.Reads as takes
@@ -14,6 +16,9 @@ use Rattle.modes.proofs.cbc_dec_aes.Reads as cbc-dec-aes
 use Rattle.modes.proofs.cbc_dec_aes.Kinds as cbc-dec-aes-kinds
 use Rattle.modes.proofs.cmac_96.Reads as cmac-96
 use Rattle.modes.proofs.cmac_96.Kinds as cmac-96-kinds
+
+pub fault_number_one : OneAnswer 0 fault-number-kinds.ps fault-number-kinds.r fault-number.Post
+fault_number_one κs a x y v w p q = (one p q, refl)
 
 pub number_one : OneAnswer 0 number-kinds.ps number-kinds.r number.Post
 number_one κs a x y v w p q = (one p q, refl)

@@ -177,6 +177,7 @@ fn in_parts<F: Form>(key: &[u8; 16], iv: [u8; 16], input: &[u8], room: &mut [u8]
 {
     let mut chained = iv;
     let mut at = 0;
+    // The place cuts input and room alike: nothing is known to a proof of what an adapter of `chunks_mut` writes.
     while PART < input.len() - at {
         let end = at + PART;
         let handed = chain::<F>(key, &chained, &input[at..end], &mut room[at..end]);
