@@ -6,16 +6,32 @@ use mathlib.Core.Bool.{true, false}
 use mathlib.Core.List.{List, ◌++◌}
 use Prim.Native.Nat.{ℕ, ◌+◌, ◌-◌, ◌≤◌, ◌<◌}
 use native.Mathlib.Omega.{arith}
+use native.Mathlib.Nat.{add-sub_cancel_left}
 use lib.Dec.{leb}
 use lib.ListN.{length, take, drop, get_or, length-append, length-take, length-drop, get_or-append}
-use lib.Seq.{length-take-le, get_or-append-add, get_or-take, get_or-drop, take_at, drop_at}
-use borrow.Author.Tests.{leb-true, eqb-true, eq-eqb}
+use lib.Seq.{drop-drop, length-take-le, get_or-append-add, get_or-take, get_or-drop, take_at, drop_at}
+use borrow.Author.Tests.{leb-true, eqb-true, le-leb, eq-eqb}
 use Rattle.memory.specs.declared.Area.{Area}
 use Rattle.memory.specs.declared.Area.TheVariants.{Identity, User}
 use Rattle.memory.specs.declared.Block.{Block}
 use Rattle.memory.specs.Address.{area_number, same_area}
 use Rattle.memory.specs.Areas.{first_byte, byte_count, area_of, within, part_of, window_of, written, stored_in}
 use Rattle.memory.proofs.Truth.{picked, both}
+
+-- the bytes are put in where the block lies in the area and they are as many as it has
+module _ (block : Block) (bytes area : List ℕ) where
+  -- the part that was lent came back as `l`, which is `bytes`
+  pub put_in : first_byte block + byte_count block ≤ length area → length bytes ≡ byte_count block → (l : List ℕ)
+      → l ≡ bytes
+      → take (first_byte block) area ++ (l ++ drop (first_byte block + byte_count block - first_byte block)
+      (drop (first_byte block) area))
+      ≡ written block bytes area
+  unfolding written within
+  put_in h n l e = simp (le-leb _ _ h, eq-eqb _ _ n, e, add-sub_cancel_left, drop-drop)
+
+  pub put_out : leb (first_byte block + byte_count block) (length area) ≡ false → area ≡ written block bytes area
+  unfolding written within
+  put_out h = simp h
 
 -- a list whose middle is `d`
 module _ (s d : List ℕ) (a : ℕ) where
