@@ -90,6 +90,7 @@ fn encipher(w: [[u8; 16]; 11], block: [u8; 16]) -> [u8; 16]
 {
     let mut s = field::xor(block, w[0]);
     for k in &w[1..10] {
+        // By way of a local: the borrow checker covers no call whose result is laid in an array that is there.
         let t = round(s, *k);
         s = t;
     }

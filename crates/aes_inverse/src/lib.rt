@@ -81,6 +81,7 @@ fn decipher(w: [[u8; 16]; 11], block: [u8; 16]) -> [u8; 16]
 {
     let mut s = field::xor(block, w[10]);
     for k in w[1..10].iter().rev() {
+        // By way of a local: the borrow checker covers no call whose result is laid in an array that is there.
         let t = inv_round(s, *k);
         s = t;
     }
