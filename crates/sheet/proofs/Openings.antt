@@ -1,5 +1,5 @@
--- The four checks before a body's values: what holds where none of them refuses.
-use Rattle.std.specs.Prelude.{Option, Some, None, Ok}
+-- The four checks before a body's values: one too many of a kind, and what holds where none of them refuses.
+use Rattle.std.specs.Prelude.{Option, Some, None, Ok, Err}
 use mathlib.Core.Path.{◌≡◌, refl, sym, ap, ◌∙◌}
 use mathlib.Core.Bool.{Bool, true, false, not}
 use Prim.Native.Nat.{ℕ, ◌≤◌}
@@ -11,6 +11,14 @@ use Rattle.sheet.specs.Judgement.{too_many, shut_if, opened_as, opened_of}
 use Rattle.sheet.specs.declared.Kind.{Kind}
 use Rattle.sheet.specs.declared.SheetFault.TheVariants.{Cut, Order, Many}
 use Rattle.sheet.specs.declared.Gathered.{Gathered}
+
+-- one too many of a kind that is known and in order
+pub shut_many : (limit b left : ℕ) (k : Gathered) (q : Kind) → Some q ≡ kind_of b
+    → (o : Bool) → o ≡ in_order k.marks.last b → not o ≡ false
+    → (m : Bool) → m ≡ too_many limit q k → m ≡ true
+    → Err Many ≡ opened_of limit b left k
+unfolding opened_of
+shut_many limit b left k q e o order ho m many h = rw (← e, ← order, ho, ← many, h)
 
 -- what an opened record has passed
 pub record Passed (limit b left : ℕ) (k : Gathered) (q : Kind) : Type 0 where

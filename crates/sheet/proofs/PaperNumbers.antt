@@ -50,24 +50,26 @@ value_number LockRecord b k =
     rule_number (lock_rule k.marks.area k.marks.word k.terms.sizes b) LockRecord k (with_lock k b)
 value_number EndRecord b k = refl
 
--- 32, 34, 30, and n behind them
-line_by_line : (o m c : Bool) (q : Kind) (t : List ℕ) (k : Gathered) (n : ℕ)
-    → finding_number (record_of q (take (body_length q) t) k).finding ≡ n
-    → finding_number (record_in (shut_if (not o) Order (shut_if m Many (shut_if c Cut (Ok q)))) t k).finding
-    ≡ pick (not o) 32 (pick m 34 (pick c 30 n))
-line_by_line false m c q t k n h = refl
-line_by_line true true c q t k n h = refl
-line_by_line true false true q t k n h = refl
-line_by_line true false false q t k n h = h
+-- 31, 32, 34, 30, and n behind them
+line_by_line : (u o m c : Bool) (q : Kind) (t : List ℕ) (k : Gathered) (n : ℕ)
+    → (u ≡ false → finding_number (record_of q (take (body_length q) t) k).finding ≡ n)
+    → finding_number
+    (record_in (shut_if u Unknown (shut_if (not o) Order (shut_if m Many (shut_if c Cut (Ok q))))) t k).finding
+    ≡ pick u 31 (pick (not o) 32 (pick m 34 (pick c 30 n)))
+line_by_line true o m c q t k n h = refl
+line_by_line false false m c q t k n h = refl
+line_by_line false true true c q t k n h = refl
+line_by_line false true false true q t k n h = refl
+line_by_line false true false false q t k n h = h refl
 
--- and 31 before them
+-- the same of what the kind byte says: no kind is 31
 number_as : (limit b : ℕ) (t kinds : List ℕ) (k : Gathered) → Counted k kinds → (o : Option Kind)
     → finding_number (record_in (opened_as limit b (length t) k o) t k).finding ≡ listed_as limit b t kinds k o
 number_as limit b t kinds k c None = refl
 number_as limit b t kinds k c (Some q) =
     rw (← c.last, ← many_stand limit q k kinds c)
-    (line_by_line (in_order k.marks.last b) (too_many limit q k) (ltb (length t) (body_length q)) q t k _
-    (value_number q (take (body_length q) t) k))
+    (line_by_line false (in_order k.marks.last b) (too_many limit q k) (ltb (length t) (body_length q)) q t k _
+    (λ e. value_number q (take (body_length q) t) k))
 
 pub judged_number_lem : (limit : ℕ) (s kinds : List ℕ) (k : Gathered) → Counted k kinds
     → judged_number limit s k ≡ paper_number limit s kinds k

@@ -1,8 +1,10 @@
 -- No second answer fits the contract of an exported function, as the checker reads it from the source.
 use mathlib.Core.Path.{refl}
 use Rattle.ground.specs.OneAnswer.{OneAnswer, OneLent, one}
-use Rattle.sheet.proofs.U8FromSheetFault.from.Reads as number
-use Rattle.sheet.proofs.U8FromSheetFault.from.Kinds as number-kinds
+use Rattle.sheet.proofs.U8FromSheetFault.from.Reads as fault-number
+use Rattle.sheet.proofs.U8FromSheetFault.from.Kinds as fault-number-kinds
+use Rattle.sheet.proofs.number.Reads as number
+use Rattle.sheet.proofs.number.Kinds as number-kinds
 use Rattle.sheet.proofs.start.Reads as start
 use Rattle.sheet.proofs.start.Kinds as start-kinds
 use Rattle.sheet.proofs.judge.Reads as judge
@@ -23,6 +25,9 @@ use Rattle.sheet.proofs.bodies.slot_of.Reads as slot_of
 use Rattle.sheet.proofs.bodies.slot_of.Kinds as slot-of-kinds
 use Rattle.sheet.proofs.bodies.lock_of.Reads as lock-of
 use Rattle.sheet.proofs.bodies.lock_of.Kinds as lock-of-kinds
+
+pub fault_number_one : OneAnswer 0 fault-number-kinds.ps fault-number-kinds.r fault-number.Post
+fault_number_one κs a x y v w p q = (one p q, refl)
 
 pub number_one : OneAnswer 0 number-kinds.ps number-kinds.r number.Post
 number_one κs a x y v w p q = (one p q, refl)

@@ -197,6 +197,15 @@ impl From<SheetFault> for u8 {
     }
 }
 
+/// The same, for a caller that names it.
+///
+/// Ruled out: one number for all refusals; 33 and 34 exchanged.
+pub fn number(f: SheetFault) -> u8
+    ensures { result ≡ number_of f }
+{
+    u8::from(f)
+}
+
 /// What is gathered before the first record.
 ///
 /// Ruled out: a start that takes 02 first; one that counts a key.
