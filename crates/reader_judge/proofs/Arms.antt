@@ -6,7 +6,6 @@ use Prim.Native.Nat.{ℕ}
 use Rattle.frames.specs.declared.Kind.{Kind}
 use Rattle.frames.specs.declared.Kind.TheVariants.{Tam1, Tam2, Iam1, Iam2, Iam3, Mam1, Mam2, Unsupported}
 use Rattle.frames.specs.declared.Tam1.{Tam1 as Tam1Fields}
-use Rattle.frames.specs.declared.Tam2.{Tam2 as Tam2Fields}
 use Rattle.frames.specs.declared.Mam1.{Mam1 as Mam1Fields}
 use Rattle.frames.specs.Messages.{tam1_of, tam2_of, mam1_of}
 use Rattle.reader.specs.declared.Keys.{Keys}
@@ -46,11 +45,10 @@ module _ (keys : Keys) (m reply room : List ℕ) (kind : Kind) (r : Result Accep
   tam1_arm f e q s = arm Tam1 (tam1_finding keys f reply) e (ap (λ (g : Tam1Fields). tam1_finding keys g reply) (sym q))
       (tam1_quiet keys f reply) s
 
-  pub tam2_arm : (f : Tam2Fields) (after : List ℕ) → kind ≡ Tam2 → f ≡ tam2_of m
-      → Judges (tam2_finding keys f reply) room r after → Judges (by_kind keys m reply kind) room r after
+  pub tam2_arm : (after : List ℕ) → kind ≡ Tam2 → Judges (tam2_finding keys (tam2_of m) reply) room r after
+      → Judges (by_kind keys m reply kind) room r after
   unfolding by_kind
-  tam2_arm f after e q h = judges_as (ap (λ (g : Tam2Fields). tam2_finding keys g reply) q
-      ∙ sym (ap (by_kind keys m reply) e)) h
+  tam2_arm after e h = judges_as (sym (ap (by_kind keys m reply) e)) h
 
   pub iam1_arm : kind ≡ Iam1 → r ≡ said_of (iam1_finding reply) → Judges (by_kind keys m reply kind) room r room
   unfolding by_kind

@@ -1,11 +1,13 @@
 -- What the judge leaves behind, from what it says.
 use mathlib.Core.Path.{◌≡◌, refl, sym, ap, ◌∙◌}
 use mathlib.Core.Bool.{Bool, true}
-use mathlib.Core.List.{List, [], ◌∷◌}
+use mathlib.Core.List.{List, [], ◌∷◌, ◌++◌, append_assoc}
 use Prim.Native.Nat.{ℕ, ◌≤◌}
+use native.Mathlib.Omega.{arith}
 use borrow.Author.Tests.{leb-true}
 use lib.Dec.{leb}
-use lib.ListN.{length, get_or}
+use lib.ListN.{length, get_or, take, drop, take-append-drop}
+use lib.Seq.{drop-append-le, length-take-le}
 use Rattle.ground.specs.Choice.{pick, both}
 use Rattle.ground.specs.Checks.{Check, judged_to}
 use Rattle.ground.proofs.Checked.{keeps}
@@ -52,6 +54,20 @@ told q e = e ∙ ap said_of q
 pub judges_as : {f g : Finding} {room after : List ℕ} {r : Result Accepted ReaderFault} → f ≡ g → Judges f room r after
     → Judges g room r after
 judges_as e h = rw (← e) h
+
+-- What is left in the room's first bytes, which have the data, is left in the room: its other bytes stay.
+pub widened : {f : Finding} {room first after : List ℕ} {r : Result Accepted ReaderFault} → data_room ≤ length room
+    → first ≡ take data_room room → length f.bytes ≤ data_room → Judges f first r after
+    → Judges f room r (after ++ drop data_room room)
+widened {f} {room} {first} {after} {r} enough e few h =
+    let n = length f.bytes in
+    let front = take data_room room in
+    let fits : n ≤ length front = omega (arith, length-take-le data_room room enough) in
+    judges f room (after ++ drop data_room room) r h.says
+    (ap (λ (l : List ℕ). l ++ drop data_room room) (h.holds ∙ ap (over f.bytes) e)
+    ∙ append_assoc f.bytes (drop n front) (drop data_room room)
+    ∙ ap (λ (l : List ℕ). f.bytes ++ l) (sym (drop-append-le n front (drop data_room room) fits)
+    ∙ ap (drop n) (take-append-drop data_room room)))
 
 -- A line of checks brings no data of its own.
 pub line_quiet : (cs : List (Check ReaderFault)) (found : Finding) → found.bytes ≡ []

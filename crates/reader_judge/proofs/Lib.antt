@@ -1,5 +1,6 @@
 pub mod Places
 pub mod Judging
+pub mod Every
 pub mod Arms
 pub mod Clear
 pub mod Unique

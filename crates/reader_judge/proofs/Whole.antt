@@ -1,6 +1,6 @@
 -- What the judge says is, with the bytes of the data, the whole of its finding: a refusal has neither data nor
 -- challenge, and where no challenge is told there is none.
-use Rattle.std.specs.Prelude.{Result, Ok, Err, Option, Some, None}
+use Rattle.std.specs.Prelude.{Result, Ok, Err}
 use Rattle.std.specs.Option.{is_some, unwrap_or}
 use mathlib.Core.Path.{◌≡◌, refl, sym, ap, ◌∙◌}
 use mathlib.Core.Bool.{Bool, true, false}
@@ -8,22 +8,15 @@ use mathlib.Core.List.{List, [], ◌∷◌}
 use Prim.Native.Nat.{ℕ}
 use lib.ListN.{length, replicate}
 use Rattle.ground.specs.Choice.{pick}
-use Rattle.ground.specs.Checks.{Check, judged_to}
-use Rattle.ground.proofs.Checked.{keeps}
-use Rattle.frames.specs.declared.Kind.{Kind}
-use Rattle.frames.specs.declared.Kind.TheVariants.{Tam1, Tam2, Iam1, Iam2, Iam3, Mam1, Mam2, Unsupported}
-use Rattle.frames.specs.declared.ProtMode.{ProtMode}
 use Rattle.frames.specs.Kinds.{kind_of}
-use Rattle.frames.specs.Messages.{tam2_of}
-use Rattle.frames.specs.Modes.{in_mode, prot_mode_of}
 use Rattle.reader.specs.declared.Keys.{Keys}
 use Rattle.reader.specs.declared.ReaderFault.{ReaderFault}
 use Rattle.reader.specs.declared.ReaderFault.TheVariants.{OwnMessage}
 use Rattle.reader.specs.Own.{own_fits}
 use Rattle.reader_judge.specs.declared.Accepted.{Accepted}
+use Rattle.reader_judge.proofs.Every.{every_kind}
 use Rattle.reader_judge.specs.Findings.{Finding, refused, said_by, said_of}
-use Rattle.reader_judge.specs.Judged.{tam1_finding, tam2_finding, iam1_finding, mam1_finding, empty_finding}
-use Rattle.reader_judge.specs.Judged.{data_finding, tam2_in_mode, by_kind, of_kind, judgement_of}
+use Rattle.reader_judge.specs.Judged.{by_kind, of_kind, judgement_of}
 
 -- The finding that is said, of data of these bytes; zeros stand for a challenge that is not told.
 abbrev pub found_in : Result Accepted ReaderFault → List ℕ → Finding
@@ -45,37 +38,12 @@ chosen : (t : Bool) (x y : Finding) → Whole x → Whole y → Whole (pick t x 
 chosen true x y h k = h
 chosen false x y h k = k
 
-line : (cs : List (Check ReaderFault)) (f : Finding) → Whole f → Whole (judged_to refused cs f)
-line cs f h = keeps refused f Whole (λ e. refl) h cs
-
-moded : (x : Option ProtMode) (of : ProtMode → Finding) (none : Finding) → ((mode : ProtMode) → Whole (of mode))
-    → Whole none → Whole (in_mode x of none)
-moded (Some mode) of none h k = h mode
-moded None of none h k = k
-
-module _ (keys : Keys) (m reply : List ℕ) where
-  tam2_whole : (mode : ProtMode) → Whole (tam2_in_mode keys (tam2_of m) reply mode)
-  unfolding tam2_in_mode data_finding
-  tam2_whole mode = line _ _ (line _ _ refl)
-
-  kind_whole : (k : Kind) → Whole (by_kind keys m reply k)
-  unfolding by_kind tam1_finding tam2_finding iam1_finding empty_finding mam1_finding
-  kind_whole Tam1 = line _ _ refl
-  kind_whole Tam2 = moded (prot_mode_of (tam2_of m).protmode) (tam2_in_mode keys (tam2_of m) reply)
-      (refused OwnMessage) tam2_whole refl
-  kind_whole Iam1 = line _ _ refl
-  kind_whole Iam2 = line _ _ refl
-  kind_whole Iam3 = line _ _ refl
-  kind_whole Mam1 = line _ _ refl
-  kind_whole Mam2 = line _ _ refl
-  kind_whole Unsupported = refl
-
 pub judgement_whole : (keys : Keys) (m reply : List ℕ) (room : ℕ) → Whole (judgement_of keys m reply room)
 unfolding judgement_of of_kind
 judgement_whole keys [] reply room = refl
 judgement_whole keys (b ∷ m) reply room =
     chosen (own_fits keys (kind_of b) (b ∷ m) room) (by_kind keys (b ∷ m) reply (kind_of b)) (refused OwnMessage)
-    (kind_whole keys (b ∷ m) reply (kind_of b)) refl
+    (every_kind Whole (λ e. refl) keys (b ∷ m) reply refl (λ c. refl) (λ mode p. refl) (kind_of b)) refl
 
 -- ---- by what is said
 

@@ -6,14 +6,14 @@ mod said; // said.rt: a finding as the judge says it
 mod kinds; // kinds.rt: the replies that carry no data, by kind
 mod tam2; // tam2.rt: the reply to TAM2
 
-ghost use Rattle.std.specs.Prelude.{◌≤◌, length};
-ghost use Rattle.reader.specs.Own.{data_room};
+ghost use Rattle.std.specs.Prelude.{length};
 ghost use Rattle.reader_judge.specs.Findings.{Judges};
 ghost use Rattle.reader_judge.specs.Judged.{by_kind, judgement_of};
 
 use frames::Kind;
-use frames::fields::{mam1_of, tam1_of, tam2_of};
+use frames::fields::{mam1_of, tam1_of};
 use frames::first::kind_of;
+use frames::sizes::DATA_ROOM;
 use reader::own::own_fits;
 use reader::{Keys, ReaderFault};
 
@@ -42,15 +42,14 @@ fn by_kind(
     kind: Kind,
     message: &[u8],
     reply: &[u8],
-    room: &mut [u8],
+    room: &mut [u8; DATA_ROOM],
 ) -> Result<Accepted, ReaderFault>
-    requires { data_room ≤ length room.old }
     ensures { Judges (by_kind keys message.now reply.now kind) room.old result
         room.new }
 {
     match kind {
         Kind::Tam1 => kinds::tam1(keys, tam1_of(message), reply),
-        Kind::Tam2 => tam2::tam2(keys, tam2_of(message), reply, room),
+        Kind::Tam2 => tam2::tam2(keys, message, reply, room),
         Kind::Iam1 => kinds::iam1(reply),
         Kind::Mam1 => kinds::mam1(keys, mam1_of(message), reply),
         Kind::Iam2 | Kind::Iam3 | Kind::Mam2 => kinds::empty(reply),
@@ -78,5 +77,5 @@ pub fn judge(
     if !own_fits(keys, kind, message, room.len()) {
         return Err(ReaderFault::OwnMessage);
     }
-    by_kind(keys, kind, message, reply, room)
+    by_kind(keys, kind, message, reply, room.first_chunk_mut().unwrap())
 }

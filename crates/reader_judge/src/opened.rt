@@ -1,14 +1,7 @@
-// What the reader opens of a reply (9.4.4, 9.4.7, 9.6.4).
-ghost use Rattle.std.specs.Prelude.{◌≡◌, ◌+◌, ◌≤◌, length, take, drop};
-ghost use Rattle.modes.specs.Room.{over};
-ghost use Rattle.frames.specs.Blocks.{blocks_length};
-ghost use Rattle.frames.specs.Lengths.{auth_length, tam2_mac_at};
-ghost use Rattle.payload.specs.Protected.{mac_fits};
-ghost use Rattle.reader_judge.specs.Opened.{opened_block, block_fits, challenge_in, opened_data};
+// The block that a reply starts with, as the reader opens it (9.4.4, 9.4.7, 9.6.4).
+ghost use Rattle.std.specs.Prelude.{◌≡◌, ◌≤◌, length};
+ghost use Rattle.reader_judge.specs.Opened.{opened_block, block_fits, challenge_in};
 
-use frames::protection::encrypts;
-use frames::sizes::{blocks_length, tam2_mac_at};
-use frames::{ProtMode, Tam2};
 use octets::same;
 use reader::Keys;
 
@@ -37,32 +30,4 @@ pub fn challenge_in(b: [u8; 16], reply: &[u8]) -> [u8; 10]
     [
         reply[16], reply[17], reply[18], reply[19], reply[20], reply[21], b[2], b[3], b[4], b[5],
     ]
-}
-
-/// Header, data and filler of a TAM2 reply in the clear, over the first bytes of `out` (9.4.7).
-/// Ruled out: the chain started at the opened block; data that are opened in ProtMode 2.
-pub fn open_data(keys: Keys, mode: ProtMode, f: Tam2, reply: &[u8], out: &mut [u8])
-    requires { (auth_length + blocks_length f.custom.blocksize f.rev f.custom.blockcount ≤ length
-        reply.now) × (blocks_length f.custom.blocksize f.rev f.custom.blockcount ≤ length out.old) }
-    ensures { out.new ≡ over (opened_data keys mode f reply.now) out.old }
-{
-    let end = 16 + blocks_length(f.custom.blocksize, f.rev, f.custom.blockcount);
-    if encrypts(mode) {
-        let iv = field::first_block(reply);
-        modes_inverse::cbc_dec_aes_inv(iv, keys.enc, &reply[16..end], out).unwrap();
-        return;
-    }
-    out[..end - 16].copy_from_slice(&reply[16..end]);
-}
-
-/// Where the ProtMode has a MAC: is it that of the authentication block and the data as they came (9.4.7.1)?
-/// Ruled out: a MAC over the data in the clear; one that leaves the authentication block out.
-pub fn mac_fits(keys: Keys, mode: ProtMode, f: Tam2, reply: &[u8]) -> bool
-    requires { tam2_mac_at f.custom.blocksize f.rev f.custom.blockcount ≤ length reply.now }
-    ensures { result ≡ mac_fits keys.mackey mode
-        (take (tam2_mac_at f.custom.blocksize f.rev f.custom.blockcount) reply.now)
-        (drop (tam2_mac_at f.custom.blocksize f.rev f.custom.blockcount) reply.now) }
-{
-    let at = tam2_mac_at(f.custom.blocksize, f.rev, f.custom.blockcount);
-    payload::mac_fits(keys.mackey, mode, &reply[..at], &reply[at..])
 }

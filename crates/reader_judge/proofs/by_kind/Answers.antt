@@ -1,26 +1,15 @@
 -- `reader_judge::by_kind` meets its contract.
-use mathlib.Core.Path.{refl, ap, ◌∙◌}
-use Rattle.frames.specs.declared.Tam2.{Tam2}
-use Rattle.frames.specs.Fields.{custom_fits}
+use mathlib.Core.Path.{refl}
 use Rattle.reader_judge.proofs.Arms.{tam1_arm, tam2_arm, iam1_arm, empty_arm, mam1_arm}
 use Rattle.reader_judge.proofs.Arms.{none_arm}
-use Rattle.reader_judge.proofs.Clear.{tam2_in_range}
 use Rattle.reader_judge.proofs.by_kind.Goals as goal
 
 pub returns-in-Tam1 : goal.returns-in-Tam1
 returns-in-Tam1 c = tam1_arm _ _ _ _ _ _ _ c.in-Tam1.is c.tam1_of.ensures
     c.tam1.ensures
 
-pub tam2-requires : goal.tam2-requires
-tam2-requires c = (
-  ap (λ (f : Tam2). custom_fits f.custom) c.tam2_of.ensures
-      ∙ tam2_in_range c.args.message.now (λ i. (c.type_inv.message i).fits),
-  c.requires,
-)
-
 pub returns-in-Tam2 : goal.returns-in-Tam2
-returns-in-Tam2 c = tam2_arm _ _ _ _ _ _ _ _ c.in-Tam2.is
-    c.tam2_of.ensures c.tam2.ensures
+returns-in-Tam2 c = tam2_arm _ _ _ _ _ _ _ c.in-Tam2.is c.tam2.ensures
 
 pub returns-in-Iam1 : goal.returns-in-Iam1
 returns-in-Iam1 c = iam1_arm _ _ _ _ _ _ c.in-Iam1.is c.iam1.ensures
