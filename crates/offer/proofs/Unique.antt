@@ -1,6 +1,8 @@
 -- No second answer fits the contract of an exported function.
 use mathlib.Core.Path.{refl}
 use Rattle.ground.specs.OneAnswer.{OneAnswer, one}
+use Rattle.offer.proofs.U8FromTagFault.from.Reads as fault-number
+use Rattle.offer.proofs.U8FromTagFault.from.Kinds as fault-number-kinds
 use Rattle.offer.proofs.number.Reads as number
 use Rattle.offer.proofs.number.Kinds as number-kinds
 use Rattle.offer.proofs.reply_length.Reads as reply-length
@@ -23,6 +25,9 @@ use Rattle.offer.proofs.judged.lending.Reads as lending
 use Rattle.offer.proofs.judged.lending.Kinds as lending-kinds
 use Rattle.offer.proofs.judged.opening.Reads as opening
 use Rattle.offer.proofs.judged.opening.Kinds as opening-kinds
+
+pub fault_number_one : OneAnswer 0 fault-number-kinds.ps fault-number-kinds.r fault-number.Post
+fault_number_one κs a x y v w p q = (one p q, refl)
 
 pub number_one : OneAnswer 0 number-kinds.ps number-kinds.r number.Post
 number_one κs a x y v w p q = (one p q, refl)
