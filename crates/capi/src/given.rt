@@ -20,12 +20,7 @@ pub fn mac_given(mac: &[u8]) -> bool
 pub fn keys_of(enc: [u8; 16], mac: &[u8]) -> Keys
     ensures { result ≡ keys_of enc mac.now }
 {
-    let mackey = <[u8; 16]>::try_from(mac);
-    Keys {
-        enc,
-        mac: mackey.is_ok(),
-        mackey: mackey.unwrap_or([0u8; 16]),
-    }
+    reader::keys_of(enc, <[u8; 16]>::try_from(mac).ok())
 }
 
 /// The custom data that a message names. Ruled out: Profile and BlockCount exchanged; an Offset cut to a byte.

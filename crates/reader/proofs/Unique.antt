@@ -4,12 +4,22 @@ use Rattle.ground.specs.OneAnswer.{OneAnswer, one}
 use Rattle.reader.specs.declared.ReaderFault.TheVariants.{ReplyLength, ChallengeWrong, MacWrong, HeaderWrong}
 use Rattle.reader.specs.declared.ReaderFault.TheVariants.{OwnMessage}
 use Rattle.reader.specs.Numbers.{number_of}
-use Rattle.reader.proofs.U8FromReaderFault.from.Reads as number
-use Rattle.reader.proofs.U8FromReaderFault.from.Kinds as number-kinds
+use Rattle.reader.proofs.keys_of.Reads as keys-of
+use Rattle.reader.proofs.keys_of.Kinds as keys-of-kinds
+use Rattle.reader.proofs.number.Reads as number
+use Rattle.reader.proofs.number.Kinds as number-kinds
+use Rattle.reader.proofs.U8FromReaderFault.from.Reads as fault-number
+use Rattle.reader.proofs.U8FromReaderFault.from.Kinds as fault-number-kinds
 use Rattle.reader.proofs.own.mode_fits.Reads as mode_fits_lem
 use Rattle.reader.proofs.own.mode_fits.Kinds as mode-fits-kinds
 use Rattle.reader.proofs.own.own_fits.Reads as own-fits
 use Rattle.reader.proofs.own.own_fits.Kinds as own-fits-kinds
+
+pub keys_of_one : OneAnswer 0 keys-of-kinds.ps keys-of-kinds.r keys-of.Post
+keys_of_one κs a x y v w p q = (one p q, refl)
+
+pub fault_number_one : OneAnswer 0 fault-number-kinds.ps fault-number-kinds.r fault-number.Post
+fault_number_one κs a x y v w p q = (one p q, refl)
 
 pub number_one : OneAnswer 0 number-kinds.ps number-kinds.r number.Post
 number_one κs a x y v w p q = (one p q, refl)

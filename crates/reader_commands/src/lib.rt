@@ -9,7 +9,7 @@ use console::reason::{Fault, Reason};
 use console::words::Words;
 use frames::sizes::{DATA_ROOM, MESSAGE_ROOM};
 use orders::Order;
-use reader::{Keys, ReaderFault};
+use reader::{Keys, ReaderFault, keys_of};
 use reader_judge::{Accepted, Worth, judge};
 use std::io;
 
@@ -29,11 +29,7 @@ impl Reader {
         let mut fields = Fields::exactly(words, 2)?;
         let enc = fields.sixteen()?;
         let mackey = fields.sixteen_or_none()?;
-        self.keys = Some(Keys {
-            enc,
-            mac: mackey.is_some(),
-            mackey: mackey.unwrap_or([0; 16]),
-        });
+        self.keys = Some(keys_of(enc, mackey));
         println!(rt; "ok")?;
         Ok(())
     }

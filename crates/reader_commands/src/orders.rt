@@ -274,9 +274,5 @@ fn custom(blocksize: u16, place: Place) -> Result<Custom, ReaderFault> {
 
 // BlockSize 0 asks for 64-bit blocks, 1 for 16-bit blocks.
 fn size(blocksize: u16) -> Result<BlockSize, ReaderFault> {
-    match blocksize {
-        0 => Ok(BlockSize::Bits64),
-        1 => Ok(BlockSize::Bits16),
-        _ => Err(ReaderFault::OwnMessage),
-    }
+    Ok(BlockSize::from(u8::from(bit(blocksize)?)))
 }
