@@ -1,11 +1,11 @@
 -- One record judged: what the calls on the way give.
-use Rattle.std.specs.Prelude.{Result, Ok, Err}
+use Rattle.std.specs.Prelude.{Some, None, Result, Ok, Err, slice_get}
 use mathlib.Core.Path.{◌≡◌, refl, sym, ◌∙◌}
 use mathlib.Core.Bool.{false}
 use mathlib.Core.List.{List, [], ◌∷◌}
 use Prim.Native.Nat.{ℕ, suc, ◌+◌, ◌-◌, ◌≤◌, ◌<◌}
 use native.Mathlib.Omega.{arith}
-use lib.ListN.{length, get_or, take, drop, length-take, length-drop}
+use lib.ListN.{length, take, drop, length-take, length-drop}
 use borrow.Author.Tests.{leb-false}
 use Rattle.sheet.specs.Limits.{profile_limit, lock_limit}
 use Rattle.sheet.specs.Kinds.{body_length}
@@ -44,26 +44,28 @@ rule_broken ProfileRecord b k h = rw h
 rule_broken LockRecord b k h = rw h
 rule_broken EndRecord b k h = let z : ◌≡◌ {A = ℕ} 0 1 = cc in absurd (omega arith)
 
-pub judged_none : (limit : ℕ) (r : List ℕ) (k : Gathered) → length r ≡ 0 → refused Cut k ≡ judged_of limit r k
+pub judged_none : (limit : ℕ) (r : List ℕ) (k : Gathered) → slice_get r 0 ≡ None → refused Cut k ≡ judged_of limit r k
 unfolding judged_of
 judged_none limit [] k e = refl
-judged_none limit (b ∷ t) k e = absurd (omega arith)
+judged_none limit (b ∷ t) k e = cc
 
-pub judged_shut : (limit : ℕ) (r : List ℕ) (k : Gathered) (o : Result Kind SheetFault) (f : SheetFault)
-    → (length r ≡ 0 → ⊥) → o ≡ opened_of limit (get_or r 0 0) (length r - 1) k → o ≡ Err f
+-- b is the kind byte
+pub judged_shut : (limit : ℕ) (r : List ℕ) (k : Gathered) (b : ℕ) (o : Result Kind SheetFault) (f : SheetFault)
+    → slice_get r 0 ≡ Some b → o ≡ opened_of limit b (length r - 1) k → o ≡ Err f
     → refused f k ≡ judged_of limit r k
 unfolding judged_of
-judged_shut limit [] k o f n e h = absurd (n refl)
-judged_shut limit (b ∷ t) k o f n e h =
+judged_shut limit [] k b o f some e h = cc
+judged_shut limit (a ∷ t) k b o f some e h =
+    let same : b ≡ a = cc in
     let l : suc (length t) - 1 ≡ length t = omega arith in
-    rw (sym (rw l at e) ∙ h)
+    rw (sym (rw (l, same) at e) ∙ h)
 
 -- q and n are the kind and the body's length
-module _ (limit : ℕ) (r : List ℕ) (k : Gathered) (o : Result Kind SheetFault) (q : Kind) (n : ℕ)
-    (some : length r ≡ 0 → ⊥) (eo : o ≡ opened_of limit (get_or r 0 0) (length r - 1) k) (eop : o ≡ Ok q)
+module _ (limit : ℕ) (r : List ℕ) (k : Gathered) (b : ℕ) (o : Result Kind SheetFault) (q : Kind) (n : ℕ)
+    (some : slice_get r 0 ≡ Some b) (eo : o ≡ opened_of limit b (length r - 1) k) (eop : o ≡ Ok q)
     (en : n ≡ body_length q) where
-  opened : Passed limit (get_or r 0 0) (length r - 1) k q
-  opened = passed limit (get_or r 0 0) (length r - 1) k q (sym eo ∙ eop)
+  opened : Passed limit b (length r - 1) k q
+  opened = passed limit b (length r - 1) k q (sym eo ∙ eop)
 
   pub body_fits : n ≤ length r - 1
   body_fits = rw en opened.whole
@@ -74,12 +76,18 @@ module _ (limit : ℕ) (r : List ℕ) (k : Gathered) (o : Result Kind SheetFault
   pub body_long : length (take (1 + n - 1) (drop 1 r)) ≡ body_length q
   body_long = simp (length-take, length-drop) (omega (arith, body_fits, en))
 
-pub judged_open : (limit : ℕ) (r : List ℕ) (k : Gathered) (o : Result Kind SheetFault) (q : Kind) (n : ℕ) (j : Judged)
-    → (length r ≡ 0 → ⊥) → o ≡ opened_of limit (get_or r 0 0) (length r - 1) k → o ≡ Ok q
+-- where a kind byte stands there are bytes
+pub some_there : (r : List ℕ) (b : ℕ) → slice_get r 0 ≡ Some b → 0 < length r
+some_there [] b e = cc
+some_there (a ∷ t) b e = omega arith
+
+pub judged_open : (limit : ℕ) (r : List ℕ) (k : Gathered) (b : ℕ) (o : Result Kind SheetFault) (q : Kind) (n : ℕ)
+    (j : Judged) → slice_get r 0 ≡ Some b → o ≡ opened_of limit b (length r - 1) k → o ≡ Ok q
     → n ≡ body_length q → j ≡ record_of q (take (1 + n - 1) (drop 1 r)) k → j ≡ judged_of limit r k
 unfolding judged_of
-judged_open limit [] k o q n j some eo eop en ej = absurd (some refl)
-judged_open limit (b ∷ t) k o q n j some eo eop en ej =
+judged_open limit [] k b o q n j some eo eop en ej = cc
+judged_open limit (a ∷ t) k b o q n j some eo eop en ej =
+    let same : b ≡ a = cc in
     let l : suc (length t) - 1 ≡ length t = omega arith in
     let m : 1 + n - 1 ≡ n = omega arith in
-    rw (sym (rw l at eo) ∙ eop, ← en) (rw m at ej)
+    rw (sym (rw (l, same) at eo) ∙ eop, ← en) (rw m at ej)

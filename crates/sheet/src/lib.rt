@@ -96,7 +96,8 @@ pub struct Sizes {
     pub user: u16,
 }
 
-// Record 03: KeyID, whether there is a MAC key, MPI, ENC_key, MAC_key.
+// Record 03: KeyID, whether there is a MAC key, MPI, ENC_key, MAC_key. `mackey` is no Option: `key_of` gives the bytes of
+// a record that has no MAC key too, and `KeyFine` asks that they are zeros.
 #[derive(Clone, Copy)]
 pub struct Key {
     pub id: u8,
@@ -106,7 +107,8 @@ pub struct Key {
     pub mackey: [u8; 16],
 }
 
-// Record 04, at the place of its number.
+// Record 04, at the place of its number. It is no Option: `image::terms` (its `slot_in`), `offer::slot` and
+// `offer::words_asked` promise the profile of a slot that isn't present too.
 #[derive(Clone, Copy)]
 pub struct Slot {
     pub present: bool,
@@ -235,10 +237,10 @@ pub fn judge(rest: &[u8], gathered: Gathered) -> Judged
     ensures value { result ≡ judged_of key_limit rest.now gathered }
     ensures finding_value { finding_number result.finding ≡ judged_number key_limit rest.now gathered }
 {
-    if rest.len() == 0 {
+    let Some(first) = rest.first() else {
         return records::refused(SheetFault::Cut, gathered);
-    }
-    match kinds::opening(rest[0], rest.len() - 1, gathered) {
+    };
+    match kinds::opening(*first, rest.len() - 1, gathered) {
         Err(fault) => records::refused(fault, gathered),
         Ok(q) => {
             let e = 1 + kinds::body_length(q);
