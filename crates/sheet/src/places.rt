@@ -29,12 +29,9 @@ pub fn read_from(s: &[u8], from: usize, before: Gathered) -> Result<Reading, She
     let mut gathered = before;
     while at < s.len() {
         let j = judge_at(s, at, gathered);
-        let found = match j.finding {
+        match j.finding {
             Err(fault) => return Err(SheetRefusal { fault, at }),
-            Ok(found) => found,
-        };
-        match found {
-            Finding::Ended => {
+            Ok(Finding::Ended) => {
                 if at + 1 < s.len() {
                     return Err(SheetRefusal {
                         fault: SheetFault::Tail,
@@ -46,7 +43,8 @@ pub fn read_from(s: &[u8], from: usize, before: Gathered) -> Result<Reading, She
                     keys: j.gathered.marks.keys,
                 });
             }
-            Finding::Taken(n) => {
+            Ok(Finding::Taken(n)) => {
+                // `at` goes on by what the record takes
                 at += n;
                 gathered = j.gathered;
             }

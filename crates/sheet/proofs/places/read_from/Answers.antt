@@ -21,37 +21,37 @@ pub returns-then-at-s : goal.returns-then-at-s
 returns-then-at-s c = let l = c.loop-at in
     let t = le_of_lt c.loop-at-test.true in
     let j = c.judge_at-j.ensures.0 in
-    let e = c.in-Ok.is ∙ ap Ok c.in-Ended.is in
+    let e = c.in-Ok-Ended.is ∙ ap Ok (rw c.in-Ok-Ended.is at c.in-Ok-Ended.field-0-is) in
     let h = read_tail key_limit c.args.s.now l.at l.gathered _ t j e c.if-at-s.true in
     read_as _ _ (sym h ∙ l.invariant)
 
-pub returns-in-Ended : goal.returns-in-Ended
-returns-in-Ended c = let l = c.loop-at in
+pub returns-in-Ok-Ended : goal.returns-in-Ok-Ended
+returns-in-Ok-Ended c = let l = c.loop-at in
     let t = le_of_lt c.loop-at-test.true in
     let j = c.judge_at-j.ensures.0 in
-    let e = c.in-Ok.is ∙ ap Ok c.in-Ended.is in
+    let e = c.in-Ok-Ended.is ∙ ap Ok (rw c.in-Ok-Ended.is at c.in-Ok-Ended.field-0-is) in
     let h = read_whole key_limit c.args.s.now l.at l.gathered _ t j e c.if-at-s.false in
     read_as _ _ (sym h ∙ l.invariant)
 
-pub overflow_add-at-in-Taken : goal.overflow_add-at-in-Taken
-overflow_add-at-in-Taken c = let l = c.loop-at in
+pub overflow_add-at-in-Ok-Taken : goal.overflow_add-at-in-Ok-Taken
+overflow_add-at-in-Ok-Taken c = let l = c.loop-at in
     let t = le_of_lt c.loop-at-test.true in
     let j = c.judge_at-j.ensures.0 in
-    let h = read_taken key_limit c.args.s.now l.at l.gathered _ t j _ (c.in-Ok.is ∙ ap Ok c.in-Taken.is) in
+    let h = read_taken key_limit c.args.s.now l.at l.gathered _ t j _ (c.in-Ok-Taken.is ∙ ap Ok (rw c.in-Ok-Taken.is at c.in-Ok-Taken.field-0-is)) in
     omega arith
 
 pub loop-at-smaller : goal.loop-at-smaller
 loop-at-smaller c = let l = c.loop-at in
     let t = le_of_lt c.loop-at-test.true in
     let j = c.judge_at-j.ensures.0 in
-    let h = read_taken key_limit c.args.s.now l.at l.gathered _ t j _ (c.in-Ok.is ∙ ap Ok c.in-Taken.is) in
+    let h = read_taken key_limit c.args.s.now l.at l.gathered _ t j _ (c.in-Ok-Taken.is ∙ ap Ok (rw c.in-Ok-Taken.is at c.in-Ok-Taken.field-0-is)) in
     omega arith
 
 pub loop-at-preserved : goal.loop-at-preserved
 loop-at-preserved c = let l = c.loop-at in
     let t = le_of_lt c.loop-at-test.true in
     let j = c.judge_at-j.ensures.0 in
-    let h = read_taken key_limit c.args.s.now l.at l.gathered _ t j _ (c.in-Ok.is ∙ ap Ok c.in-Taken.is) in
+    let h = read_taken key_limit c.args.s.now l.at l.gathered _ t j _ (c.in-Ok-Taken.is ∙ ap Ok (rw c.in-Ok-Taken.is at c.in-Ok-Taken.field-0-is)) in
     sym h.2 ∙ l.invariant
 
 pub returns : goal.returns
