@@ -88,10 +88,10 @@ pub fn roualint_build_iam2(
         (iam2_made (keys_of enc.now mac.now) purpose irnd.now tchallenge.now)
         room.old result told.new room.new }
 {
-    if !given::mac_given(mac) {
-        return given::told_of(Err(ReaderFault::OwnMessage), told);
-    }
-    let keys = given::keys_of(*enc, mac);
+    let keys = match given::keys_given(*enc, mac) {
+        Ok(keys) => keys,
+        Err(fault) => return given::told_of(Err(fault), told),
+    };
     let made = reader_build::iam2(keys, purpose, *irnd, *tchallenge, room);
     given::told_of(made, told)
 }
@@ -165,10 +165,10 @@ pub fn roualint_build_mam2(
         (mam2_made (keys_of enc.now mac.now) purpose ichallenge.now
         tchallenge.now) room.old result told.new room.new }
 {
-    if !given::mac_given(mac) {
-        return given::told_of(Err(ReaderFault::OwnMessage), told);
-    }
-    let keys = given::keys_of(*enc, mac);
+    let keys = match given::keys_given(*enc, mac) {
+        Ok(keys) => keys,
+        Err(fault) => return given::told_of(Err(fault), told),
+    };
     let made = reader_build::mam2(keys, purpose, *ichallenge, *tchallenge, room);
     given::told_of(made, told)
 }

@@ -1,5 +1,6 @@
 // Keys and fields as a caller in another language gives them, and what the reader's side answers as numbers.
-ghost use Rattle.std.specs.Prelude.{◌≡◌};
+ghost use Rattle.std.specs.Prelude.{◌≡◌, Ok, Err};
+ghost use Rattle.ground.specs.Choice.{pick};
 ghost use Rattle.reader_build.specs.Makes.{made_number};
 ghost use Rattle.capi.specs.Reader.{mac_given, keys_of, size_given, bits_given, custom_of, made_length, worth_number};
 
@@ -21,6 +22,18 @@ pub fn keys_of(enc: [u8; 16], mac: &[u8]) -> Keys
     ensures { result ≡ keys_of enc mac.now }
 {
     reader::keys_of(enc, <[u8; 16]>::try_from(mac).ok())
+}
+
+/// The reader's keys; number 24 where what is given is no MAC key. Ruled out: a MAC key of fifteen bytes taken; none
+/// refused.
+pub fn keys_given(enc: [u8; 16], mac: &[u8]) -> Result<Keys, ReaderFault>
+    ensures { result ≡ pick (mac_given mac.now) (Ok (keys_of enc mac.now)) (Err ReaderFault.OwnMessage) }
+{
+    if mac_given(mac) {
+        Ok(keys_of(enc, mac))
+    } else {
+        Err(ReaderFault::OwnMessage)
+    }
 }
 
 /// The custom data that a message names. Ruled out: Profile and BlockCount exchanged; an Offset cut to a byte.

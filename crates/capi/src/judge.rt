@@ -18,10 +18,7 @@ fn judged(
     ensures { Judges (finding_of enc mac.now message.now reply.now (length room.old)) room.old result
         room.new }
 {
-    if !given::mac_given(mac) {
-        return Err(ReaderFault::OwnMessage);
-    }
-    reader_judge::judge(given::keys_of(enc, mac), message, reply, room)
+    reader_judge::judge(given::keys_given(enc, mac)?, message, reply, room)
 }
 
 /// The judgement of a reply to the reader's own message: 0, or 20 to 24. The data of a TAM2 stand in the room's first

@@ -8,7 +8,8 @@ use frames::Custom;
 use memory::{BlockSize, Offset};
 use reader::{Keys, ReaderFault};
 
-/// A message to build. Of its fields numbers are of any size, and bytes are there where they are as many as they must be.
+/// A message to build. Of its fields numbers are of any size, and bytes are there where they are as many as they must
+/// be.
 #[derive(Clone, Copy)]
 pub enum Order {
     Open(Open),
