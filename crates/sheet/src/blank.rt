@@ -23,22 +23,8 @@ pub(crate) fn empty() -> Terms
         words: 0,
     };
     Terms {
-        features: Features {
-            blocksize1: false,
-            rev0: false,
-            rev1: false,
-            iam: false,
-            iam3: false,
-            mam: false,
-            mode0: false,
-            mode1: false,
-            mode2: false,
-            mode3: false,
-        },
-        sizes: Sizes {
-            identity: 0,
-            user: 0,
-        },
+        features: Features::default(),
+        sizes: Sizes::default(),
         profiles: [s; PROFILE_LIMIT],
         locks: Locks {
             count: 0,

@@ -75,7 +75,7 @@ pub enum Kind {
 }
 
 // Record 01: BlockSize 1, Rev 0, Rev 1, IAM1 and IAM2, IAM3, MAM, and the ProtModes.
-#[derive(Clone, Copy)]
+#[derive(Clone, Copy, Default)]
 pub struct Features {
     pub blocksize1: bool,
     pub rev0: bool,
@@ -90,7 +90,7 @@ pub struct Features {
 }
 
 // Record 02: the words of the two areas.
-#[derive(Clone, Copy)]
+#[derive(Clone, Copy, Default)]
 pub struct Sizes {
     pub identity: u16,
     pub user: u16,
@@ -135,7 +135,7 @@ pub struct Terms {
 // What the next record is held against: the kind byte of the record before (0 where there is none; kinds and areas are
 // numbers here, since the rules compare them), how many keys and how many profiles there are, the least KeyID and the
 // least profile number that may come, and the area and the end of the lock before (0 where there is none).
-#[derive(Clone, Copy)]
+#[derive(Clone, Copy, Default)]
 pub struct Marks {
     pub last: u8,
     pub keys: usize,
@@ -216,15 +216,7 @@ pub fn start() -> Gathered
     ensures { result ≡ nothing_gathered }
 {
     Gathered {
-        marks: Marks {
-            last: 0,
-            keys: 0,
-            profiles: 0,
-            id: 0,
-            number: 0,
-            area: 0,
-            word: 0,
-        },
+        marks: Marks::default(),
         terms: blank::empty(),
     }
 }
