@@ -1,5 +1,9 @@
 // The fields of a line, each taken as what it stands for. A line is refused for the number of its words, and then for
 // the first field from the left that can't be read.
+ghost use Rattle.std.specs.Prelude.{ℕ, ◌≡◌, ◌≤◌, length};
+ghost use Rattle.console.specs.Reasons.{room_read};
+ghost use Rattle.console.specs.Counts.{counted, fields_of};
+
 use crate::bytes::{Bytes, FIELD_LIMIT};
 use crate::reason::Reason;
 use crate::words::Words;
@@ -11,13 +15,21 @@ pub struct Fields<'a> {
 }
 
 impl<'a> Fields<'a> {
-    /// The fields behind the words that were taken, of which there must be so many.
-    pub fn exactly(words: Words<'a>, count: usize) -> Result<Fields<'a>, Reason> {
+    /// The fields behind the words that were taken, of which there must be so many. Ruled out: a word missing told as one
+    /// too many; the fields from the second on.
+    pub fn exactly(words: Words<'a>, count: usize) -> Result<Fields<'a>, Reason>
+        ensures { (n : ℕ) × (n ≤ length words.entry.rest.now)
+            × (result ≡ counted n count count (fields_of words.entry)) }
+    {
         Fields::between(words, count, count)
     }
 
-    /// The same, at least and at most so many.
-    pub fn between(words: Words<'a>, least: usize, most: usize) -> Result<Fields<'a>, Reason> {
+    /// The same, at least and at most so many. Ruled out: a word missing where none is asked for; one too many where the
+    /// line has fewer characters.
+    pub fn between(words: Words<'a>, least: usize, most: usize) -> Result<Fields<'a>, Reason>
+        ensures { (n : ℕ) × (n ≤ length words.entry.rest.now)
+            × (result ≡ counted n least most (fields_of words.entry)) }
+    {
         let count = words.count();
         if count < least {
             return Err(Reason::WordMissing);
@@ -79,8 +91,11 @@ fn sixteen(field: &[u8]) -> Result<[u8; 16], Reason> {
     array(field)?.ok_or(Reason::NotSixteen)
 }
 
-/// The length of a room that a field asks for.
-pub fn room(field: &[u8]) -> Result<usize, Reason> {
+/// The length of a room that a field asks for. Ruled out: a room over 4096; a room refused as too long where the field
+/// is no number.
+pub fn room(field: &[u8]) -> Result<usize, Reason>
+    ensures { result ≡ room_read field.now }
+{
     let length = usize::from(text::read_decimal(field)?);
     if FIELD_LIMIT < length {
         return Err(Reason::RoomOver);

@@ -1,4 +1,8 @@
 // What a line is refused for.
+ghost use Rattle.std.specs.Prelude.{◌≡◌};
+ghost use Rattle.console.specs.Reasons.{decimal_reason, hex_reason};
+ghost use Rattle.console.specs.declared.reason.Fault.TheVariants.{Refused, Unwritten};
+
 use std::{fmt, io};
 use text::{DecimalFault, HexFault};
 
@@ -50,7 +54,10 @@ impl fmt::Display for Reason {
     }
 }
 
+/// What is said of a word that is not read as a number. Ruled out: the two exchanged; one for both.
 impl From<DecimalFault> for Reason {
+    ghost from_gives = { λ fault reason. reason ≡ decimal_reason fault };
+
     fn from(fault: DecimalFault) -> Reason {
         match fault {
             DecimalFault::NotNumber => Reason::NotNumber,
@@ -59,7 +66,10 @@ impl From<DecimalFault> for Reason {
     }
 }
 
+/// What is said of a word that is not read as bytes. Ruled out: an odd number of digits told as no hex; two exchanged.
 impl From<HexFault> for Reason {
+    ghost from_gives = { λ fault reason. reason ≡ hex_reason fault };
+
     fn from(fault: HexFault) -> Reason {
         match fault {
             HexFault::NotHex => Reason::NotHex,
@@ -76,13 +86,19 @@ pub enum Fault {
     Unwritten(io::Error),
 }
 
+/// A line that is refused. Ruled out: another reason than the line's; an answer that can't be written.
 impl From<Reason> for Fault {
+    ghost from_gives = { λ reason fault. fault ≡ Refused reason };
+
     fn from(reason: Reason) -> Fault {
         Fault::Refused(reason)
     }
 }
 
+/// An answer that can't be written. Ruled out: another error than the writer's; a line that is refused.
 impl From<io::Error> for Fault {
+    ghost from_gives = { λ error fault. fault ≡ Unwritten error };
+
     fn from(error: io::Error) -> Fault {
         Fault::Unwritten(error)
     }

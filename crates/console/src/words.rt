@@ -1,6 +1,7 @@
 // The words of a line.
-ghost use Rattle.std.specs.Prelude.{length};
+ghost use Rattle.std.specs.Prelude.{◌≡◌, ◌==◌, length};
 ghost use Rattle.std.specs.Iterator.{at_most};
+ghost use Rattle.std.specs.List.{before_first};
 
 fn is_blank(b: u8) -> bool {
     matches!(b, b' ' | b'\t' | b'\r')
@@ -13,8 +14,10 @@ pub struct Words<'a> {
 }
 
 impl<'a> Words<'a> {
-    /// The words of a line up to its comment.
-    pub fn of(line: &'a [u8]) -> Words<'a> {
+    /// The words of a line up to its comment. Ruled out: the words of the comment; those behind the first alone.
+    pub fn of(line: &'a [u8]) -> Words<'a>
+        ensures { result.rest.now ≡ before_first (λ c. c == 35) line.now }
+    {
         let end = line.iter().position(|b| *b == b'#').unwrap_or(line.len());
         Words { rest: &line[..end] }
     }

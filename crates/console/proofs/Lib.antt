@@ -1,0 +1,2 @@
+-- What holds of words, for the answers.
+pub mod Lines

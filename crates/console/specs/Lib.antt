@@ -1,0 +1,3 @@
+-- What the contracts of console cite.
+pub mod Reasons
+pub mod Counts

@@ -1,0 +1,26 @@
+-- What a line is refused for where a word of it is not read.
+use Rattle.std.specs.Prelude.{ℕ, List, ltb, if◌then◌else◌, Result, Ok, Err}
+use Rattle.text.specs.declared.DecimalFault.TheVariants.{NotNumber, Over}
+use Rattle.text.specs.declared.DecimalFault.{DecimalFault}
+use Rattle.text.specs.declared.HexFault.TheVariants as hex
+use Rattle.text.specs.declared.HexFault.{HexFault}
+use Rattle.text.specs.Decimal.{decimal_read}
+use Rattle.console.specs.declared.reason.Reason.TheVariants as says
+use Rattle.console.specs.declared.reason.Reason.{Reason}
+
+abbrev pub decimal_reason : DecimalFault → Reason
+decimal_reason NotNumber = says.NotNumber
+decimal_reason Over = says.NumberOver
+
+abbrev pub hex_reason : HexFault → Reason
+hex_reason hex.NotHex = says.NotHex
+hex_reason hex.Odd = says.OddDigits
+hex_reason hex.Over = says.BytesOver
+
+-- The length of a room: a number up to 4096.
+abbrev pub room_of : Result ℕ DecimalFault → Result ℕ Reason
+room_of (Ok n) = if ltb 4096 n then Err says.RoomOver else Ok n
+room_of (Err f) = Err (decimal_reason f)
+
+abbrev pub room_read : List ℕ → Result ℕ Reason
+room_read w = room_of (decimal_read w)
