@@ -15,8 +15,8 @@ pub struct Fields<'a> {
 }
 
 impl<'a> Fields<'a> {
-    /// The fields behind the words that were taken, of which there must be so many. Ruled out: a word missing told as one
-    /// too many; the fields from the second on.
+    /// The fields behind the words that were taken, of which there must be so many. Ruled out: a word missing told as
+    /// one too many; the fields from the second on.
     pub fn exactly(words: Words<'a>, count: usize) -> Result<Fields<'a>, Reason>
         ensures { (n : ℕ) × (n ≤ length words.entry.rest.now)
             × (result ≡ counted n count count (fields_of words.entry)) }
@@ -24,8 +24,8 @@ impl<'a> Fields<'a> {
         Fields::between(words, count, count)
     }
 
-    /// The same, at least and at most so many. Ruled out: a word missing where none is asked for; one too many where the
-    /// line has fewer characters.
+    /// The same, at least and at most so many. Ruled out: a word missing where none is asked for; one too many where
+    /// the line has fewer characters.
     pub fn between(words: Words<'a>, least: usize, most: usize) -> Result<Fields<'a>, Reason>
         ensures { (n : ℕ) × (n ≤ length words.entry.rest.now)
             × (result ≡ counted n least most (fields_of words.entry)) }
