@@ -1,13 +1,14 @@
 -- Demand 1, proved: by the cases of each list.
 use Rattle.sheet.specs.declared.SheetRefusal.{SheetRefusal}
-use Rattle.std.specs.Prelude.{Result, Ok, Err}
+use Rattle.std.specs.Prelude.{leb, Result, Ok, Err}
 use mathlib.Core.Path.{◌≡◌, refl, sym, ap, ◌∙◌}
 use mathlib.Core.Logic.{inl, inr}
 use mathlib.Core.Bool.{Bool, true, false}
 use mathlib.Core.List.{List, [], ◌∷◌, ◌++◌}
 use Prim.Native.Nat.{ℕ}
 use lib.ListN.{length, drop}
-use Rattle.ground.specs.Choice.{pick}
+use Rattle.ground.specs.Choice.{pick, both}
+use Rattle.frames.proofs.Joins.{unbuilt}
 use Rattle.modes.specs.Room.{over}
 use Rattle.sheet.specs.declared.SheetFault.{SheetFault}
 use Rattle.sheet.specs.declared.SheetFault.TheVariants.{Cut, Unknown, Order, Value, Many, Tail}
@@ -142,4 +143,5 @@ chain_answers false out before r after h = inr (h.number, h.leaves)
 
 pub layer_answers : LayerAnswers
 layer_answers fit n message before r after h e = h.holds
-    ∙ ap (λ (t : Bool). pick t (message ++ drop n before) before) (sym h.says ∙ e)
+    ∙ ap (λ (t : Bool). pick t (message ++ drop n before) before)
+    (unbuilt (both fit (leb n (length before))) n (sym e ∙ h.says))

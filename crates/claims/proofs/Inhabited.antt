@@ -1,6 +1,6 @@
 -- No premise is hollow: the theorems of demand 1, applied to something of which they hold. (Demand 2's examples are in
 -- ShutOutExamples and Entered, demand 3's in the crate `silence`.)
-use Rattle.std.specs.Prelude.{Err}
+use Rattle.std.specs.Prelude.{None, Err}
 use Rattle.modes.specs.declared.ChainingFault.TheVariants.{BlocksOrRoom}
 use mathlib.Core.Path.{◌≡◌, refl, ap}
 use mathlib.Core.Logic.{◌⊎◌}
@@ -60,4 +60,4 @@ pub chain_refused : (room.number_of (Err BlocksOrRoom) ≡ 0)
 chain_refused = chain_answers false [] [] (Err BlocksOrRoom) [] (record { says = refl; number = refl; leaves = refl })
 
 pub layer_refused : ◌≡◌ {A = List ℕ} [] []
-layer_refused = layer_answers false 0 [] [] false [] (record { says = refl; holds = refl }) refl
+layer_refused = layer_answers false 0 [] [] None [] (record { says = refl; holds = refl }) refl

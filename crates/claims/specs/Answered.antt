@@ -1,7 +1,8 @@
 -- Demand 1: every call is answered. That each function takes any input and ends is its own proof, since no contract has
 -- a `requires`. Here: each number given is one of the list for that function, and a refusal sends nothing, writes no
 -- memory word, and leaves the tag in the state that the list names.
-use Rattle.std.specs.Prelude.{◌≡◌, ◌⊎◌, Bool, true, false, List, [], ◌∷◌, ℕ, eqb, length, replicate, Result, Err}
+use Rattle.std.specs.Prelude.{◌≡◌, ◌⊎◌, Bool, true, false, List, [], ◌∷◌, ℕ, eqb, length, replicate}
+use Rattle.std.specs.Prelude.{Option, None, Result, Err}
 use Rattle.modes.specs.declared.ChainingFault.{ChainingFault}
 use Rattle.ground.specs.Choice.{either}
 use Rattle.modes.specs.Room as room
@@ -118,10 +119,10 @@ ChainAnswers =
     → room.Into taken out before r after
     → (room.number_of r ≡ 0) ⊎ ((room.number_of r ≡ 8) × (after ≡ before))
 
--- What lays a message, a header or data into a room gives no number: where it says false, the room is as it was.
+-- What lays a message, a header or data into a room gives no number: where it says None, the room is as it was.
 abbrev pub LayerAnswers : Type 0
 LayerAnswers =
-    (fit : Bool) (n : ℕ) (message before : List ℕ) (r : Bool) (after : List ℕ)
+    (fit : Bool) (n : ℕ) (message before : List ℕ) (r : Option ℕ) (after : List ℕ)
     → Built fit n message before r after
-    → r ≡ false
+    → r ≡ None
     → after ≡ before

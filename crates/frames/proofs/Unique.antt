@@ -1,5 +1,6 @@
 -- No second answer fits the contract of an exported function: for a function that answers a value, the value; for a
 -- builder, its answer and what the room holds afterwards.
+use Rattle.std.specs.Prelude.{Option}
 use mathlib.Core.Path.{◌≡◌, refl}
 use mathlib.Core.Bool.{Bool}
 use mathlib.Core.List.{List}
@@ -83,7 +84,7 @@ use Rattle.frames.proofs.build.header_into.Kinds as header-into-kinds
 use Rattle.frames.proofs.parts.join.Reads as join
 use Rattle.frames.proofs.parts.join.Kinds as join-kinds
 
-one_built : (fit : Bool) (n : ℕ) (m room : List ℕ) (x y : Bool) (s t : List ℕ) → Built fit n m room x s
+one_built : (fit : Bool) (n : ℕ) (m room : List ℕ) (x y : Option ℕ) (s t : List ℕ) → Built fit n m room x s
     → Built fit n m room y t
     → (x ≡ y) × (s ≡ t)
 one_built fit n m room x y s t p q = (one p.says q.says, one p.holds q.holds)

@@ -1,5 +1,5 @@
 // Each message, and the header, into the first bytes of a lent room. Where the room is too short, RFU is not zero or a
-// field does not fit its bits, the answer is false and no byte of the room changes.
+// field does not fit its bits, the answer is None and no byte of the room changes; else it is how many were built.
 ghost use Rattle.std.specs.Prelude.{◌≡◌, true, ◌++◌, ◌+◌, ◌*◌, ◌<◌, length};
 ghost use Rattle.ground.specs.Bytes.{bit_of};
 ghost use Rattle.frames.specs.Blocks.{header_length};
@@ -62,7 +62,12 @@ fn select(custom: Custom, protmode: u8) -> [u8; 3]
 }
 
 // A message that has a challenge after its first two bytes.
-fn with_challenge(room: &mut [u8], head: [u8; 2], ichallenge: [u8; 10], rest: &[u8]) -> bool
+fn with_challenge(
+    room: &mut [u8],
+    head: [u8; 2],
+    ichallenge: [u8; 10],
+    rest: &[u8],
+) -> Option<usize>
     ensures { Built true (12 + length rest.now) (head ++ (ichallenge ++ rest.now))
         room.old result room.new }
 {
@@ -70,7 +75,7 @@ fn with_challenge(room: &mut [u8], head: [u8; 2], ichallenge: [u8; 10], rest: &[
 }
 
 // Two parts, one after the other.
-fn pair(room: &mut [u8], a: &[u8], b: &[u8]) -> bool
+fn pair(room: &mut [u8], a: &[u8], b: &[u8]) -> Option<usize>
     ensures { Built true (length a.now + length b.now) (a.now ++ b.now)
         room.old result room.new }
 {
@@ -78,7 +83,7 @@ fn pair(room: &mut [u8], a: &[u8], b: &[u8]) -> bool
 }
 
 // A message that ends with a block of IResponse.
-fn with_response(room: &mut [u8], head: &[u8], iresponse: [u8; 16]) -> bool
+fn with_response(room: &mut [u8], head: &[u8], iresponse: [u8; 16]) -> Option<usize>
     ensures { Built true (length head.now + 16) (head.now ++ iresponse) room.old result
         room.new }
 {
@@ -109,23 +114,23 @@ fn header_start(custom: Custom) -> [u8; 3]
 
 // Table 4. Ruled out: a KeyID behind the challenge, and a byte of the room changed where it is too short.
 #[tactic(auto, unfolding(crate::specs::Messages::tam1_message))]
-pub fn tam1_into(f: Tam1, room: &mut [u8]) -> bool
+pub fn tam1_into(f: Tam1, room: &mut [u8]) -> Option<usize>
     ensures { Built (rfu_fits f.rfu) tam1_length (tam1_message f) room.old result room.new }
 {
     if f.rfu != 0 {
-        return false;
+        return None;
     }
     let none = [0u8; 0];
     with_challenge(room, [0x00, f.keyid], f.ichallenge, &none)
 }
 
 // Table 6. Ruled out: BlockSize 1 for 64-bit blocks, and an Offset of 4096 cut to 12 bits.
-pub fn tam2_into(f: Tam2, room: &mut [u8]) -> bool
+pub fn tam2_into(f: Tam2, room: &mut [u8]) -> Option<usize>
     ensures { Built (select_fits f.rfu f.custom f.protmode) tam2_length (tam2_message f)
         room.old result room.new }
 {
     if !select_fits(f.rfu, f.custom, f.protmode) {
-        return false;
+        return None;
     }
     let first = tam2_first(f.custom.blocksize, f.rev);
     let rest = select(f.custom, f.protmode);
@@ -134,11 +139,11 @@ pub fn tam2_into(f: Tam2, room: &mut [u8]) -> bool
 
 // Table 15. Ruled out: RFU bits sent on, and the first byte of MAM1.
 #[tactic(auto, unfolding(crate::specs::Messages::iam1_message))]
-pub fn iam1_into(f: Iam1, room: &mut [u8]) -> bool
+pub fn iam1_into(f: Iam1, room: &mut [u8]) -> Option<usize>
     ensures { Built (rfu_fits f.rfu) iam1_length (iam1_message f) room.old result room.new }
 {
     if f.rfu != 0 {
-        return false;
+        return None;
     }
     let first = [0x40];
     let second = [f.keyid];
@@ -147,11 +152,11 @@ pub fn iam1_into(f: Iam1, room: &mut [u8]) -> bool
 
 // Table 17. Ruled out: the first byte of IAM3, and a room of 16 bytes taken.
 #[tactic(auto, unfolding(crate::specs::Messages::iam2_message))]
-pub fn iam2_into(f: Iam2, room: &mut [u8]) -> bool
+pub fn iam2_into(f: Iam2, room: &mut [u8]) -> Option<usize>
     ensures { Built (rfu_fits f.rfu) iam2_length (iam2_message f) room.old result room.new }
 {
     if f.rfu != 0 {
-        return false;
+        return None;
     }
     let head = [0x50];
     with_response(room, &head, f.iresponse)
@@ -159,12 +164,12 @@ pub fn iam2_into(f: Iam2, room: &mut [u8]) -> bool
 
 // Table 18, up to the first block of IResponse; the data blocks and the MAC are the caller's.
 // Ruled out: BlockSize in the place of CustomData, and a room filled past its first 20 bytes.
-pub fn iam3_into(f: Iam3, room: &mut [u8]) -> bool
+pub fn iam3_into(f: Iam3, room: &mut [u8]) -> Option<usize>
     ensures { Built (select_fits f.rfu f.custom f.protmode) iam3_head_length (iam3_head f)
         room.old result room.new }
 {
     if !select_fits(f.rfu, f.custom, f.protmode) {
-        return false;
+        return None;
     }
     let b = u8::from(f.custom.blocksize);
     let s = select(f.custom, f.protmode);
@@ -174,11 +179,11 @@ pub fn iam3_into(f: Iam3, room: &mut [u8]) -> bool
 
 // Table 23. Ruled out: the first byte of TAM1, and a challenge of nine bytes.
 #[tactic(auto, unfolding(crate::specs::Messages::mam1_message))]
-pub fn mam1_into(f: Mam1, room: &mut [u8]) -> bool
+pub fn mam1_into(f: Mam1, room: &mut [u8]) -> Option<usize>
     ensures { Built (rfu_fits f.rfu) mam1_length (mam1_message f) room.old result room.new }
 {
     if f.rfu != 0 {
-        return false;
+        return None;
     }
     let none = [0u8; 0];
     with_challenge(room, [0x80, f.keyid], f.ichallenge, &none)
@@ -186,23 +191,23 @@ pub fn mam1_into(f: Mam1, room: &mut [u8]) -> bool
 
 // Table 25. Ruled out: an RFU of 8 taken, and the first byte of IAM2.
 #[tactic(auto, unfolding(crate::specs::Messages::mam2_message))]
-pub fn mam2_into(f: Mam2, room: &mut [u8]) -> bool
+pub fn mam2_into(f: Mam2, room: &mut [u8]) -> Option<usize>
     ensures { Built (rfu_fits f.rfu) mam2_length (mam2_message f) room.old result room.new }
 {
     if f.rfu != 0 {
-        return false;
+        return None;
     }
     let head = [0x90];
     with_response(room, &head, f.iresponse)
 }
 
 // HEADER (9.2). Ruled out: Offset before Profile, and eight bytes for 16-bit blocks.
-pub fn header_into(custom: Custom, room: &mut [u8]) -> bool
+pub fn header_into(custom: Custom, room: &mut [u8]) -> Option<usize>
     ensures { Built (custom_fits custom) (header_length custom.blocksize) (header_of custom) room.old
         result room.new }
 {
     if !custom_fits(custom) {
-        return false;
+        return None;
     }
     let zeros = header_length(custom.blocksize) - 3;
     let start = header_start(custom);

@@ -15,23 +15,23 @@ fn put(room: &mut [u8], at: usize, src: &[u8])
 // Three parts, one after the other, into the first bytes of a room.
 // Ruled out: a part written before it is known that all fit, and bytes behind the parts cleared.
 #[tactic(auto, using(crate::proofs::Joins::joined, crate::proofs::Joins::too_short))]
-pub fn join(room: &mut [u8], a: &[u8], b: &[u8], c: &[u8]) -> bool
+pub fn join(room: &mut [u8], a: &[u8], b: &[u8], c: &[u8]) -> Option<usize>
     ensures { Built true (length a.now + length b.now + length c.now)
         (a.now ++ (b.now ++ c.now)) room.old result room.new }
 {
     if room.len() < a.len() {
-        return false;
+        return None;
     }
     if room.len() - a.len() < b.len() {
-        return false;
+        return None;
     }
     if room.len() - a.len() - b.len() < c.len() {
-        return false;
+        return None;
     }
     let i = a.len();
     let j = i + b.len();
     put(room, 0, a);
     put(room, i, b);
     put(room, j, c);
-    true
+    Some(j + c.len())
 }

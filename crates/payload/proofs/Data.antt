@@ -1,4 +1,5 @@
 -- Header, data and zeros, as they are put into a room and as they are judged.
+use Rattle.std.specs.Prelude.{Option, Some, None}
 use mathlib.Core.Path.{◌≡◌, refl, sym, ap, ap₂, ◌∙◌}
 use mathlib.Core.Bool.{Bool, true, false}
 use mathlib.Core.List.{List, [], ◌++◌}
@@ -15,7 +16,7 @@ use Rattle.frames.specs.Built.{Built}
 use Rattle.frames.specs.Fields.{custom_fits}
 use Rattle.frames.specs.Header.{header_of}
 use Rattle.frames.proofs.Bounds.{blocks_most}
-use Rattle.frames.proofs.Joins.{built_front}
+use Rattle.frames.proofs.Joins.{built_front, unbuilt, as_built}
 use Rattle.frames.proofs.Least.{d_least, header_bound}
 use Rattle.frames.proofs.Range.{custom_range}
 use Rattle.frames.proofs.Shape.{header_long}
@@ -26,43 +27,53 @@ use Rattle.payload.proofs.Zeros.{filled_long, filled_twice}
 
 -- ---- the header, in a room of eight
 
-module _ (c : Custom) (answer : Bool) (room hdr : List ℕ) (l : length room ≡ 8)
+module _ (c : Custom) (answer : Option ℕ) (room hdr : List ℕ) (l : length room ≡ 8)
     (b : Built (custom_fits c) (header_length c.blocksize) (header_of c) room answer hdr)
   where
-    -- the answer is whether the fields fit their bits
-    pub header_told : answer ≡ custom_fits c
+    -- the answer is the header's length where the fields fit their bits
+    header_told : answer ≡ pick (custom_fits c) (Some (header_length c.blocksize)) None
     header_told =
-        b.says ∙ ap (both (custom_fits c)) (le-leb (header_length c.blocksize) (length room)
-        (omega (arith, header_bound c.blocksize))) ∙ both_all (custom_fits c)
+        b.says ∙ ap (λ (x : Bool). pick {A = Option ℕ} x (Some (header_length c.blocksize)) None)
+        (ap (both (custom_fits c)) (le-leb (header_length c.blocksize) (length room)
+        (omega (arith, header_bound c.blocksize))) ∙ both_all (custom_fits c))
       where
         both_all : (x : Bool) → both x true ≡ x
         both_all true = refl
         both_all false = refl
 
-    pub header_front : answer ≡ true → take (header_length c.blocksize) hdr ≡ header_of c
-    header_front e =
-        let n = header_length c.blocksize in
-        built_front (custom_fits c) n (header_of c) room hdr (header_long c) (rw e at b)
+    pub header_unfit : answer ≡ None → custom_fits c ≡ false
+    header_unfit e = unbuilt (custom_fits c) (header_length c.blocksize) (sym e ∙ header_told)
 
-    -- what the code takes of it: the header in Rev 1, nothing in Rev 0
-    pub header_taken : (rev : Bool) → answer ≡ true
-        → take (header_part c.blocksize rev) hdr ≡ pick rev (header_of c) []
-    unfolding header_part
-    header_taken true e = header_front e
-    header_taken false e = refl
-
-    pub header_judged : (rev : Bool) (p : List ℕ) → rev ≡ true → answer ≡ true
-        → same (take (header_length c.blocksize) p) (take (header_length c.blocksize) hdr) ≡ header_fits rev c p
-    unfolding header_fits
-    header_judged rev p r e =
-        ap (same (take (header_length c.blocksize) p)) (header_front e)
-        ∙ ap₂ (λ (x y : Bool). implies x (both y (same (take (header_length c.blocksize) p) (header_of c)))) (sym r)
-        (sym e ∙ header_told)
-
-    pub header_refused : (rev : Bool) (p : List ℕ) → rev ≡ true → answer ≡ false → false ≡ header_fits rev c p
+    pub header_refused : (rev : Bool) (p : List ℕ) → rev ≡ true → answer ≡ None → false ≡ header_fits rev c p
     unfolding header_fits
     header_refused rev p r e = ap₂ (λ (x y : Bool). implies x
-        (both y (same (take (header_length c.blocksize) p) (header_of c)))) (sym r) (sym e ∙ header_told)
+        (both y (same (take (header_length c.blocksize) p) (header_of c)))) (sym r) (sym (header_unfit e))
+
+    module _ (n : ℕ) (e : answer ≡ Some n) where
+      pub header_fit : custom_fits c ≡ true
+      header_fit = (as_built (custom_fits c) (header_length c.blocksize) n (sym e ∙ header_told)).0
+
+      pub header_count : n ≡ header_length c.blocksize
+      header_count = (as_built (custom_fits c) (header_length c.blocksize) n (sym e ∙ header_told)).1
+
+      pub header_front : take (header_length c.blocksize) hdr ≡ header_of c
+      header_front =
+          built_front (custom_fits c) (header_length c.blocksize) n (header_of c) room hdr (header_long c) (rw e at b)
+
+      -- what the code takes of it: the header in Rev 1, nothing in Rev 0
+      pub header_taken : (rev : Bool) → take (header_part c.blocksize rev) hdr ≡ pick rev (header_of c) []
+      unfolding header_part
+      header_taken true = header_front
+      header_taken false = refl
+
+      pub header_judged : (rev : Bool) (p : List ℕ) → rev ≡ true
+          → same (take n p) (take n hdr) ≡ header_fits rev c p
+      unfolding header_fits
+      header_judged rev p r =
+          ap (λ (k : ℕ). same (take k p) (take k hdr)) header_count
+          ∙ ap (same (take (header_length c.blocksize) p)) header_front
+          ∙ ap₂ (λ (x y : Bool). implies x (both y (same (take (header_length c.blocksize) p) (header_of c))))
+          (sym r) (sym header_fit)
 
 -- in Rev 0 there is none to judge
 pub no_header : (rev : Bool) (c : Custom) (p : List ℕ) → rev ≡ false → true ≡ header_fits rev c p
@@ -134,7 +145,7 @@ module _ (rev : Bool) (c : Custom) (words : List ℕ) (count : length words ≡ 
         → n ≡ blocks_length c.blocksize rev c.blockcount → n ≤ length room
         → h ≡ pick rev (header_of c) [] → z ≡ filled (length (take n room)) (h ++ words)
         → Built (both (custom_fits c) (eqb (length words) (data_length c.blocksize c.blockcount)))
-        (blocks_length c.blocksize rev c.blockcount) (carried_data rev c words) room true (z ++ drop n room)
+        (blocks_length c.blocksize rev c.blockcount) (carried_data rev c words) room (Some n) (z ++ drop n room)
     unfolding carried_data
     carried_built n h room z fit e l p q =
         let m = blocks_length c.blocksize rev c.blockcount in
@@ -143,5 +154,5 @@ module _ (rev : Bool) (c : Custom) (words : List ℕ) (count : length words ≡ 
         over_built (both (custom_fits c) (eqb (length words) (data_length c.blocksize c.blockcount))) m
         (carried_data rev c words) room
         (ap₂ both fit (eq-eqb (length words) (data_length c.blocksize c.blockcount) count)) (omega (arith, e))
-        carried_long (z ++ drop n room)
+        carried_long (z ++ drop n room) n e
         (ap₂ {C = List ℕ} (λ (x : List ℕ) (i : ℕ). x ++ drop i room) w (e ∙ sym carried_long))

@@ -1,5 +1,5 @@
 -- The MAC behind the bytes that it covers, made and judged.
-use Rattle.std.specs.Prelude.{Result, Ok, Err, is_err}
+use Rattle.std.specs.Prelude.{Option, Some, None, Result, Ok, Err, is_err}
 use Rattle.modes.specs.declared.ChainingFault.{ChainingFault}
 use Rattle.modes.specs.declared.ChainingFault.TheVariants.{BlocksOrRoom}
 use mathlib.Core.Path.{◌≡◌, refl, sym, ap, ap₂, ◌∙◌}
@@ -75,7 +75,7 @@ mac_most mode = most (has_mac mode)
 module _ (mode : ProtMode) (n : ℕ) (mackey room : List ℕ) where
   -- without a MAC all stays
   pub mac_none : has_mac mode ≡ false → n ≤ length room
-      → Built (mac_takes mode n) (n + mac_length mode) (with_mac mackey mode (take n room)) room true room
+      → Built (mac_takes mode n) (n + mac_length mode) (with_mac mackey mode (take n room)) room (Some n) room
   unfolding mac_takes mac_length with_mac
   mac_none e h =
       let s = take n room in
@@ -83,15 +83,16 @@ module _ (mode : ProtMode) (n : ℕ) (mackey room : List ℕ) where
       (s ++ pick (has_mac mode) (cmac96 mackey s) []) room
       (ap (λ (x : Bool). implies x (macs n 12)) e) (rw e (omega arith))
       (rw e (ap length (append-nil s) ∙ length-take-le n room h ∙ (let z : n ≡ n + 0 = omega arith in z))) room
+      n (rw e (omega arith))
       (over_none n room h ∙ ap (λ (x : Bool). over (s ++ pick x (cmac96 mackey s) []) room) (sym e))
 
   pub mac_refused : has_mac mode ≡ true → macs n 12 ≡ false
-      → Built (mac_takes mode n) (n + mac_length mode) (with_mac mackey mode (take n room)) room false room
+      → Built (mac_takes mode n) (n + mac_length mode) (with_mac mackey mode (take n room)) room None room
   unfolding mac_takes
   mac_refused e f = refused (implies (has_mac mode) (macs n 12)) (n + mac_length mode)
       (with_mac mackey mode (take n room)) room (ap₂ implies e f)
 
-  pub mac_put : (mac after : List ℕ) (answer : Bool) → has_mac mode ≡ true → macs n 12 ≡ true
+  pub mac_put : (mac after : List ℕ) (answer : Option ℕ) → has_mac mode ≡ true → macs n 12 ≡ true
       → mac ≡ cmac96 mackey (take n room)
       → Built true (n + length mac) (take n room ++ mac) room answer after
       → Built (mac_takes mode n) (n + mac_length mode) (with_mac mackey mode (take n room)) room answer after

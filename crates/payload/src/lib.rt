@@ -12,23 +12,25 @@ ghost use Rattle.payload.specs.Protected.{mac_takes, with_mac, mac_fits};
 
 use frames::build::header_into;
 use frames::protection::has_mac;
-use frames::sizes::{blocks_length, data_length, header_length, header_part};
+use frames::sizes::{blocks_length, data_length, header_part};
 use frames::{Custom, ProtMode};
 use octets::{front, same, tail};
 
-/// Puts src behind the first bytes of a room, from place at on. Where it does not fit, the answer is false and no byte
-/// changes.
+/// Puts src behind the first bytes of a room, from place at on; where src ends. Where it does not fit, the answer is
+/// None and no byte changes.
 ///
 /// Ruled out: a part of src put where there is no room for all; bytes behind src cleared.
-pub fn put(room: &mut [u8], at: usize, src: &[u8]) -> bool
+pub fn put(room: &mut [u8], at: usize, src: &[u8]) -> Option<usize>
     ensures { Built true (at + length src.now) (take at room.old ++ src.now)
         room.old result room.new }
 {
-    let fits = at <= room.len() && src.len() <= room.len() - at;
-    if fits {
-        room[at..at + src.len()].copy_from_slice(src);
+    if at <= room.len() && src.len() <= room.len() - at {
+        let end = at + src.len();
+        room[at..end].copy_from_slice(src);
+        Some(end)
+    } else {
+        None
     }
-    fits
 }
 
 /// A block of a constant, four bytes and a challenge (9.4.3, 9.5.5, 9.6.3, 9.6.5).
@@ -57,33 +59,31 @@ fn lay(room: &mut [u8], a: &[u8], b: &[u8])
     room[j..].fill(0);
 }
 
-/// Header (in Rev 1), data and zeros up to D blocks, into the first bytes of a room (9.2). Where a field does not fit
-/// its bits, the data are not as long as BlockSize and BlockCount say, or the room is too short, the answer is false
-/// and no byte changes.
+/// Header (in Rev 1), data and zeros up to D blocks, into the first bytes of a room (9.2); how many bytes these are.
+/// Where a field does not fit its bits, the data are not as long as BlockSize and BlockCount say, or the room is too
+/// short, the answer is None and no byte changes.
 ///
 /// Ruled out: a header in Rev 0; a last block that is filled with what the room held; too few data filled up with
 /// zeros.
-pub fn carried_into(rev: bool, custom: Custom, words: &[u8], room: &mut [u8]) -> bool
+pub fn carried_into(rev: bool, custom: Custom, words: &[u8], room: &mut [u8]) -> Option<usize>
     ensures { Built (both (custom_fits custom) (eqb (length words.now)
         (data_length custom.blocksize custom.blockcount)))
         (blocks_length custom.blocksize rev custom.blockcount) (carried_data rev custom words.now)
         room.old result room.new }
 {
     let mut header = [0u8; 8];
-    if !header_into(custom, &mut header) {
-        return false;
-    }
+    header_into(custom, &mut header)?;
     let size = custom.blocksize;
     if words.len() != data_length(size, custom.blockcount) {
-        return false;
+        return None;
     }
     let n = blocks_length(size, rev, custom.blockcount);
     if room.len() < n {
-        return false;
+        return None;
     }
     let h = header_part(size, rev);
     lay(&mut room[..n], &header[..h], words);
-    true
+    Some(n)
 }
 
 /// Does the header, where there is one, say what the message's fields say (9.2)?
@@ -96,11 +96,9 @@ pub fn header_fits(rev: bool, custom: Custom, p: &[u8]) -> bool
         return true;
     }
     let mut header = [0u8; 8];
-    if !header_into(custom, &mut header) {
+    let Some(n) = header_into(custom, &mut header) else {
         return false;
-    }
-    let size = custom.blocksize;
-    let n = header_length(size);
+    };
     same(front(p, n), &header[..n])
 }
 
@@ -128,24 +126,24 @@ pub fn filler_fits(rev: bool, custom: Custom, p: &[u8]) -> bool
     octets::zeros(tail(tail(p, h), n))
 }
 
-/// Where the ProtMode has a MAC, the MAC of the room's first n bytes behind them. Where these are no whole blocks, or
-/// there is no room for it, the answer is false and no byte changes. Without a MAC no byte changes, and the answer is
-/// whether the room has n bytes.
+/// Where the ProtMode has a MAC, the MAC of the room's first n bytes behind them; how many bytes these are with it.
+/// Where they are no whole blocks, or there is no room for the MAC, the answer is None and no byte changes. Without a
+/// MAC no byte changes, and the answer is n where the room has n bytes.
 ///
 /// Ruled out: a MAC of 16 bytes; a MAC put in ProtMode 1.
-pub fn mac_behind(mackey: [u8; 16], mode: ProtMode, n: usize, room: &mut [u8]) -> bool
+pub fn mac_behind(mackey: [u8; 16], mode: ProtMode, n: usize, room: &mut [u8]) -> Option<usize>
     ensures { Built (mac_takes mode n) (n + mac_length mode)
         (with_mac mackey mode (take n room.old)) room.old result room.new }
 {
     if room.len() < n {
-        return false;
+        return None;
     }
     if !has_mac(mode) {
-        return true;
+        return Some(n);
     }
     let mut mac = [0u8; 12];
     if modes::cmac_96(mackey, &room[..n], &mut mac).is_err() {
-        return false;
+        return None;
     }
     put(room, n, &mac)
 }

@@ -1,5 +1,6 @@
 -- A builder's answer from its parts: what is not fit, a room that is too short, and what frames built.
-use Rattle.std.specs.Prelude.{Result, Ok, Err, None, ℕ}
+use Rattle.std.specs.Prelude.{Option, Some, None, Result, Ok, Err, ℕ}
+use Rattle.std.specs.Option.{ok_or}
 use Rattle.reader.specs.declared.ReaderFault.{ReaderFault}
 use mathlib.Core.Path.{◌≡◌, refl, sym, ap, ap₂, ◌∙◌}
 use mathlib.Core.Bool.{Bool, true, false}
@@ -60,17 +61,23 @@ pub unfit : (fit : Bool) (message room : List ℕ) → fit ≡ false → Makes f
 unfit fit message room e = decided fit false message room room (Err OwnMessage)
     (ap (λ (b : Bool). both b (leb message_room (length room))) (sym e)) refl refl
 
+-- frames' answer, with the fault where there is none
+turned : (t : Bool) (n : ℕ) → ok_or (pick t (Some n) None) OwnMessage ≡ pick t (Ok n) (Err OwnMessage)
+turned true n = refl
+turned false n = refl
+
 -- what frames built, in a room that has the bytes of the longest message
-pub built : (fit fields b : Bool) (n : ℕ) (message room after : List ℕ) (answer : Result ℕ ReaderFault)
+pub built : (fit fields : Bool) (b : Option ℕ) (n : ℕ) (message room after : List ℕ) (answer : Result ℕ ReaderFault)
     → message_room ≤ length room → fields ≡ fit → length message ≡ n → n ≤ message_room
-    → Built fields n message room b after → answer ≡ pick b (Ok n) (Err OwnMessage)
+    → Built fields n message room b after → answer ≡ ok_or b OwnMessage
     → Makes fit message room answer after
 built fit fields b n message room after answer h e l m r says =
     let t : both fields (leb n (length room)) ≡ fit = ap (both fields) (le-leb n (length room) (omega arith))
     ∙ room_enough fields ∙ e in
     decided fit fit message room after answer
     (sym (ap (both fit) (le-leb message_room (length room) h) ∙ room_enough fit))
-    (says ∙ ap₂ {C = (Result ℕ ReaderFault)} (λ x k. pick x (Ok k) (Err OwnMessage)) (r.says ∙ t) (sym l))
+    (says ∙ ap (λ (x : Option ℕ). ok_or x OwnMessage) r.says ∙ turned (both fields (leb n (length room))) n
+    ∙ ap₂ {C = (Result ℕ ReaderFault)} (λ x k. pick x (Ok k) (Err OwnMessage)) t (sym l))
     (r.holds ∙ ap₂ {C = List ℕ} (λ x k. pick x (message ++ drop k room) room) t (sym l))
 
 -- what is not let in

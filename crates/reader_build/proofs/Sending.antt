@@ -1,5 +1,5 @@
 -- IAM3 from its parts, as they stand in the room: the data as they are sent, IResponse, and the whole.
-use Rattle.std.specs.Prelude.{Result}
+use Rattle.std.specs.Prelude.{Option, Result}
 use Rattle.modes.specs.declared.ChainingFault.{ChainingFault}
 use mathlib.Core.Path.{◌≡◌, refl, sym, ap, ap₂, ◌∙◌}
 use mathlib.Core.Bool.{Bool, true, false}
@@ -121,7 +121,7 @@ module _ (keys : Keys) (mode : ProtMode) (a p : List ℕ) (sixteen : length a �
           (length covered) room,
     )
 
-    pub response_laid : (n : ℕ) (z after : List ℕ) (answer : Bool) → n ≡ 16 + length p
+    pub response_laid : (n : ℕ) (z after : List ℕ) (answer : Option ℕ) → n ≡ 16 + length p
         → z ≡ over (sent_data keys.enc mode a p) (take (length room - 16) (drop 16 room))
         → (let r = take 16 room ++ (z ++ drop (length room - 16) (drop 16 room)) in
         Built (mac_takes mode n) (n + mac_length mode)
@@ -178,7 +178,7 @@ module _ (keys : Keys) (custom : Custom) (protmode : ℕ) (mode : ProtMode) (a p
         response_long keys mode a p sixteen whole_blocks_lem,
       )
 
-  module _ (room r : List ℕ) (answer : Bool) (fit : select_fits 0 custom protmode ≡ true)
+  module _ (room r : List ℕ) (answer : Option ℕ) (fit : select_fits 0 custom protmode ≡ true)
       (h : message_room ≤ length room)
       (b : Built (select_fits 0 custom protmode) 20 (iam3_head head) room answer r)
     where

@@ -17,7 +17,7 @@ ghost use Rattle.reader_build.specs.Makes.{Makes};
 use frames::build::{iam1_into, iam2_into, mam1_into, mam2_into, tam1_into, tam2_into};
 use frames::constants::{iam2_constant, iam3_constant, mam2_constant};
 use frames::protection::prot_mode;
-use frames::sizes::{DATA_ROOM, MESSAGE_ROOM, blocks_length, data_length};
+use frames::sizes::{DATA_ROOM, MESSAGE_ROOM, data_length};
 use frames::{Custom, Iam1, Iam2, Mam1, Mam2, Tam1, Tam2};
 use payload::carried_into;
 use reader::own::mode_fits;
@@ -30,17 +30,6 @@ fn taken(fit: bool, room: usize) -> Result<(), ReaderFault>
 {
     if fit && MESSAGE_ROOM <= room {
         Ok(())
-    } else {
-        Err(ReaderFault::OwnMessage)
-    }
-}
-
-// What is built of frames' answer: a message of so many bytes, or nothing.
-fn answer(built: bool, n: usize) -> Result<usize, ReaderFault>
-    ensures { result ≡ pick built (Ok n) (Err ReaderFault.OwnMessage) }
-{
-    if built {
-        Ok(n)
     } else {
         Err(ReaderFault::OwnMessage)
     }
@@ -66,7 +55,7 @@ pub fn tam1(keyid: u8, ichallenge: [u8; 10], room: &mut [u8]) -> Result<usize, R
         keyid,
         ichallenge,
     };
-    answer(tam1_into(message, room), 12)
+    tam1_into(message, room).ok_or(ReaderFault::OwnMessage)
 }
 
 /// TAM2 (9.4.5). Ruled out: ProtMode 2 asked for without a MAC key; ProtMode 4.
@@ -91,7 +80,7 @@ pub fn tam2(
         custom,
         protmode,
     };
-    answer(tam2_into(message, room), 15)
+    tam2_into(message, room).ok_or(ReaderFault::OwnMessage)
 }
 
 /// IAM1 (9.5.2). Ruled out: the first byte of MAM1; a room of 175 bytes taken.
@@ -99,7 +88,7 @@ pub fn iam1(keyid: u8, room: &mut [u8]) -> Result<usize, ReaderFault>
     ensures { Makes true (iam1_made keyid) room.old result room.new }
 {
     taken(true, room.len())?;
-    answer(iam1_into(Iam1 { rfu: 0, keyid }, room), 2)
+    iam1_into(Iam1 { rfu: 0, keyid }, room).ok_or(ReaderFault::OwnMessage)
 }
 
 /// MAM1 (9.6.2). Ruled out: the first byte of TAM1; a byte of the room changed where it has under 176.
@@ -112,7 +101,7 @@ pub fn mam1(keyid: u8, ichallenge: [u8; 10], room: &mut [u8]) -> Result<usize, R
         keyid,
         ichallenge,
     };
-    answer(mam1_into(message, room), 12)
+    mam1_into(message, room).ok_or(ReaderFault::OwnMessage)
 }
 
 /// IAM2 (9.5.4, 9.5.5). Ruled out: IResponse by AES-ENC; a Purpose of five bits carried into the constant.
@@ -129,7 +118,7 @@ pub fn iam2(
 {
     taken(purpose < 16, room.len())?;
     let iresponse = response(keys.enc, iam2_constant(purpose), irnd, tchallenge);
-    answer(iam2_into(Iam2 { rfu: 0, iresponse }, room), 17)
+    iam2_into(Iam2 { rfu: 0, iresponse }, room).ok_or(ReaderFault::OwnMessage)
 }
 
 /// MAM2 (9.6.5). Ruled out: the first four bytes of IChallenge in place of its last; the tag's challenge left out.
@@ -147,7 +136,7 @@ pub fn mam2(
     taken(purpose < 16, room.len())?;
     let last = [ichallenge[6], ichallenge[7], ichallenge[8], ichallenge[9]];
     let iresponse = response(keys.enc, mam2_constant(purpose), last, tchallenge);
-    answer(mam2_into(Mam2 { rfu: 0, iresponse }, room), 17)
+    mam2_into(Mam2 { rfu: 0, iresponse }, room).ok_or(ReaderFault::OwnMessage)
 }
 
 /// IAM3 (9.5.4, 9.5.8). Ruled out: the MAC over the data before they are chained; fewer bytes of data than BlockCount
@@ -174,10 +163,9 @@ pub fn iam3(
         return Err(ReaderFault::OwnMessage);
     };
     let mut blocks = [0u8; DATA_ROOM];
-    if !carried_into(true, custom, words, &mut blocks) {
+    let Some(n) = carried_into(true, custom, words, &mut blocks) else {
         return Err(ReaderFault::OwnMessage);
-    }
+    };
     let a = response(keys.enc, iam3_constant(mode, purpose), irnd, tchallenge);
-    let n = blocks_length(custom.blocksize, true, custom.blockcount);
     Ok(iam3_whole(keys, custom, protmode, mode, a, &blocks[..n], room))
 }

@@ -1,5 +1,5 @@
 -- The reply to TAM2 from its parts, as they stand in the room.
-use Rattle.std.specs.Prelude.{Result}
+use Rattle.std.specs.Prelude.{Option, Result}
 use Rattle.modes.specs.declared.ChainingFault.{ChainingFault}
 use mathlib.Core.Path.{◌≡◌, refl, sym, ap, ap₂, ◌∙◌}
 use mathlib.Core.Bool.{Bool, true, false}
@@ -85,7 +85,7 @@ module _ (rev : Bool) (c : Custom) (words : List ℕ) (fit : custom_fits c ≡ t
         ∙ ap₂ {C = ℕ} (λ x y. x + y) (ap length e) (length-drop (length words) (replicate 128 0))
         ∙ omega (arith, data_most, length-replicate {A = ℕ} 128 0)
 
-    pub carried_made : (n : ℕ) (x : Bool) (front p : List ℕ) → n ≡ data_length c.blocksize c.blockcount
+    pub carried_made : (n : ℕ) (x : Option ℕ) (front p : List ℕ) → n ≡ data_length c.blocksize c.blockcount
         → front ≡ words → (let whole = front ++ drop (length words) (replicate 128 0) in
         Built (both (custom_fits c) (eqb (length (take n whole)) (data_length c.blocksize c.blockcount)))
         (blocks_length c.blocksize rev c.blockcount) (carried_data rev c (take n whole)) (replicate 144 0) x p)
@@ -114,7 +114,7 @@ module _ (key : Key) (m : Tam2) (words draws : List ℕ) (mode : ProtMode) (fit 
     is_reply = refl
 
     -- p holds the data, r the block and the data as they are sent, z these with their MAC
-    pub tam2_made_lem : (n result : ℕ) (y : Bool) (p k a room r z : List ℕ)
+    pub tam2_made_lem : (n result : ℕ) (y : Option ℕ) (p k a room r z : List ℕ)
         → n ≡ blocks_length m.custom.blocksize m.rev m.custom.blockcount
         → p ≡ over (carried_data m.rev m.custom words) (replicate 144 0)
         → k ≡ two_bytes (tam2_constant m.rev mode) → a ≡ tam_block key.enc k draws m.ichallenge

@@ -5,16 +5,15 @@ use native.Mathlib.Omega.{arith}
 use lib.ListN.{length, take, replicate}
 use lib.Seq.{length-take-le}
 use Rattle.frames.proofs.Joins.{refused}
-use Rattle.payload.proofs.Data.{header_told, header_taken, part_bound, other_length, not_fit, blocks_hold}
+use Rattle.payload.proofs.Data.{header_unfit, header_fit, header_taken, part_bound, other_length, not_fit, blocks_hold}
 use Rattle.payload.proofs.Data.{carried_built}
 use Rattle.payload.proofs.Rooms.{too_short}
 use Rattle.payload.proofs.carried_into.Goals as goal
 
-pub returns-then-not-header_into : goal.returns-then-not-header_into
-returns-then-not-header_into c = let i = c.header_into in
-    refused _ _ _ c.args.room.now (not_fit c.args.custom _
-    (sym (header_told c.args.custom i.result (replicate 8 0) i.new.room refl i.ensures)
-    ∙ c.if-not-header_into.true))
+pub returns-in_err-header_into : goal.returns-in_err-header_into
+returns-in_err-header_into c = let i = c.header_into in
+    rw c.from_residual.ensures (refused _ _ _ c.args.room.now (not_fit c.args.custom _
+    (header_unfit c.args.custom i.result (replicate 8 0) i.new.room refl i.ensures c.in_err-header_into.was)))
 
 pub returns-then-words-data_length : goal.returns-then-words-data_length
 returns-then-words-data_length c =
@@ -60,7 +59,6 @@ returns c =
     let i = c.header_into in
     let h = c.header_part-h in
     let n = c.blocks_length-n in
-    let yes = c.if-not-header_into.false in
     carried_built c.args.rev c.args.custom c.args.words.now
     (omega (
       arith,
@@ -68,8 +66,9 @@ returns c =
       c.data_length.ensures,
     )) n.result
     (take h.result i.new.room) c.args.room.now c.lay.new.room
-    (sym (header_told c.args.custom i.result (replicate 8 0) i.new.room refl i.ensures) ∙ yes) n.ensures
+    (header_fit c.args.custom i.result (replicate 8 0) i.new.room refl i.ensures _ c.in_ok-header_into.was) n.ensures
     (omega (arith, c.if-room-n.false))
     (ap (λ (k : ℕ). take k i.new.room) h.ensures
-    ∙ header_taken c.args.custom i.result (replicate 8 0) i.new.room refl i.ensures c.args.rev yes)
+    ∙ header_taken c.args.custom i.result (replicate 8 0) i.new.room refl i.ensures _ c.in_ok-header_into.was
+    c.args.rev)
     c.lay.ensures

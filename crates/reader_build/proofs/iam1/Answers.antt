@@ -10,4 +10,4 @@ use Rattle.reader_build.proofs.iam1.Goals as goal
 pub returns : goal.returns
 unfolding iam1_made
 returns c = built _ _ _ _ _ _ _ _ (let_in true _ _ _ c.taken.ensures c.in_ok-taken.was).1 refl
-    (iam1_shape _ (omega arith)).0 (omega arith) c.iam1_into.ensures c.answer.ensures
+    (iam1_shape _ (omega arith)).0 (omega arith) c.iam1_into.ensures c.ok_or.ensures.value

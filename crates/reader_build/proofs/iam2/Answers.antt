@@ -18,4 +18,4 @@ returns c =
     (built _ _ _ _ _ _ _ _ asked.1 (sym asked.0)
     (iam2_shape _ (array_length 16 c.response-iresponse.result _
     c.response-iresponse.type_inv) (omega arith)).0 (omega arith)
-    c.iam2_into.ensures c.answer.ensures)
+    c.iam2_into.ensures c.ok_or.ensures.value)

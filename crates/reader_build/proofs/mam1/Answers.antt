@@ -12,4 +12,4 @@ pub returns : goal.returns
 unfolding mam1_made
 returns c = built _ _ _ _ _ _ _ _ (let_in true _ _ _ c.taken.ensures c.in_ok-taken.was).1 refl
     (mam1_shape _ (array_length 10 c.args.ichallenge _ c.well_formed.1.0) (omega arith)).0 (omega arith)
-    c.mam1_into.ensures c.answer.ensures
+    c.mam1_into.ensures c.ok_or.ensures.value

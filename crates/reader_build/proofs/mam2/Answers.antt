@@ -20,4 +20,4 @@ returns c =
     (built _ _ _ _ _ _ _ _ asked.1 (sym asked.0)
     (mam2_shape _ (array_length 16 c.response-iresponse.result _
     c.response-iresponse.type_inv) (omega arith)).0 (omega arith)
-    c.mam2_into.ensures c.answer.ensures)
+    c.mam2_into.ensures c.ok_or.ensures.value)

@@ -14,4 +14,4 @@ returns c =
     built _ _ _ _ _ _ _ _ asked.1
     (select_fit c.args.keys c.args.protmode c.args.custom (said c.mode_fits.ensures asked.0))
     (tam2_shape _ (array_length 10 c.args.ichallenge _ c.well_formed.1.1.0) (omega arith)).0 (omega arith)
-    c.tam2_into.ensures c.answer.ensures
+    c.tam2_into.ensures c.ok_or.ensures.value
