@@ -14,7 +14,8 @@ use Rattle.field.proofs.Table.{entry_at}
 
 module _ {F : Type 0} {g : Mut F (ℕ × Unit {0}) ℕ} {f : F} (h : ℕ → ℕ) (n : ℕ)
     (answers : (i y : ℕ) (q : F) → i < n → Called g f (i, tt) y q → (q ≡ f) × (y ≡ h i)) where
-  entries : (ys : List ℕ) (m i k : ℕ) → i + m ≤ n → IsFromFnResultFrom g f ys i m → k < m → get_or ys (i + k) 0 ≡ h (i + k)
+  entries : (ys : List ℕ) (m i k : ℕ) → i + m ≤ n → IsFromFnResultFrom g f ys i m → k < m
+      → get_or ys (i + k) 0 ≡ h (i + k)
   entries ys zero i k le e lt = absurd (not-suc-le-zero lt)
   entries ys (suc m) i zero le (q, y, el, called, rest) lt =
       let a = answers i y q (omega arith) called in

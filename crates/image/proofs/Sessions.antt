@@ -72,7 +72,8 @@ module _ (c : Call) where
     not_ten : eqb (length c.draws) 10 ≡ false → Fits (answer_of c tag).tag.session
     unfolding effect_of lending_checks refused
     not_ten e =
-        subst (λ (v : Result Unit TagFault). Fits (of_lending c tag.setup tag.session v).session) (fails BenchFault _ e) h
+        subst (λ (v : Result Unit TagFault). Fits (of_lending c tag.setup tag.session v).session)
+        (fails BenchFault _ e) h
 
     by_draws : (b : Bool) → eqb (length c.draws) 10 ≡ b → Fits (answer_of c tag).tag.session
     by_draws true e = ten_drawn (eqb-true _ _ e)

@@ -6,7 +6,8 @@ use Rattle.aes.specs.Cipher.{cipher}
 use Rattle.aes.specs.AesEnc.{aes_enc}
 
 -- The output blocks of the blocks.
-unfoldable pub outputs : (List ℕ → List ℕ → List ℕ) → (List ℕ → List ℕ → List ℕ) → List ℕ → List (List ℕ) → List (List ℕ)
+unfoldable pub outputs : (List ℕ → List ℕ → List ℕ) → (List ℕ → List ℕ → List ℕ) → List ℕ → List (List ℕ)
+    → List (List ℕ)
 outputs out on iv [] = []
 outputs out on iv (b ∷ bs) = out iv b ∷ outputs out on (on iv b) bs
 

@@ -52,8 +52,8 @@ pub fn takes(input: usize, room: usize) -> bool
     input % 16 == 0 && input <= room
 }
 
-// A form of chaining (3.1.8 to 3.1.11), block by block. What is lent stays where it lies: a copy would count sixteen times
-// on the stack.
+// A form of chaining (3.1.8 to 3.1.11), block by block. What is lent stays where it lies: a copy would count sixteen
+// times on the stack.
 pub trait Form {
     // The output block, under a key, of what a block is chained to and of the block itself.
     ghost out: { List ℕ → List ℕ → List ℕ → List ℕ };
@@ -188,7 +188,8 @@ fn in_parts<F: Form>(key: &[u8; 16], iv: [u8; 16], input: &[u8], room: &mut [u8]
     chain::<F>(key, &chained, &input[at..], &mut room[at..]);
 }
 
-// Chains the blocks of the input into the room, until none is left, and hands on what a block behind them is chained to.
+// Chains the blocks of the input into the room, until none is left, and hands on what a block behind them is chained
+// to.
 fn chain<F: Form>(key: &[u8; 16], iv: &[u8; 16], input: &[u8], room: &mut [u8]) -> [u8; 16]
     requires { length input.now ≤ length room.old }
     ensures written { room.new ≡ over (joined (outputs (F.out key.now) (F.on key.now) iv.now (whole_blocks input.now)))

@@ -96,8 +96,8 @@ pub struct Sizes {
     pub user: u16,
 }
 
-// Record 03: KeyID, whether there is a MAC key, MPI, ENC_key, MAC_key. `mackey` is no Option: `key_of` gives the bytes of
-// a record that has no MAC key too, and `KeyFine` asks that they are zeros.
+// Record 03: KeyID, whether there is a MAC key, MPI, ENC_key, MAC_key. `mackey` is no Option: `key_of` gives the bytes
+// of a record that has no MAC key too, and `KeyFine` asks that they are zeros.
 #[derive(Clone, Copy)]
 pub struct Key {
     pub id: u8,

@@ -37,21 +37,24 @@ pub overflow_add-at-in-Ok-Taken : goal.overflow_add-at-in-Ok-Taken
 overflow_add-at-in-Ok-Taken c = let l = c.loop-at in
     let t = le_of_lt c.loop-at-test.true in
     let j = c.judge_at-j.ensures.0 in
-    let h = read_taken key_limit c.args.s.now l.at l.gathered _ t j _ (c.in-Ok-Taken.is ∙ ap Ok (rw c.in-Ok-Taken.is at c.in-Ok-Taken.field-0-is)) in
+    let e = c.in-Ok-Taken.is ∙ ap Ok (rw c.in-Ok-Taken.is at c.in-Ok-Taken.field-0-is) in
+    let h = read_taken key_limit c.args.s.now l.at l.gathered _ t j _ e in
     omega arith
 
 pub loop-at-smaller : goal.loop-at-smaller
 loop-at-smaller c = let l = c.loop-at in
     let t = le_of_lt c.loop-at-test.true in
     let j = c.judge_at-j.ensures.0 in
-    let h = read_taken key_limit c.args.s.now l.at l.gathered _ t j _ (c.in-Ok-Taken.is ∙ ap Ok (rw c.in-Ok-Taken.is at c.in-Ok-Taken.field-0-is)) in
+    let e = c.in-Ok-Taken.is ∙ ap Ok (rw c.in-Ok-Taken.is at c.in-Ok-Taken.field-0-is) in
+    let h = read_taken key_limit c.args.s.now l.at l.gathered _ t j _ e in
     omega arith
 
 pub loop-at-preserved : goal.loop-at-preserved
 loop-at-preserved c = let l = c.loop-at in
     let t = le_of_lt c.loop-at-test.true in
     let j = c.judge_at-j.ensures.0 in
-    let h = read_taken key_limit c.args.s.now l.at l.gathered _ t j _ (c.in-Ok-Taken.is ∙ ap Ok (rw c.in-Ok-Taken.is at c.in-Ok-Taken.field-0-is)) in
+    let e = c.in-Ok-Taken.is ∙ ap Ok (rw c.in-Ok-Taken.is at c.in-Ok-Taken.field-0-is) in
+    let h = read_taken key_limit c.args.s.now l.at l.gathered _ t j _ e in
     sym h.2 ∙ l.invariant
 
 pub returns : goal.returns
