@@ -1,3 +1,4 @@
 -- What the contracts of console cite.
 pub mod Reasons
 pub mod Counts
+pub mod Words

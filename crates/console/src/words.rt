@@ -1,9 +1,12 @@
 // The words of a line.
-ghost use Rattle.std.specs.Prelude.{◌≡◌, ◌==◌, length};
+ghost use Rattle.std.specs.Prelude.{◌≡◌, ◌==◌, length, option_map};
 ghost use Rattle.std.specs.Iterator.{at_most};
 ghost use Rattle.std.specs.List.{before_first};
+ghost use Rattle.console.specs.Words.{blank, word_of, left_of};
 
-fn is_blank(b: u8) -> bool {
+fn is_blank(b: u8) -> bool
+    ensures { result ≡ blank b }
+{
     matches!(b, b' ' | b'\t' | b'\r')
 }
 
@@ -23,10 +26,13 @@ impl<'a> Words<'a> {
     }
 }
 
+/// The first word, and what is left behind it. Ruled out: a word with the blank behind it; a word given twice.
 impl<'a> Iterator for Words<'a> {
     type Item = &'a [u8];
 
     ghost remaining = { λ words. at_most (length words.rest.now) };
+    ghost next_gives = { λ before out after. (option_map (λ w. w.now) out ≡ word_of before.rest.now)
+        × (after.rest.now ≡ left_of before.rest.now) };
 
     fn next(&mut self) -> Option<&'a [u8]> {
         let rest = self.rest;
