@@ -1,5 +1,5 @@
 -- What a line is refused for where a word of it is not read.
-use Rattle.std.specs.Prelude.{ℕ, List, ltb, if◌then◌else◌, Result, Ok, Err}
+use Rattle.std.specs.Prelude.{ℕ, List, ltb, if◌then◌else◌, Result, Ok, Err, Option, Some, None}
 use Rattle.text.specs.declared.DecimalFault.TheVariants.{NotNumber, Over}
 use Rattle.text.specs.declared.DecimalFault.{DecimalFault}
 use Rattle.text.specs.declared.HexFault.TheVariants as hex
@@ -24,3 +24,16 @@ room_of (Err f) = Err (decimal_reason f)
 
 abbrev pub room_read : List ℕ → Result ℕ Reason
 room_read w = room_of (decimal_read w)
+
+-- What the next field is read as, where there is one.
+abbrev pub number_of : Result ℕ DecimalFault → Result ℕ Reason
+number_of (Ok n) = Ok n
+number_of (Err f) = Err (decimal_reason f)
+
+abbrev pub number_read : Option (List ℕ) → Result ℕ Reason
+number_read (Some w) = number_of (decimal_read w)
+number_read None = Err says.WordMissing
+
+abbrev pub room_asked : Option (List ℕ) → Result ℕ Reason
+room_asked (Some w) = room_read w
+room_asked None = Err says.WordMissing

@@ -1,7 +1,9 @@
 // The fields of a line, each taken as what it stands for. A line is refused for the number of its words, and then for
 // the first field from the left that can't be read.
-ghost use Rattle.std.specs.Prelude.{ℕ, ◌≡◌, ◌≤◌, length};
-ghost use Rattle.console.specs.Reasons.{room_read};
+ghost use Rattle.std.specs.Prelude.{ℕ, ◌≡◌, ◌≤◌, length, option_map, IfOk, IfErr, Some, None};
+ghost use Rattle.console.specs.declared.reason.Reason.TheVariants.{WordMissing};
+ghost use Rattle.console.specs.Words.{word_of, left_of};
+ghost use Rattle.console.specs.Reasons.{room_read, number_read, room_asked};
 ghost use Rattle.console.specs.Counts.{counted, fields_of};
 
 use crate::bytes::{Bytes, FIELD_LIMIT};
@@ -40,16 +42,27 @@ impl<'a> Fields<'a> {
         Ok(Fields { words })
     }
 
-    /// The next field as it stands, where there is one.
-    pub fn word(&mut self) -> Option<&'a [u8]> {
+    /// The next field as it stands, where there is one. Ruled out: the field behind it; the same one given twice.
+    pub fn word(&mut self) -> Option<&'a [u8]>
+        ensures word { option_map (λ w. w.now) result ≡ word_of self.old.words.rest.now }
+        ensures left { self.new.words.rest.now ≡ left_of self.old.words.rest.now }
+    {
         self.words.next()
     }
 
-    fn wanted(&mut self) -> Result<&'a [u8], Reason> {
+    fn wanted(&mut self) -> Result<&'a [u8], Reason>
+        ensures word { IfOk result (λ w. word_of self.old.words.rest.now ≡ Some w.now) }
+        ensures none { IfErr result (λ r. (word_of self.old.words.rest.now ≡ None) × (r ≡ WordMissing)) }
+        ensures left { self.new.words.rest.now ≡ left_of self.old.words.rest.now }
+    {
         self.word().ok_or(Reason::WordMissing)
     }
 
-    pub fn number(&mut self) -> Result<u16, Reason> {
+    /// The next field as a number. Ruled out: a field missing told as no number; the field kept where it is read.
+    pub fn number(&mut self) -> Result<u16, Reason>
+        ensures number { result ≡ number_read (word_of self.old.words.rest.now) }
+        ensures left { self.new.words.rest.now ≡ left_of self.old.words.rest.now }
+    {
         Ok(text::read_decimal(self.wanted()?)?)
     }
 
@@ -75,8 +88,11 @@ impl<'a> Fields<'a> {
         }
     }
 
-    /// The length of a room.
-    pub fn room(&mut self) -> Result<usize, Reason> {
+    /// The length of a room. Ruled out: a field missing told as no number; a room over 4096.
+    pub fn room(&mut self) -> Result<usize, Reason>
+        ensures room { result ≡ room_asked (word_of self.old.words.rest.now) }
+        ensures left { self.new.words.rest.now ≡ left_of self.old.words.rest.now }
+    {
         room(self.wanted()?)
     }
 }
