@@ -1,9 +1,9 @@
 // The fields of a line, each taken as what it stands for. A line is refused for the number of its words, and then for
 // the first field from the left that can't be read.
-ghost use Rattle.std.specs.Prelude.{ℕ, ◌≡◌, ◌≤◌, length, option_map, IfOk, IfErr, Some, None};
+ghost use Rattle.std.specs.Prelude.{ℕ, ◌≡◌, ◌≤◌, length, option_map, IfOk, IfErr, Some, None, Ok, Err, take};
 ghost use Rattle.console.specs.declared.reason.Reason.TheVariants.{WordMissing};
 ghost use Rattle.console.specs.Words.{word_of, left_of};
-ghost use Rattle.console.specs.Reasons.{room_read, number_read, room_asked};
+ghost use Rattle.console.specs.Reasons.{room_read, number_read, room_asked, hex_taken, array_of, sixteen_of};
 ghost use Rattle.console.specs.Counts.{counted, fields_of};
 
 use crate::bytes::{Bytes, FIELD_LIMIT};
@@ -66,22 +66,35 @@ impl<'a> Fields<'a> {
         Ok(text::read_decimal(self.wanted()?)?)
     }
 
-    pub fn bytes(&mut self) -> Result<Bytes<FIELD_LIMIT>, Reason> {
+    /// The next field as bytes. Ruled out: the bytes of the field behind it; a field missing told as no hex.
+    pub fn bytes(&mut self) -> Result<Bytes<FIELD_LIMIT>, Reason>
+        ensures bytes { IfOk result (λ b. hex_taken (word_of self.old.words.rest.now) ≡ Ok (take b.length b.room)) }
+        ensures fault { IfErr result (λ r. hex_taken (word_of self.old.words.rest.now) ≡ Err r) }
+        ensures left { self.new.words.rest.now ≡ left_of self.old.words.rest.now }
+    {
         Bytes::read(self.wanted()?)
     }
 
-    /// The bytes, where they are N.
-    pub fn array<const N: usize>(&mut self) -> Result<Option<[u8; N]>, Reason> {
+    /// The bytes, where they are N. Ruled out: N bytes where the field has more; none where it has N.
+    pub fn array<const N: usize>(&mut self) -> Result<Option<[u8; N]>, Reason>
+        ensures array { result ≡ array_of N (hex_taken (word_of self.old.words.rest.now)) }
+        ensures left { self.new.words.rest.now ≡ left_of self.old.words.rest.now }
+    {
         array(self.wanted()?)
     }
 
-    /// A key, a block or an IV.
-    pub fn sixteen(&mut self) -> Result<[u8; 16], Reason> {
+    /// A key, a block or an IV. Ruled out: 15 bytes taken; other than 16 told as no hex.
+    pub fn sixteen(&mut self) -> Result<[u8; 16], Reason>
+        ensures sixteen { result ≡ sixteen_of (hex_taken (word_of self.old.words.rest.now)) }
+        ensures left { self.new.words.rest.now ≡ left_of self.old.words.rest.now }
+    {
         sixteen(self.wanted()?)
     }
 
-    /// A key, or `-` for none.
-    pub fn sixteen_or_none(&mut self) -> Result<Option<[u8; 16]>, Reason> {
+    /// A key, or `-` for none. Ruled out: none for a field that is no hex; `-` told as no hex.
+    pub fn sixteen_or_none(&mut self) -> Result<Option<[u8; 16]>, Reason>
+        ensures left { self.new.words.rest.now ≡ left_of self.old.words.rest.now }
+    {
         match self.wanted()? {
             b"-" => Ok(None),
             field => Ok(Some(sixteen(field)?)),
@@ -98,12 +111,16 @@ impl<'a> Fields<'a> {
 }
 
 // The bytes of a field, where they are N.
-fn array<const N: usize>(field: &[u8]) -> Result<Option<[u8; N]>, Reason> {
+fn array<const N: usize>(field: &[u8]) -> Result<Option<[u8; N]>, Reason>
+    ensures { result ≡ array_of N (hex_taken (Some field.now)) }
+{
     let bytes = Bytes::read(field)?;
     Ok(bytes.as_slice().try_into().ok())
 }
 
-fn sixteen(field: &[u8]) -> Result<[u8; 16], Reason> {
+fn sixteen(field: &[u8]) -> Result<[u8; 16], Reason>
+    ensures { result ≡ sixteen_of (hex_taken (Some field.now)) }
+{
     array(field)?.ok_or(Reason::NotSixteen)
 }
 
