@@ -1,6 +1,6 @@
 // The fields of a line, each taken as what it stands for. A line is refused for the number of its words, and then for
 // the first field from the left that can't be read.
-ghost use Rattle.std.specs.Prelude.{ℕ, ◌≡◌, ◌≤◌, length, option_map, IfOk, IfErr, Some, None, Ok, Err, take};
+ghost use Rattle.std.specs.Prelude.{ℕ, ◌≡◌, ◌≤◌, length, option_map, IfOk, IfErr, IfSome, IfNone, Some, None, Ok, Err, take, [], ◌∷◌};
 ghost use Rattle.console.specs.declared.reason.Reason.TheVariants.{WordMissing};
 ghost use Rattle.console.specs.Words.{word_of, left_of};
 ghost use Rattle.console.specs.Reasons.{room_read, number_read, room_asked, hex_taken, array_of, sixteen_of};
@@ -93,6 +93,10 @@ impl<'a> Fields<'a> {
 
     /// A key, or `-` for none. Ruled out: none for a field that is no hex; `-` told as no hex.
     pub fn sixteen_or_none(&mut self) -> Result<Option<[u8; 16]>, Reason>
+        ensures none { word_of self.old.words.rest.now ≡ Some (45 ∷ []) → result ≡ Ok None }
+        ensures dash { IfOk result (λ k. IfNone k (word_of self.old.words.rest.now ≡ Some (45 ∷ []))) }
+        ensures key { IfOk result (λ k. IfSome k (λ b. sixteen_of (hex_taken (word_of self.old.words.rest.now)) ≡ Ok b)) }
+        ensures fault { IfErr result (λ r. sixteen_of (hex_taken (word_of self.old.words.rest.now)) ≡ Err r) }
         ensures left { self.new.words.rest.now ≡ left_of self.old.words.rest.now }
     {
         match self.wanted()? {
