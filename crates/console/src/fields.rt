@@ -1,6 +1,7 @@
 // The fields of a line, each taken as what it stands for. A line is refused for the number of its words, and then for
 // the first field from the left that can't be read.
-ghost use Rattle.std.specs.Prelude.{ℕ, ◌≡◌, ◌≤◌, length, option_map, IfOk, IfErr, IfSome, IfNone, Some, None, Ok, Err, take, [], ◌∷◌};
+ghost use Rattle.std.specs.Prelude.{ℕ, ◌≡◌, ◌≤◌, length, option_map, IfOk, IfErr, IfSome, IfNone, Some, None};
+ghost use Rattle.std.specs.Prelude.{Ok, Err, take, [], ◌∷◌};
 ghost use Rattle.console.specs.declared.reason.Reason.TheVariants.{WordMissing};
 ghost use Rattle.console.specs.Words.{word_of, left_of};
 ghost use Rattle.console.specs.Reasons.{room_read, number_read, room_asked, hex_taken, array_of, sixteen_of};
