@@ -16,7 +16,7 @@ module _ (s : List ℕ) where
       → (Some (take (n + 1 + m - n) (drop n s)) ≡ word_at s (Some n)) × (drop (n + 1 + m) s ≡ left_at s (Some n))
   at n m q f g =
       let e : m ≡ unwrap_or (position blank (drop (n + 1) s)) (length (drop (n + 1) s)) =
-        g ∙ ap (λ (o : Option ℕ). unwrap_or o (length (drop (n + 1) s))) f in
+      g ∙ ap (λ (o : Option ℕ). unwrap_or o (length (drop (n + 1) s))) f in
       (ap (λ (k : ℕ). Some (take (n + 1 + k - n) (drop n s))) e, ap (λ (k : ℕ). drop (n + 1 + k) s) e)
 
   pub behind : (n : ℕ) → take (length s - n) (drop n s) ≡ drop n s

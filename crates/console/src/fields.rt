@@ -96,7 +96,8 @@ impl<'a> Fields<'a> {
     pub fn sixteen_or_none(&mut self) -> Result<Option<[u8; 16]>, Reason>
         ensures none { word_of self.old.words.rest.now ≡ Some (45 ∷ []) → result ≡ Ok None }
         ensures dash { IfOk result (λ k. IfNone k (word_of self.old.words.rest.now ≡ Some (45 ∷ []))) }
-        ensures key { IfOk result (λ k. IfSome k (λ b. sixteen_of (hex_taken (word_of self.old.words.rest.now)) ≡ Ok b)) }
+        ensures key { IfOk result (λ k. IfSome k (λ b.
+            sixteen_of (hex_taken (word_of self.old.words.rest.now)) ≡ Ok b)) }
         ensures fault { IfErr result (λ r. sixteen_of (hex_taken (word_of self.old.words.rest.now)) ≡ Err r) }
         ensures left { self.new.words.rest.now ≡ left_of self.old.words.rest.now }
     {

@@ -31,6 +31,7 @@ impl<'a> Iterator for Words<'a> {
     type Item = &'a [u8];
 
     ghost remaining = { λ words. at_most (length words.rest.now) };
+
     ghost next_gives = { λ before out after. (option_map (λ w. w.now) out ≡ word_of before.rest.now)
         × (after.rest.now ≡ left_of before.rest.now) };
 
