@@ -39,7 +39,7 @@ impl Line {
         self.length = 0;
         match self.room.get(..length) {
             Some(line) => desk.answer(rt, line),
-            None => println!(rt; "error: {}", Reason::LineOver),
+            None => over(rt),
         }
     }
 }
@@ -75,16 +75,32 @@ pub fn lines(rt: &(impl Input + Print + RandomSource)) -> io::Result<()> {
     line.end(rt, &mut desk) // the last line may have no end
 }
 
-/// The commands of a script, each line shown before its answer, behind a mark where it is a command.
-pub fn script(rt: &(impl Print + RandomSource), script: &str) -> io::Result<()> {
+/// The commands of a script, each line shown before its answer, behind a mark where it is a command. A line over the
+/// limit is not shown, and what follows the last line's end is no line.
+pub fn script(rt: &(impl Print + RandomSource), text: &[u8]) -> io::Result<()> {
     let mut desk = Desk::empty();
-    for line in script.lines() {
-        let mark = match Words::of(line.as_bytes()).next() {
-            Some(_) => "> ",
-            None => "",
+    for ended in text.split_inclusive(|b| *b == b'\n') {
+        let Some((b'\n', line)) = ended.split_last() else {
+            break;
         };
-        println!(rt; "{mark}{line}")?;
-        desk.answer(rt, line.as_bytes())?;
+        if line.len() <= LINE_LIMIT {
+            show(rt, line)?;
+            desk.answer(rt, line)?;
+        } else {
+            over(rt)?;
+        }
     }
     Ok(())
+}
+
+fn show(rt: &impl Print, line: &[u8]) -> io::Result<()> {
+    if Words::of(line).next().is_some() {
+        rt.write_all(b"> ")?;
+    }
+    rt.write_all(line)?;
+    rt.write_all(b"\n")
+}
+
+fn over(rt: &impl Print) -> io::Result<()> {
+    println!(rt; "error: {}", Reason::LineOver)
 }

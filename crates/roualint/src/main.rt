@@ -11,7 +11,7 @@ fn main(rt: HostRuntime) -> io::Result<()> {
         Err(FillError::NotPresent) => input::lines(&rt),
         Ok(n) if word[..n] == b"demo"[..] && !is_there(&rt, 2) => input::script(
             &rt,
-            texts::demo::SCRIPT,
+            texts::demo::SCRIPT.as_bytes(),
         ),
         _ => {
             println!(rt;
