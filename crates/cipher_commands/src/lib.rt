@@ -1,7 +1,7 @@
 // The cipher's commands: aes, cbc, cmac.
 #![tactic(auto)]
 
-use console::answer::Hex;
+use console::answer::{Decimal, Hex};
 use console::bytes::{Bytes, FIELD_LIMIT};
 use console::fields::Fields;
 use console::reason::{Fault, Reason};
@@ -81,6 +81,6 @@ pub fn cmac(rt: &impl Print, words: Words<'_>) -> Result<(), Fault> {
 fn told(rt: &impl Print, done: Result<(), ChainingFault>, written: &[u8]) -> io::Result<()> {
     match done {
         Ok(()) => println!(rt; "out {}", Hex(written)),
-        Err(fault) => println!(rt; "refused {}", u8::from(fault)),
+        Err(fault) => println!(rt; "refused {}", Decimal(u8::from(fault).into())),
     }
 }

@@ -1,6 +1,7 @@
 // The bench's commands: which one a line is, and what is kept from one to the next.
 #![tactic(auto)]
 
+use console::answer::at_once;
 use console::fields::Fields;
 use console::reason::{Fault, Reason};
 use console::words::Words;
@@ -67,6 +68,6 @@ fn explained(rt: &impl Print, words: Words<'_>) -> Result<(), Fault> {
 
 fn helped(rt: &impl Print, words: Words<'_>) -> Result<(), Fault> {
     Fields::exactly(words, 0)?;
-    println!(rt; "{}", explain::COMMANDS)?;
+    at_once(rt, explain::COMMANDS)?;
     Ok(())
 }

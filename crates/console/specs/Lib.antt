@@ -2,3 +2,4 @@
 pub mod Reasons
 pub mod Counts
 pub mod Words
+pub mod Shown

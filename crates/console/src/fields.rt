@@ -33,7 +33,8 @@ impl<'a> Fields<'a> {
         ensures { (n : ℕ) × (n ≤ length words.entry.rest.now)
             × (result ≡ counted n least most (fields_of words.entry)) }
     {
-        let count = words.count();
+        // (A line of very many words is gone through no further than tells.)
+        let count = words.take(most.saturating_add(1)).count();
         if count < least {
             return Err(Reason::WordMissing);
         }

@@ -3,7 +3,7 @@
 
 mod orders; // orders.rt: the messages to build
 
-use console::answer::Hex;
+use console::answer::{Decimal, Hex};
 use console::fields::Fields;
 use console::reason::{Fault, Reason};
 use console::words::Words;
@@ -46,7 +46,7 @@ impl Reader {
         };
         match made {
             Ok(n) => println!(rt; "message {}", Hex(octets::front(&room, n)))?,
-            Err(fault) => println!(rt; "refused {}", u8::from(fault))?,
+            Err(fault) => println!(rt; "refused {}", Decimal(u8::from(fault).into()))?,
         }
         Ok(())
     }
@@ -66,7 +66,7 @@ impl Reader {
 fn told(rt: &impl Print, judgement: Result<Accepted, ReaderFault>, room: &[u8]) -> io::Result<()> {
     match judgement {
         Ok(accepted) => accepted_told(rt, accepted, room),
-        Err(fault) => println!(rt; "refused {}", u8::from(fault)),
+        Err(fault) => println!(rt; "refused {}", Decimal(u8::from(fault).into())),
     }
 }
 

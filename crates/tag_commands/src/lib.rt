@@ -1,7 +1,7 @@
 // The soft tag's commands: sheet, area, areas, power, message.
 #![tactic(auto)]
 
-use console::answer::Hex;
+use console::answer::{Decimal, Hex, at_once};
 use console::bytes::{Bytes, FIELD_LIMIT};
 use console::fields::{Fields, room};
 use console::reason::{Fault, Reason};
@@ -48,7 +48,11 @@ impl Place {
     pub fn sheet(&mut self, rt: &impl Print, words: Words<'_>) -> Result<(), Fault> {
         let sheet = Fields::exactly(words, 1)?.bytes()?;
         match bench::cursor::read(sheet.as_slice()) {
-            Err(SheetRefusal { fault, at }) => println!(rt; "refused {} at {at}", u8::from(fault))?,
+            Err(SheetRefusal { fault, at }) => {
+                let number = Decimal(u8::from(fault).into());
+                // (No place in a field's bytes is as far as 65,536.)
+                println!(rt; "refused {number} at {}", Decimal((at % 65536) as u16))?
+            }
             Ok(reading) => {
                 *self = Place::set_up(
                     reading.terms,
@@ -74,10 +78,13 @@ impl Place {
 
     pub fn areas(&self, rt: &impl Print, words: Words<'_>) -> Result<(), Fault> {
         Fields::exactly(words, 0)?;
-        println!(rt;
-            "area 0 {} area 1 {}",
-            Hex(self.identity.as_slice()),
-            Hex(self.user.as_slice())
+        at_once(
+            rt,
+            format_args!(
+                "area 0 {} area 1 {}",
+                Hex(self.identity.as_slice()),
+                Hex(self.user.as_slice())
+            ),
         )?;
         Ok(())
     }
@@ -97,17 +104,36 @@ impl Place {
         let mut fields = Fields::between(words, 1, 3)?;
         let message = fields.bytes()?;
         let given = given_draws(fields.word())?;
-        let mut room = Bytes::<FIELD_LIMIT>::zeros(reply_room(fields.word())?);
+        let room = reply_room(fields.word())?;
+        if self.tag.is_none() {
+            return Err(Fault::from(Reason::NoTag));
+        }
+        self.sent(rt, message.as_slice(), given, room)
+    }
+
+    // (A function of its own, so that its rooms are made where there is a tag alone.)
+    fn sent(
+        &mut self,
+        rt: &(impl Print + RandomSource),
+        message: &[u8],
+        given: Option<Bytes<FIELD_LIMIT>>,
+        room: usize,
+    ) -> Result<(), Fault> {
         let tag = self.tag.as_mut().ok_or(Reason::NoTag)?;
-        let draws = match given {
-            Some(draws) => draws,
-            None => random_draws(rt)?,
+        let mut drawn = [0; 10];
+        let draws = match &given {
+            Some(draws) => draws.as_slice(),
+            None => {
+                drawn = random_draws(rt)?;
+                &drawn
+            }
         };
+        let mut room = Bytes::<FIELD_LIMIT>::zeros(room);
         let outcome = bench::step(
             tag,
             self.keys.as_slice(),
-            message.as_slice(),
-            draws.as_slice(),
+            message,
+            draws,
             room.as_mut_slice(),
             self.identity.as_mut_slice(),
             self.user.as_mut_slice(),
@@ -125,10 +151,10 @@ fn given_draws(field: Option<&[u8]>) -> Result<Option<Bytes<FIELD_LIMIT>>, Reaso
     }
 }
 
-fn random_draws(rt: &impl RandomSource) -> Result<Bytes<FIELD_LIMIT>, Reason> {
+fn random_draws(rt: &impl RandomSource) -> Result<[u8; 10], Reason> {
     let mut draws = [0; 10];
     match rt.fill_bytes(&mut draws) {
-        Ok(()) => Ok(Bytes::of(&draws)),
+        Ok(()) => Ok(draws),
         Err(_) => Err(Reason::NoRandom),
     }
 }

@@ -1,7 +1,7 @@
 // What a message came to, in words: its reply or its number, the state after it, and the Purpose.
 #![tactic(auto)]
 
-use console::answer::Hex;
+use console::answer::{Decimal, Hex};
 use entry::State;
 use offer::{Answer, Outcome};
 use std::io;
@@ -16,8 +16,10 @@ pub fn outcome(rt: &impl Print, outcome: Outcome, state: State, room: &[u8]) -> 
                 Hex(octets::front(room, n))
             )
         }
-        Ok(Answer::Entered(purpose)) => println!(rt; "reply - state {state} purpose {purpose}"),
-        Err(fault) => println!(rt; "refused {} state {state}", u8::from(fault)),
+        Ok(Answer::Entered(purpose)) => {
+            println!(rt; "reply - state {state} purpose {}", Decimal(purpose.into()))
+        },
+        Err(fault) => { println!(rt; "refused {} state {state}", Decimal(u8::from(fault).into())) },
     }
 }
 
