@@ -7,7 +7,7 @@ use mathlib.Core.Bool.{Bool, true, false}
 use mathlib.Core.List.{List, ◌++◌}
 use Prim.Native.Nat.{ℕ, ◌≤◌, ◌<◌}
 use native.Mathlib.Omega.{arith}
-use borrow.Author.Tests.{le-leb, leb-true, lt-ltb, eqb-true}
+use borrow.Author.Tests.{le-leb, lt-leb, leb-true, leb-false, lt-ltb, eqb-true}
 use lib.Dec.{eqb, leb}
 use lib.ListN.{length, drop}
 use Rattle.ground.specs.Choice.{pick, both}
@@ -41,6 +41,10 @@ decided fit t message room after answer e says holds = record {
   holds = holds ∙ ap (λ (b : Bool). pick b (over message room) room) e;
 }
 
+no_room : (fit : Bool) → both fit false ≡ false
+no_room true = refl
+no_room false = refl
+
 room_enough : (fit : Bool) → both fit true ≡ fit
 room_enough true = refl
 room_enough false = refl
@@ -56,6 +60,11 @@ let_in part n u a e w =
     chosen : (t : Bool) → a ≡ pick t (Ok tt) (Err OwnMessage) → a ≡ Ok u → t ≡ true
     chosen true e w = refl
     chosen false e w = cc
+
+pub short : (fit : Bool) (message room : List ℕ) → length room < message_room
+    → Makes fit message room (Err OwnMessage) room
+short fit message room h = decided fit false message room room (Err OwnMessage)
+    (sym (ap (both fit) (lt-leb message_room (length room) h) ∙ no_room fit)) refl refl
 
 pub unfit : (fit : Bool) (message room : List ℕ) → fit ≡ false → Makes fit message room (Err OwnMessage) room
 unfit fit message room e = decided fit false message room room (Err OwnMessage)
@@ -86,17 +95,16 @@ pub left_out : (part fit : Bool) (message room : List ℕ) (f : ReaderFault) (a 
     → a ≡ Err f → Makes fit message room (Err f) room
 left_out part fit message room f a h e w =
     let c = refused (both part (leb message_room (length room))) e w in
-    rw c.1 (decided fit false message room room (Err OwnMessage)
-    (sym (none part fit (leb message_room (length room)) h c.0)) refl refl)
+    rw c.1 (by_part part (leb message_room (length room)) c.0 h (leb-false message_room (length room)))
   where
     refused : (t : Bool) → a ≡ pick t (Ok tt) (Err OwnMessage) → a ≡ Err f → (t ≡ false) × (f ≡ OwnMessage)
     refused true e w = absurd (let w : ⊥ = cc in w)
     refused false e w = (refl, cc)
 
-    none : (p q l : Bool) → (p ≡ false → q ≡ false) → both p l ≡ false → both q l ≡ false
-    none true true l h e = e
-    none true false l h e = refl
-    none false q l h e = ap (λ (b : Bool). both b l) (h refl)
+    by_part : (p l : Bool) → both p l ≡ false → (p ≡ false → fit ≡ false) → (l ≡ false → length room < message_room)
+        → Makes fit message room (Err OwnMessage) room
+    by_part true l e h s = short fit message room (s e)
+    by_part false l e h s = unfit fit message room (h refl)
 
 -- the same message in other words
 pub in_words : (fit : Bool) (l message room after : List ℕ) (answer : Result ℕ ReaderFault) → l ≡ message
