@@ -7,13 +7,14 @@ use crate::source::Source;
 use std::collections::HashSet;
 use std::ops::Range;
 
-/// Those of the functions that the program calls, by their symbols.
+/// Those of the functions that the program calls, by their symbols; a generic one has a symbol for each of its uses.
 pub fn all(sources: &[Source], called: &HashSet<String>) -> Vec<Mutant> {
+    let called: HashSet<&str> = called.iter().filter_map(|symbol| symbol.split("::<").next()).collect();
     let names = Names::of(sources);
     let mut found = Vec::new();
     for (number, source) in sources.iter().enumerate() {
         let functions = source.functions.iter().enumerate();
-        for (place, function) in functions.filter(|(_, function)| called.contains(&source.symbol(function))) {
+        for (place, function) in functions.filter(|(_, function)| called.contains(source.symbol(function).as_str())) {
             let mut keep = |slip: Slip, range: Range<usize>, new: String| {
                 let (start, end) = (source.tokens[range.start].start, source.tokens[range.end - 1].end);
                 found.push(Mutant {

@@ -45,7 +45,8 @@ pub struct Mutant {
 }
 
 impl Mutant {
-    /// By what a reader finds it again, wherever it moves: the crate, the function, and its lines before and after.
+    /// By what a reader finds it again, wherever it moves: the crate, the function with its `impl` block, and its lines
+    /// before and after.
     pub fn title(&self, source: &Source) -> String {
         let mut first = line_start(&source.text, self.start);
         while source.text[first..].trim_start().starts_with("return") {
@@ -56,7 +57,7 @@ impl Mutant {
         let before = plain(&source.text[first..last]);
         let (left, right) = (&source.text[first..self.start], &source.text[self.end..last]);
         let after = plain(&format!("{left}{}{right}", self.new));
-        let name = &source.functions[self.function].name;
+        let name = source.functions[self.function].path();
         format!("`{}::{name}`: `{before}` -> `{after}`", source.of)
     }
 }

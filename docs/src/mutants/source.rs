@@ -7,15 +7,47 @@ use std::path::PathBuf;
 /// The clauses between a function's head and its body.
 const CLAUSES: [&str; 3] = ["requires", "ensures", "ghost"];
 
+/// An `impl` block; the range is of tokens.
+#[derive(Clone)]
+pub struct Block {
+    pub generics: Vec<String>,
+    /// The type.
+    pub of: Range<usize>,
+    pub by_trait: bool,
+    /// As the linker has it: `Tam2Reply`, `Bytes+FIELD_LIMIT`; for `From<Area>` of `u8` it is `U8FromArea`.
+    pub name: String,
+}
+
 /// A function; the ranges are of tokens.
 pub struct Function {
     pub name: String,
-    /// From the name to the contract: parameters and answer.
+    /// What it stands in.
+    pub block: Option<Block>,
+    pub generics: Vec<String>,
+    /// From there to the contract: parameters and answer.
     pub head: Range<usize>,
+    /// Their names; `self` is one.
     pub parameters: Vec<String>,
     pub answers: bool,
     /// Between the brackets.
     pub body: Range<usize>,
+}
+
+impl Function {
+    /// Its name, with that of its block.
+    pub fn path(&self) -> String {
+        match &self.block {
+            Some(block) => format!("{}::{}", block.name, self.name),
+            None => self.name.clone(),
+        }
+    }
+}
+
+/// The names of the types and the constants among generic parameters. Lifetimes are left out: no call names them.
+pub fn names(generics: &[String]) -> Vec<String> {
+    let named = generics.iter().filter(|parameter| !parameter.starts_with('\''));
+    let names = named.filter_map(|parameter| parameter.trim_start_matches("const ").split(':').next());
+    names.map(str::to_string).collect()
 }
 
 pub struct Source {
@@ -43,16 +75,23 @@ impl Source {
             numbers: Vec::new(),
             enums: Vec::new(),
         };
-        let mut at = 0;
-        while at < source.tokens.len() {
-            at = match source.word(at) {
-                "fn" => source.function(at),
-                "const" => source.constant(at),
-                "enum" => source.variants(at),
+        source.items(0..source.tokens.len(), None);
+        source
+    }
+
+    /// What stands in a file or in an `impl` block. Bodies that a trait has itself are left out: there are none.
+    fn items(&mut self, range: Range<usize>, block: Option<&Block>) {
+        let mut at = range.start;
+        while at < range.end {
+            at = match self.word(at) {
+                "fn" => self.function(at, block),
+                "impl" => self.block(at),
+                "trait" => self.behind(self.next(at, &["{"])),
+                "const" if !self.is_parameter(at) => self.constant(at),
+                "enum" => self.variants(at),
                 _ => at + 1,
             };
         }
-        source
     }
 
     /// The text of a token; nothing behind the last.
@@ -99,21 +138,86 @@ impl Source {
         place
     }
 
-    /// The name of a function of this file in the program: its crate, its modules, its own.
+    /// The name of a function of this file in the program: its crate, its modules, its block, its own. Of a generic one
+    /// the linker has more behind it, for each of its uses.
     pub fn symbol(&self, function: &Function) -> String {
         let stem = self.file.with_extension("");
         let modules = stem.iter().map(|part| part.to_string_lossy().into_owned());
         let mut path = vec![self.of.clone()];
         path.extend(modules.filter(|module| module != "lib" && module != "mod"));
-        path.push(function.name.clone());
+        path.push(function.path());
         path.join("::")
     }
 
-    fn function(&mut self, at: usize) -> usize {
-        let open = self.next(at, &["("]);
+    fn block(&mut self, at: usize) -> usize {
+        let (generics, start) = self.generics(at + 1);
+        let open = self.next(start, &["{"]);
+        let end = self.behind(open);
+        let by = (start..open).find(|place| self.word(*place) == "for");
+        let of = by.map_or(start, |by| by + 1)..open;
+        let name = self.block_name(&of, by.map(|by| start..by), &generics);
+        let block = Block {
+            generics,
+            of,
+            by_trait: by.is_some(),
+            name,
+        };
+        self.items(open + 1..end - 1, Some(&block));
+        end
+    }
+
+    /// How the linker names a block: by the words of the type, then by those of the trait, whose module it leaves out.
+    fn block_name(&self, of: &Range<usize>, by: Option<Range<usize>>, generics: &[String]) -> String {
+        let left_out = names(generics);
+        let words = |range: Range<usize>| -> Vec<&str> {
+            let words = range.filter(|at| self.is(*at, Sort::Word) && self.word(at - 1) != "'"); // no lifetime
+            let words = words.map(|at| self.word(at));
+            words.filter(|word| left_out.iter().all(|name| name != word)).collect()
+        };
+        let Some(mut by) = by else {
+            return words(of.clone()).join("+");
+        };
+        while self.word(by.start + 1) == "::" {
+            by.start += 2;
+        }
+        let words = [words(of.clone()), words(by)].concat();
+        words.iter().map(|word| word[..1].to_uppercase() + &word[1..]).collect()
+    }
+
+    /// The parameters in the angle brackets that open here, and the place behind these; none and here, where none open.
+    fn generics(&self, at: usize) -> (Vec<String>, usize) {
+        let mut found = Vec::new();
+        if self.word(at) != "<" {
+            return (found, at);
+        }
+        let (mut open, mut start, mut place) = (1, at + 1, at + 1);
+        while open > 0 && place < self.tokens.len() {
+            open += match self.word(place) {
+                "<" => 1,
+                ">" => -1,
+                ">>" => -2,
+                _ => 0,
+            };
+            if open == 0 || (open == 1 && self.word(place) == ",") {
+                let text = &self.text[self.tokens[start].start..self.tokens[place].end - 1];
+                found.extend((start < place).then(|| text.trim().to_string()));
+                start = place + 1;
+            }
+            place = self.behind(place);
+        }
+        (found, place)
+    }
+
+    /// Is this `const` a generic parameter's, as in `struct Challenged<const N: usize>`?
+    fn is_parameter(&self, at: usize) -> bool {
+        at > 0 && matches!(self.word(at - 1), "<" | ",")
+    }
+
+    fn function(&mut self, at: usize, block: Option<&Block>) -> usize {
+        let (generics, open) = self.generics(at + 2);
         let close = self.behind(open);
         let mut place = self.next(close, &["{", ";"]);
-        let head = at + 2..self.clause(place).unwrap_or(place);
+        let head = open..self.clause(place).unwrap_or(place);
         while self.clause(place).is_some() {
             place = self.next(self.behind(place), &["{", ";"]);
         }
@@ -121,6 +225,8 @@ impl Source {
         if self.word(place) == "{" {
             self.functions.push(Function {
                 name: self.word(at + 1).to_string(),
+                block: block.cloned(),
+                generics,
                 head,
                 parameters: self.parameters(open + 1..close - 1),
                 answers: self.word(close) == "->",
@@ -135,12 +241,15 @@ impl Source {
         [open - 1, open - 2].into_iter().find(|at| CLAUSES.contains(&self.word(*at)))
     }
 
+    /// Each name stands before its type; `self` has none.
     fn parameters(&self, range: Range<usize>) -> Vec<String> {
         let mut names = Vec::new();
         let mut place = range.start;
         while place < range.end {
-            names.push(self.word(place).to_string());
-            place = self.next(place, &[",", ")"]) + 1;
+            if self.word(place) == "self" || self.word(place + 1) == ":" {
+                names.push(self.word(place).to_string());
+            }
+            place = self.behind(place);
         }
         names
     }

@@ -2,7 +2,7 @@
 //! and the function itself begins by asking which mutant is played.
 
 use crate::mutant::Mutant;
-use crate::source::{Function, Source};
+use crate::source::{names, Block, Function, Source};
 
 /// What is asked, as a crate of its own; `played.c` answers.
 pub const ASKED: &str = "unsafe extern \"C\" {
@@ -35,7 +35,7 @@ impl Woven {
             let own: Vec<&Numbered> = mutants.iter().filter(|(_, mutant)| mutant.function == number).collect();
             let open = source.tokens[function.body.start - 1].end;
             text.push_str(&source.text[done..open]);
-            text.push_str(&question(function, &own));
+            text.push_str(&question(source, function, &own));
             done = open;
         }
         text.push_str(&source.text[done..]);
@@ -54,14 +54,41 @@ impl Woven {
     }
 }
 
+/// The block whose type has the copies of a function, in a block without a trait. Copies of a trait's function that has
+/// neither `self` nor `Self` are free functions, since its type may be another crate's, such as `u8`. A method of such
+/// a type would be refused; there is none.
+fn block<'a>(source: &Source, function: &'a Function) -> Option<&'a Block> {
+    let mut words = (function.head.start..function.body.end).map(|at| source.word(at));
+    let own = words.any(|word| matches!(word, "self" | "Self"));
+    function.block.as_ref().filter(|block| own || !block.by_trait)
+}
+
+/// The generic parameters of the copies of a function: outside its block they have the block's too.
+fn generics(source: &Source, function: &Function) -> Vec<String> {
+    let outside = function.block.iter().filter(|_| block(source, function).is_none());
+    let outer = outside.flat_map(|block| block.generics.clone());
+    outer.chain(function.generics.clone()).collect()
+}
+
+/// In angle brackets behind these marks; nothing where there are none.
+fn angled(marks: &str, parts: &[String]) -> String {
+    match parts.is_empty() {
+        true => String::new(),
+        false => format!("{marks}<{}>", parts.join(", ")),
+    }
+}
+
 /// What a function that has mutants asks first.
-fn question(function: &Function, mutants: &[&Numbered]) -> String {
+fn question(source: &Source, function: &Function, mutants: &[&Numbered]) -> String {
     let (Some((first, _)), Some((last, _))) = (mutants.first(), mutants.last()) else {
         return String::new();
     };
+    let of = block(source, function).map_or("", |_| "Self::");
+    let kinds = angled("::", &names(&generics(source, function)));
+    let given = function.parameters.join(", ");
     let mut asked = format!(" let played = {ASKS}::played(); if {first} <= played {{ if played <= {last} {{");
     for (number, _) in mutants {
-        let call = format!("{}__{number}({})", function.name, function.parameters.join(", "));
+        let call = format!("{of}{}__{number}{kinds}({given})", function.name);
         let left = if function.answers {
             format!("return {call};")
         } else {
@@ -78,6 +105,14 @@ fn copy(source: &Source, mutant: &Mutant, number: usize) -> String {
     let (open, close) = (function.body.start - 1, function.body.end);
     let before = &source.text[source.tokens[open].start..mutant.start];
     let after = &source.text[mutant.end..source.tokens[close].end];
-    let head = source.between(&function.head);
-    format!("\nfn {}__{number}{head} {before}{}{after}\n", function.name, mutant.new)
+    let (generics, head) = (angled("", &generics(source, function)), source.between(&function.head));
+    let name = format!("{}__{number}", function.name);
+    let copy = format!("fn {name}{generics}{head} {before}{}{after}", mutant.new);
+    match block(source, function) {
+        Some(block) => {
+            let (generics, of) = (angled("", &block.generics), source.between(&block.of));
+            format!("\nimpl{generics} {of} {{ {copy} }}\n")
+        }
+        None => format!("\n{copy}\n"),
+    }
 }
