@@ -10,6 +10,7 @@ use lib.Dec.{eqb}
 use lib.ListN.{length, take, drop, length-append}
 use lib.Seq.{length-take-le}
 use Rattle.ground.specs.Choice.{pick, both, implies}
+use Rattle.memory.specs.declared.BlockSize.{BlockSize}
 use Rattle.frames.specs.declared.Custom.{Custom}
 use Rattle.frames.specs.Blocks.{header_length, header_part, data_length, carried, blocks_length}
 use Rattle.frames.specs.Built.{Built}
@@ -81,10 +82,11 @@ unfolding header_fits
 no_header rev c p r = ap (λ (x : Bool). implies x (both (custom_fits c)
     (same (take (header_length c.blocksize) p) (header_of c)))) (sym r)
 
-pub part_bound : (rev : Bool) (c : Custom) → header_part c.blocksize rev ≤ 8
+-- what stands before the data is eight bytes at most, whatever it was counted from
+pub part_bound : (s : BlockSize) (header : Bool) (n : ℕ) → n ≡ header_part s header → n ≤ 8
 unfolding header_part
-part_bound true c = header_bound c.blocksize
-part_bound false c = omega arith
+part_bound s true n e = omega (arith, e, header_bound s)
+part_bound s false n e = omega (arith, e)
 
 pub part_long : (rev : Bool) (c : Custom) → length (pick rev (header_of c) []) ≡ header_part c.blocksize rev
 unfolding header_part

@@ -81,8 +81,8 @@ pub fn carried_into(rev: bool, custom: Custom, words: &[u8], room: &mut [u8]) ->
     if room.len() < n {
         return None;
     }
-    let h = header_part(size, rev);
-    lay(&mut room[..n], &header[..h], words);
+    let header_end = header_part(size, rev);
+    lay(&mut room[..n], &header[..header_end], words);
     Some(n)
 }
 

@@ -31,25 +31,25 @@ slice_bounds-lay-end-2 c = sym (length-take-le c.blocks_length-n.result
 
 pub slice_bounds-header-end : goal.slice_bounds-header-end
 slice_bounds-header-end c =
-    omega (arith, part_bound c.args.rev c.args.custom, c.header_part-h.ensures)
+    omega (arith, part_bound _ _ _ c.header_part-header_end.ensures)
 
 pub slice_bounds-lay-end-3 : goal.slice_bounds-lay-end-3
 slice_bounds-lay-end-3 c =
-    sym (length-take-le c.header_part-h.result
+    sym (length-take-le c.header_part-header_end.result
     c.header_into.new.room
-    (omega (arith, part_bound c.args.rev c.args.custom, c.header_part-h.ensures)))
+    (omega (arith, part_bound _ _ _ c.header_part-header_end.ensures)))
 
 pub lay-requires : goal.lay-requires
 lay-requires c =
-    let t = length-take-le c.header_part-h.result c.header_into.new.room
-    (omega (arith, part_bound c.args.rev c.args.custom, c.header_part-h.ensures)) in
+    let t = length-take-le c.header_part-header_end.result c.header_into.new.room
+    (omega (arith, part_bound _ _ _ c.header_part-header_end.ensures)) in
     let u = length-take-le c.blocks_length-n.result c.args.room.now (omega arith) in
     omega (
       arith,
       t,
       u,
       blocks_hold c.args.rev c.args.custom,
-      c.header_part-h.ensures,
+      c.header_part-header_end.ensures,
       c.data_length.ensures,
       c.blocks_length-n.ensures,
     )
@@ -57,7 +57,7 @@ lay-requires c =
 pub returns : goal.returns
 returns c =
     let i = c.header_into in
-    let h = c.header_part-h in
+    let h = c.header_part-header_end in
     let n = c.blocks_length-n in
     carried_built c.args.rev c.args.custom c.args.words.now
     (omega (
