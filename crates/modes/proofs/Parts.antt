@@ -11,8 +11,9 @@ use Rattle.field.proofs.Block.{first_block_is}
 use Rattle.modes.specs.Blocks.{whole_blocks, joined}
 use Rattle.modes.specs.Cbc.{cbc_enc, cbc_dec}
 use Rattle.modes.specs.Room.{over}
-use Rattle.modes.specs.Forms.{outputs, handed}
+use Rattle.modes.specs.Forms.{outputs, handed, xor_sixteen}
 use Rattle.modes.proofs.Chains.{over_both, onward}
+use Rattle.modes.proofs.Forms.{enc_outputs, dec_outputs}
 use Rattle.modes.proofs.Whole.{joined_append, whole_parts, whole_last, whole_count}
 
 -- A form of chaining, block by block: the output block, of what the input block is chained to and of itself; and what
@@ -205,39 +206,8 @@ module _ (G : List ℕ → List (List ℕ) → List (List ℕ)) (f : Form G) whe
           (omega (arith, length-append (take at room) (last ++ behind), length-append last behind, lt, all))
           ∙ read ∙ last_is ∙ sym (hands_last ∙ same _ _)
 
--- ---- the two forms, each by what the loop over the parts reads
-
-module _ (F : List ℕ → List ℕ) (s : List ℕ) (at end : ℕ) (w : (end - at) % 16 ≡ 0) (long : at + 16 ≤ end)
-    (h : end ≤ length s) (chained room last next : List ℕ) (k : length s ≤ length room) where
-  pub enc_part : ((b : List ℕ) → length (F b) ≡ 16)
-      → last ≡ over (joined (cbc_enc F chained (whole_blocks (take (end - at) (drop at s)))))
-      (take (end - at) (drop at room))
-      → next ≡ first_block (take (end - (end - 16)) (drop (end - 16)
-      (take at room ++ (last ++ drop (end - at) (drop at room)))))
-      → onward (cbc_enc F) s end next (take at room ++ (last ++ drop (end - at) (drop at room)))
-      ≡ onward (cbc_enc F) s at chained room
-  unfolding enc_form
-  enc_part sixteen done read =
-      let f = enc_form F sixteen in
-      let p : at + (end - at) ≡ end = omega arith in
-      part_chained (cbc_enc F) f s at end (end - at) p w h chained room last k done next
-      (read ∙ hands_output (cbc_enc F) f s at end (end - at) p w h chained room last k done (omega arith)
-      (end - (end - 16)) (omega arith) (λ iv b. refl))
-
-  pub dec_part : last ≡ over (joined (cbc_dec F chained (whole_blocks (take (end - at) (drop at s)))))
-      (take (end - at) (drop at room))
-      → next ≡ first_block (take (end - (end - 16)) (drop (end - 16) s))
-      → onward (cbc_dec F) s end next (take at room ++ (last ++ drop (end - at) (drop at room)))
-      ≡ onward (cbc_dec F) s at chained room
-  unfolding dec_form
-  dec_part done read =
-      let f = dec_form F in
-      let p : at + (end - at) ≡ end = omega arith in
-      part_chained (cbc_dec F) f s at end (end - at) p w h chained room last k done next
-      (read ∙ hands_input (cbc_dec F) f s at end (end - at) p w h chained room last k done (omega arith)
-      (end - (end - 16)) (omega arith) (λ iv b. refl))
-
--- a part chained in its own place, for the loop: what it handed on is what the rest is chained to
+-- ---- a part from `at` to `end`, chained in its own place, for a loop over the parts: what the part hands on is what
+-- the rest is chained to. The code's loop is over any form, and cites this.
 pub next_part : (out on : List ℕ → List ℕ → List ℕ) → ((iv i : List ℕ) → length (out iv i) ≡ 16) → (s : List ℕ)
     (at end : ℕ) → (end - at) % 16 ≡ 0 → at + 16 ≤ end → end ≤ length s → (chained room last next : List ℕ)
     → length s ≤ length room
@@ -250,6 +220,72 @@ unfolding form_of
 next_part out on sixteen s at end w long h chained room last next k done e =
     let p : at + (end - at) ≡ end = omega arith in
     part_chained (outputs out on) (form_of out on sixteen) s at end (end - at) p w h chained room last k done next e
+
+-- It at the two forms of the standard, over any way of a cipher; and the same where what a part hands on is read again,
+-- as its last block: of the room in the ENC form, of the input in the DEC form.
+module _ (F : List ℕ → List ℕ) (s : List ℕ) (at end : ℕ) (w : (end - at) % 16 ≡ 0) (long : at + 16 ≤ end)
+    (h : end ≤ length s) (chained room last next : List ℕ) (k : length s ≤ length room) where
+  module _ (sixteen : (b : List ℕ) → length (F b) ≡ 16)
+      (done : last ≡ over (joined (cbc_enc F chained (whole_blocks (take (end - at) (drop at s)))))
+      (take (end - at) (drop at room))) where
+    pub enc_part : next ≡ handed (λ iv b. F (xor b iv)) chained (whole_blocks (take (end - at) (drop at s)))
+        → onward (cbc_enc F) s end next (take at room ++ (last ++ drop (end - at) (drop at room)))
+        ≡ onward (cbc_enc F) s at chained room
+    enc_part e =
+        let a : List ℕ → List ℕ → List ℕ = λ iv b. F (xor b iv) in
+        let is_at : (iv : List ℕ) (bs : List (List ℕ)) → outputs a a iv bs ≡ cbc_enc F iv bs =
+        λ iv bs. enc_outputs (λ key. F) [] bs iv in
+        let part = take (end - at) (drop at s) in
+        let after = take at room ++ (last ++ drop (end - at) (drop at room)) in
+        let front = take (end - at) (drop at room) in
+        let before : last ≡ over (joined (outputs a a chained (whole_blocks part))) front =
+        done ∙ ap (λ (bs : List (List ℕ)). over (joined bs) front)
+        (sym (is_at chained (whole_blocks part))) in
+        ap (λ (bs : List (List ℕ)). take end after ++ over (joined bs) (drop end after))
+        (sym (is_at next (whole_blocks (drop end s))))
+        ∙ next_part a a (λ iv b. sixteen (xor b iv)) s at end w long h chained room last next k before e
+        ∙ ap (λ (bs : List (List ℕ)). take at room ++ over (joined bs) (drop at room))
+        (is_at chained (whole_blocks (drop at s)))
+
+    pub enc_part_read : next ≡ first_block (take (end - (end - 16)) (drop (end - 16)
+        (take at room ++ (last ++ drop (end - at) (drop at room)))))
+        → onward (cbc_enc F) s end next (take at room ++ (last ++ drop (end - at) (drop at room)))
+        ≡ onward (cbc_enc F) s at chained room
+    unfolding enc_form
+    enc_part_read read =
+        let p : at + (end - at) ≡ end = omega arith in
+        enc_part (read ∙ hands_output (cbc_enc F) (enc_form F sixteen) s at end (end - at) p w h chained room last k
+        done (omega arith) (end - (end - 16)) (omega arith) (λ iv b. refl))
+
+  module _ (done : last ≡ over (joined (cbc_dec F chained (whole_blocks (take (end - at) (drop at s)))))
+      (take (end - at) (drop at room))) where
+    pub dec_part : next ≡ handed (λ iv b. b) chained (whole_blocks (take (end - at) (drop at s)))
+        → onward (cbc_dec F) s end next (take at room ++ (last ++ drop (end - at) (drop at room)))
+        ≡ onward (cbc_dec F) s at chained room
+    dec_part e =
+        let a : List ℕ → List ℕ → List ℕ = λ iv b. xor (F b) iv in
+        let is_at : (iv : List ℕ) (bs : List (List ℕ)) → outputs a (λ iv b. b) iv bs ≡ cbc_dec F iv bs =
+        λ iv bs. dec_outputs (λ key. F) [] bs iv in
+        let part = take (end - at) (drop at s) in
+        let after = take at room ++ (last ++ drop (end - at) (drop at room)) in
+        let front = take (end - at) (drop at room) in
+        let before : last ≡ over (joined (outputs a (λ iv b. b) chained (whole_blocks part))) front =
+        done ∙ ap (λ (bs : List (List ℕ)). over (joined bs) front)
+        (sym (is_at chained (whole_blocks part))) in
+        ap (λ (bs : List (List ℕ)). take end after ++ over (joined bs) (drop end after))
+        (sym (is_at next (whole_blocks (drop end s))))
+        ∙ next_part a (λ iv b. b) (λ iv b. xor_sixteen (F b) iv) s at end w long h chained room last next k before e
+        ∙ ap (λ (bs : List (List ℕ)). take at room ++ over (joined bs) (drop at room))
+        (is_at chained (whole_blocks (drop at s)))
+
+    pub dec_part_read : next ≡ first_block (take (end - (end - 16)) (drop (end - 16) s))
+        → onward (cbc_dec F) s end next (take at room ++ (last ++ drop (end - at) (drop at room)))
+        ≡ onward (cbc_dec F) s at chained room
+    unfolding dec_form
+    dec_part_read read =
+        let p : at + (end - at) ≡ end = omega arith in
+        dec_part (read ∙ hands_input (cbc_dec F) (dec_form F) s at end (end - at) p w h chained room last k done
+        (omega arith) (end - (end - 16)) (omega arith) (λ iv b. refl))
 
 -- What holds before each part: the blocks before `at` are done, and those from there on, chained to `chained`, complete
 -- the chain.
