@@ -9,12 +9,13 @@ use Prim.Native.Nat.{ℕ, ◌+◌, ◌*◌, ◌-◌, ◌/◌, ◌%◌, ◌≤◌
 use native.Mathlib.Nat.{min-le_left}
 use native.Mathlib.Omega.{arith}
 use borrow.Author.Tests.{lt-ltb}
-use lib.ListN.{length, get_or, take, drop, replicate, length-drop, length-take}
+use lib.ListN.{length, get_or, take, drop, length-drop, length-take}
 use lib.Seq.{length-take-le}
 use Rattle.ground.specs.Bytes.{Bytes}
 use Rattle.ground.specs.Choice.{pick, both}
 use Rattle.field.specs.Block.{first_block}
 use Rattle.field.proofs.Block.{first_block_is}
+use Rattle.memory.specs.declared.BlockSize.{BlockSize}
 use Rattle.aes_inverse.specs.AesDec.{aes_dec}
 use Rattle.modes.specs.Blocks.{whole_blocks}
 use Rattle.modes.specs.Room.{Into, chains, over}
@@ -50,98 +51,99 @@ use Rattle.reader_judge.proofs.Judging.{judges, judges_as}
 
 -- ---- lengths
 
-words_most : (rev : Bool) (c : Custom) (p : List ℕ) → custom_fits c ≡ true → length (words_in rev c p) ≤ 144
+-- a reply of its length has the authentication block and the data before the MAC
+pub mac_place : (s : BlockSize) (rev : Bool) (n : ℕ) (mode : ProtMode) (k : ℕ) → k ≡ tam2_reply_length s rev n mode
+    → tam2_mac_at s rev n ≤ k
+unfolding tam2_reply_length
+mac_place s rev n mode k e = omega (arith, e)
+
+pub data_place : (s : BlockSize) (rev : Bool) (n : ℕ) (mode : ProtMode) (k : ℕ) → k ≡ tam2_reply_length s rev n mode
+    → 16 + blocks_length s rev n ≤ k
+unfolding tam2_mac_at
+data_place s rev n mode k e = mac_place s rev n mode k e
+
+pub words_most : (rev : Bool) (c : Custom) (p : List ℕ) → custom_fits c ≡ true → length (words_in rev c p) ≤ 144
 unfolding words_in
 words_most rev c p fit =
     let n = data_length c.blocksize c.blockcount in
     let rest = drop (header_part c.blocksize rev) p in
     omega (arith, length-take n rest, min-le_left n (length rest), blocks_hold rev c, blocks_fit rev c fit)
 
+-- so that a data room has them
+pub words_held : (rev : Bool) (c : Custom) (p words room : List ℕ) → custom_fits c ≡ true → words ≡ words_in rev c p
+    → 144 ≤ length room → length words ≤ length room
+words_held rev c p words room fit e h = omega (arith, ap length e, words_most rev c p fit)
+
 abbrev blocks_of : Tam2 → ℕ
 blocks_of f = blocks_length f.custom.blocksize f.rev f.custom.blockcount
 
--- ---- what is opened of a reply of its length
+-- ---- what is opened of a reply that has the blocks
 
-module _ (s : Tam2Reply) where
-  -- the MAC stands behind the authentication block and the data
-  pub mac_place : tam2_mac_at s.f.custom.blocksize s.f.rev s.f.custom.blockcount ≤ length s.reply.now
-  unfolding tam2_reply_length
-  mac_place = omega (arith, s.whole)
+module _ (keys : Keys) (mode : ProtMode) (f : Tam2) (reply : List ℕ) (h : 16 + blocks_of f ≤ length reply) where
+  sent_long : length (data_sent f reply) ≡ blocks_of f
+  sent_long = length-take-le _ (drop 16 reply) (omega (arith, length-drop 16 reply))
 
-  pub data_place : 16 + blocks_of s.f ≤ length s.reply.now
-  unfolding tam2_mac_at
-  data_place = omega (arith, mac_place)
+  sent_whole : length (data_sent f reply) % 16 ≡ 0
+  sent_whole = omega (arith, sent_long, blocks_whole f.custom.blocksize f.rev f.custom.blockcount)
 
-  -- a data room has the blocks, and their data
-  pub blocks_held : blocks_of s.f ≤ 144
-  blocks_held = blocks_fit s.f.rev s.f.custom s.fits
-
-  pub words_held : (p words : List ℕ) → words ≡ words_in s.f.rev s.f.custom p → length words ≤ 144
-  words_held p words e = omega (arith, ap length e, words_most s.f.rev s.f.custom p s.fits)
-
-  sent_long : length (data_sent s.f s.reply.now) ≡ blocks_of s.f
-  sent_long = length-take-le _ (drop 16 s.reply.now) (omega (arith, length-drop 16 s.reply.now, data_place))
-
-  sent_whole : length (data_sent s.f s.reply.now) % 16 ≡ 0
-  sent_whole = omega (arith, sent_long, blocks_whole s.f.custom.blocksize s.f.rev s.f.custom.blockcount)
-
-  opened_long : length (opened_data s.keys s.mode s.f s.reply.now) ≡ blocks_of s.f
+  pub opened_long : length (opened_data keys mode f reply) ≡ blocks_of f
   unfolding opened_data cbc_dec_aes_inv
   opened_long =
-      picked (encrypts s.mode) _ _
-      (dec_joined (aes_dec s.keys.enc) (whole_blocks (data_sent s.f s.reply.now)) (take 16 s.reply.now)
-      ∙ omega (arith, whole_count (data_sent s.f s.reply.now), sent_whole, sent_long)) sent_long
+      picked (encrypts mode) _ _
+      (dec_joined (aes_dec keys.enc) (whole_blocks (data_sent f reply)) (take 16 reply)
+      ∙ omega (arith, whole_count (data_sent f reply), sent_whole, sent_long)) sent_long
     where
       picked : {n : ℕ} (t : Bool) (a b : List ℕ) → length a ≡ n → length b ≡ n → length (pick t a b) ≡ n
       picked true a b p q = p
       picked false a b p q = q
 
-  module _ (n : ℕ) (e : n ≡ blocks_of s.f) where
+  -- into a room that has them
+  module _ (r : ℕ) (room : List ℕ) (e : r ≡ blocks_of f) (fits : blocks_of f ≤ length room) where
     abbrev part : List ℕ
-    part = take (16 + n - 16) (drop 16 s.reply.now)
+    part = take (16 + r - 16) (drop 16 reply)
 
-    abbrev room : List ℕ
-    room = replicate 144 0
+    sent : part ≡ data_sent f reply
+    sent = let k : 16 + r - 16 ≡ r = omega arith in ap (λ (j : ℕ). take j (drop 16 reply)) (k ∙ e)
 
-    sent : part ≡ data_sent s.f s.reply.now
-    sent = let k : 16 + n - 16 ≡ n = omega arith in ap (λ (j : ℕ). take j (drop 16 s.reply.now)) (k ∙ e)
+    chained : chains (length part) (length room) ≡ true
+    chained = enough (length part) (length room) (omega (arith, ap length sent, sent_whole))
+        (omega (arith, ap length sent, sent_long))
 
-    part_long : length part ≡ n
-    part_long = omega (arith, ap length sent, sent_long)
+    -- by the call that chains, which answers Ok: the data are whole blocks
+    pub opened_taken : (iv after : List ℕ) (answer : Result Unit ChainingFault)
+        → Into (chains (length part) (length room)) (cbc_dec_aes_inv iv keys.enc part) room answer after → IsOk answer
+    opened_taken iv after answer i = rw (i.says, chained)
 
-    chained : chains (length part) 144 ≡ true
-    chained = enough (length part) 144 (omega (arith, ap length sent, sent_whole))
-        (omega (arith, part_long, blocks_held))
-
-    -- by the call that chains, which answers Ok: the data are whole blocks, and the room has them
-    module _ (iv after : List ℕ) (answer : Result Unit ChainingFault)
-        (i : Into (chains (length part) 144) (cbc_dec_aes_inv iv s.keys.enc part) room answer after) where
-      pub opened_taken : IsOk answer
-      opened_taken = rw (i.says, chained)
-
-      pub opened_chained : encrypts s.mode ≡ true → iv ≡ first_block s.reply.now
-          → after ≡ over (opened_data s.keys s.mode s.f s.reply.now) room
-      unfolding opened_data
-      opened_chained t v =
-          let opens : cbc_dec_aes_inv (take 16 s.reply.now) s.keys.enc (data_sent s.f s.reply.now)
-          ≡ opened_data s.keys s.mode s.f s.reply.now = rw t in
-          into_taken (chains (length part) 144) (cbc_dec_aes_inv iv s.keys.enc part) room after answer i chained
-          ∙ ap (λ (d : List ℕ). over d room) (ap₂ (λ (x y : List ℕ). cbc_dec_aes_inv x s.keys.enc y)
-          (v ∙ first_block_is s.reply.now (omega (arith, data_place))) sent ∙ opens)
+    pub opened_chained : (iv after : List ℕ) (answer : Result Unit ChainingFault) → encrypts mode ≡ true
+        → iv ≡ first_block reply
+        → Into (chains (length part) (length room)) (cbc_dec_aes_inv iv keys.enc part) room answer after
+        → after ≡ over (opened_data keys mode f reply) room
+    unfolding opened_data
+    opened_chained iv after answer t v i =
+        let opens : cbc_dec_aes_inv (take 16 reply) keys.enc (data_sent f reply) ≡ opened_data keys mode f reply =
+        rw t in
+        into_taken (chains (length part) (length room)) (cbc_dec_aes_inv iv keys.enc part) room after answer i chained
+        ∙ ap (λ (d : List ℕ). over d room) (ap₂ (λ (x y : List ℕ). cbc_dec_aes_inv x keys.enc y)
+        (v ∙ first_block_is reply (omega arith)) sent ∙ opens)
 
     -- by the copy
-    pub opened_plain : (front : List ℕ) → encrypts s.mode ≡ false → front ≡ part
-        → front ++ drop n room ≡ over (opened_data s.keys s.mode s.f s.reply.now) room
+    pub opened_plain : (front : List ℕ) → encrypts mode ≡ false → front ≡ part
+        → front ++ drop (16 + r - 16) room ≡ over (opened_data keys mode f reply) room
     unfolding opened_data
     opened_plain front t q =
-        let opens : data_sent s.f s.reply.now ≡ opened_data s.keys s.mode s.f s.reply.now = rw t in
-        copied part room front n part_long q ∙ ap (λ (d : List ℕ). over d room) (sent ∙ opens)
+        let opens : data_sent f reply ≡ opened_data keys mode f reply = rw t in
+        let long : length part ≡ 16 + r - 16 = omega (arith, ap length sent, sent_long) in
+        copied part room front (16 + r - 16) long q ∙ ap (λ (d : List ℕ). over d room) (sent ∙ opens)
 
-    -- the front of the room that holds it
-    pub opened_front : (after : List ℕ) → after ≡ over (opened_data s.keys s.mode s.f s.reply.now) room
-        → take n after ≡ opened_data s.keys s.mode s.f s.reply.now
-    opened_front after q =
-        ap (take n) q ∙ over_taken (opened_data s.keys s.mode s.f s.reply.now) room n (opened_long ∙ sym e)
+  -- the front of a room that holds it
+  pub opened_front : (n : ℕ) (room after : List ℕ) → n ≡ blocks_of f
+      → after ≡ over (opened_data keys mode f reply) room → take n after ≡ opened_data keys mode f reply
+  opened_front n room after e q =
+      ap (take n) q ∙ over_taken (opened_data keys mode f reply) room n (opened_long ∙ sym e)
+
+-- a reply as long as its message asks for has the blocks
+pub blocks_there : (s : Tam2Reply) → 16 + blocks_of s.f ≤ length s.reply.now
+blocks_there s = data_place s.f.custom.blocksize s.f.rev s.f.custom.blockcount s.mode (length s.reply.now) s.whole
 
 -- ---- what is handed over
 

@@ -7,11 +7,11 @@ use Rattle.ground.proofs.Told.{said}
 use Rattle.ground.proofs.Checked.{passes, fails, ends}
 use Rattle.reader_judge.proofs.Places.{block_told}
 use Rattle.reader_judge.proofs.Judging.{refuses, judges_as}
-use Rattle.reader_judge.proofs.Clear.{data_place}
+use Rattle.reader_judge.proofs.Clear.{blocks_there}
 use Rattle.reader_judge.proofs.tam2.Tam2Reply.judge.Goals as goal
 
 pub opened_block-requires : goal.opened_block-requires
-opened_block-requires c = omega (arith, data_place c.args.self.now)
+opened_block-requires c = omega (arith, blocks_there c.args.self.now)
 
 pub returns-then-not-block_fits : goal.returns-then-not-block_fits
 unfolding tam2_in_mode

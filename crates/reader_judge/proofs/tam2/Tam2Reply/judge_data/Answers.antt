@@ -1,4 +1,6 @@
 -- `reader_judge::tam2::Tam2Reply::judge_data` meets its contract.
+use native.Mathlib.Omega.{arith}
+use lib.ListN.{replicate}
 use Rattle.reader_judge.specs.Judged.{data_finding}
 use Rattle.ground.proofs.Told.{said}
 use Rattle.ground.proofs.Checked.{passes, fails}
@@ -18,8 +20,8 @@ returns-then-not-filler_fits c = judges_as (passes _ _ _ _ (said c.header_fits.e
     (refuses _ _)
 
 pub slice_bounds-copy_from_slice-end : goal.slice_bounds-copy_from_slice-end
-slice_bounds-copy_from_slice-end c =
-    words_held c.args.self.now c.args.p.now _ c.words_in-words.ensures
+slice_bounds-copy_from_slice-end c = let s = c.args.self.now in
+    words_held s.f.rev s.f.custom c.args.p.now _ (replicate 144 0) s.fits c.words_in-words.ensures (omega arith)
 
 pub returns : goal.returns
 returns c = let a = c.args in
