@@ -139,7 +139,6 @@ pub fn address(profile: Profile, size: BlockSize, offset: Offset, count: u16) ->
 /// profile.
 ///
 /// Ruled out: one word past the end allowed; a block of no words behind the end refused.
-#[tactic(auto, using(crate::proofs::Addresses::fits_tested))]
 pub fn fits(profile: Profile, block: Block) -> bool
     ensures { result ≡ not (overruns profile block) }
 {
