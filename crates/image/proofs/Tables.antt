@@ -1,14 +1,15 @@
 -- Bodies that stand one behind the other: read into a table, laid into an image, and read again.
 use mathlib.Core.Path.{◌≡◌, refl, sym, ap, ap₂, subst, ◌∙◌}
-use mathlib.Core.List.{List, [], ◌∷◌, ◌++◌, append_assoc}
-use Prim.Native.Nat.{ℕ, zero, suc, ◌+◌, ◌*◌, ◌<◌}
+use mathlib.Core.List.{List, [], ◌∷◌, ◌++◌, append_assoc, append-nil}
+use Prim.Native.Nat.{ℕ, zero, suc, ◌+◌, ◌*◌, ◌≤◌, ◌<◌}
 use native.Mathlib.Omega.{arith}
 use native.Mathlib.Nat.{mul-suc}
 use denote.Param.Members.{Mut, Called}
-use Rattle.std.specs.Prelude.{flat_map}
-use Rattle.std.specs.Array.{IsFromFnResult, IsFromFnResultFrom, IsMapOf, MapsFrom}
-use lib.ListN.{length, take, drop, length-append, drop_of_length-le}
-use lib.Seq.{take_at, drop_at, drop-drop, drop-cons}
+use Rattle.std.specs.Array.{IsFromFnResult, IsFromFnResultFrom}
+use lib.ListN.{length, take, drop, get_or, length-append, drop_of_length-le}
+use lib.Seq.{take-suc, take_at, drop_at, drop-drop, drop-cons, length-take-le}
+use Rattle.modes.specs.Room.{over}
+use Rattle.payload.proofs.Overs.{put_next}
 use Rattle.image.specs.Image.{bodies, said_in}
 
 -- ---- read
@@ -49,26 +50,36 @@ module _ {A : Type 0} (body : A → List ℕ) (long : ℕ) (even : (x : A) → l
       ∙ (let e : long + long * length xs ≡ long * length xs + long = omega arith in e)
       ∙ sym (mul-suc long (length xs))
 
--- An array whose element i is the body of entry i, by a function that is called at each entry.
-module _ {A F : Type 0} {g : Mut F (A × Unit {0}) (List ℕ)} {f : F} (body : A → List ℕ) (n : ℕ) (xs : List A)
-    (answers : (x : A) (y : List ℕ) (q : F) → Called g f (x, tt) y q → (q ≡ f) × (y ≡ body x)) where
-  laid_behind : (ys : List (List ℕ)) (m i : ℕ) → i + m ≡ n → length xs ≡ n → length ys ≡ n → MapsFrom g f xs ys i m
-      → flat_map (λ y. y) (drop i ys) ≡ bodies body (drop i xs)
+  bodies_join : (xs ys : List A) → bodies body (xs ++ ys) ≡ bodies body xs ++ bodies body ys
   unfolding bodies
-  laid_behind ys zero i e k l r =
-      rw (drop_of_length-le ys {i = i} (omega arith), drop_of_length-le xs {i = i} (omega arith))
-  laid_behind ys (suc m) i e k l (q, x, y, ex, ey, called, r) =
-      let a = answers x y q called in
-      let s : suc i ≡ i + 1 = omega arith in
-      let rest = laid_behind ys m (i + 1) (omega arith) k l (subst (λ (p : F). MapsFrom g p xs ys (i + 1) m) a.0 r) in
-      let dy : drop i ys ≡ y ∷ drop (i + 1) ys =
-      drop-cons ys i y (omega arith) ∙ ap₂ ◌∷◌ (ey.1 y) (ap (λ (j : ℕ). drop j ys) s) in
-      let dx : drop i xs ≡ x ∷ drop (i + 1) xs =
-      drop-cons xs i x (omega arith) ∙ ap₂ ◌∷◌ (ex.1 x) (ap (λ (j : ℕ). drop j xs) s) in
-      ap (flat_map (λ y. y)) dy ∙ ap₂ ◌++◌ a.1 rest ∙ sym (ap (bodies body) dx)
+  bodies_join [] ys = refl
+  bodies_join (x ∷ xs) ys =
+      ap (λ (l : List ℕ). body x ++ l) (bodies_join xs ys)
+      ∙ sym (append_assoc (body x) (bodies body xs) (bodies body ys))
 
-  pub laid_each : {ys : List (List ℕ)} → length xs ≡ n → IsMapOf g f xs ys n → flat_map (λ y. y) ys ≡ bodies body xs
-  laid_each {ys} k r = laid_behind ys n 0 (omega arith) k r.long r.each
+  module _ (xs : List A) (d : A) (image : List ℕ) (at : ℕ) (room : at ≤ length image) where
+    -- the first i bodies stand in an image, from place `at` on
+    abbrev pub LaidTo : List ℕ → ℕ → Type 0
+    LaidTo now i = now ≡ over (take at image ++ bodies body (take i xs)) image
+
+    pub lay_more : (i p : ℕ) (z now after : List ℕ) → i < length xs → p ≡ at + long * i → z ≡ body (get_or xs i d)
+        → LaidTo now i → after ≡ take p now ++ over z (drop p now) → LaidTo after (i + 1)
+    unfolding bodies
+    lay_more i p z now after h q e f g =
+        let b = bodies body (take i xs) in
+        let n : length (take at image ++ b) ≡ p =
+        length-append (take at image) b
+        ∙ ap₂ ◌+◌ (length-take-le at image room)
+        (bodies_length (take i xs) ∙ ap (λ (k : ℕ). long * k) (length-take-le i xs (omega arith)))
+        ∙ sym q in
+        let a : i + 1 ≡ suc i = omega arith in
+        let m : b ++ z ≡ bodies body (take (i + 1) xs) =
+        ap (λ (l : List ℕ). b ++ l) (e ∙ sym (append-nil (body (get_or xs i d))))
+        ∙ sym (bodies_join (take i xs) (get_or xs i d ∷ []))
+        ∙ ap (bodies body) (sym (ap (λ (k : ℕ). take k xs) a ∙ take-suc xs i d h)) in
+        put_next (take at image ++ b) z image now after p n f g
+        ∙ ap (λ (l : List ℕ). over l image)
+        (append_assoc (take at image) b z ∙ ap (λ (l : List ℕ). take at image ++ l) m)
 
 -- ---- read again
 

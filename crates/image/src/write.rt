@@ -1,11 +1,11 @@
 // How an image is written, by the sheet's own definitions of a body.
-ghost use Rattle.std.specs.Prelude.{◌≡◌, ◌++◌, ◌+◌, ◌*◌, ◌≤◌, ◌<◌, length, take, drop, flat_map};
+ghost use Rattle.std.specs.Prelude.{◌≡◌, ◌++◌, ◌+◌, ◌*◌, ◌≤◌, ◌<◌, length, take, drop};
 ghost use Rattle.ground.specs.Bytes.{bit_of};
 ghost use Rattle.modes.specs.Room.{over};
 ghost use Rattle.sheet.specs.Limits.{profile_limit, lock_limit};
 ghost use Rattle.sheet.specs.Writer.{features_body, sizes_body, lock_body};
 ghost use Rattle.entry.specs.Sessions.{cleared};
-ghost use Rattle.image.specs.Places.{features_at, key_room};
+ghost use Rattle.image.specs.Places.{features_at, profiles_at, locks_at, key_room};
 ghost use Rattle.image.specs.Image.{state_number, kept, slot_body, bodies, terms_bytes, image_of};
 
 use crate::{
@@ -102,18 +102,25 @@ fn lock_body(l: Lock) -> [u8; 5]
 }
 
 // The bodies of the profiles and of the locks, one behind the other.
-fn slot_bodies(profiles: [Slot; PROFILE_LIMIT]) -> [[u8; PROFILE_BODY]; PROFILE_LIMIT]
-    ensures laid { flat_map (λ body. body) result ≡ bodies slot_body profiles }
-    ensures all { length profiles ≡ profile_limit }
+fn lay_profiles(image: &mut [u8; IMAGE], profiles: [Slot; PROFILE_LIMIT])
+    ensures image_after { image.new
+        ≡ take profiles_at image.old
+        ++ over (bodies slot_body profiles) (drop profiles_at image.old) }
+    ensures profiles_len { length profiles ≡ profile_limit }
 {
-    profiles.map(slot_body)
+    for (i, slot) in profiles.iter().enumerate() {
+        put(image, PROFILES_AT + PROFILE_BODY * i, &slot_body(*slot));
+    }
 }
 
-fn lock_bodies(table: [Lock; LOCK_LIMIT]) -> [[u8; LOCK_BODY]; LOCK_LIMIT]
-    ensures laid { flat_map (λ body. body) result ≡ bodies lock_body table }
-    ensures all { length table ≡ lock_limit }
+fn lay_locks(image: &mut [u8; IMAGE], table: [Lock; LOCK_LIMIT])
+    ensures image_after { image.new
+        ≡ take locks_at image.old ++ over (bodies lock_body table) (drop locks_at image.old) }
+    ensures table_len { length table ≡ lock_limit }
 {
-    table.map(lock_body)
+    for (i, lock) in table.iter().enumerate() {
+        put(image, LOCKS_AT + LOCK_BODY * i, &lock_body(*lock));
+    }
 }
 
 // The terms, behind the session.
@@ -126,17 +133,9 @@ fn lay_terms(image: &mut [u8; IMAGE], terms: Terms)
     let count = [terms.locks.count as u8];
     put(image, FEATURES_AT, &features_body(terms.features));
     put(image, SIZES_AT, &sizes_body(terms.sizes));
-    put(
-        image,
-        PROFILES_AT,
-        slot_bodies(terms.profiles).as_flattened(),
-    );
+    lay_profiles(image, terms.profiles);
     put(image, LOCK_COUNT_AT, &count);
-    put(
-        image,
-        LOCKS_AT,
-        lock_bodies(terms.locks.table).as_flattened(),
-    );
+    lay_locks(image, terms.locks.table);
 }
 
 /// The image of a tag with these terms and this key table, powered up.
