@@ -1,6 +1,6 @@
 -- One record judged: what the calls on the way give.
 use Rattle.std.specs.Prelude.{Some, None, Result, Ok, Err, slice_get}
-use mathlib.Core.Path.{◌≡◌, refl, sym, ◌∙◌}
+use mathlib.Core.Path.{◌≡◌, refl, sym, ap, ◌∙◌}
 use mathlib.Core.Bool.{false}
 use mathlib.Core.List.{List, [], ◌∷◌}
 use Prim.Native.Nat.{ℕ, suc, ◌+◌, ◌-◌, ◌≤◌, ◌<◌}
@@ -9,13 +9,14 @@ use lib.ListN.{length, take, drop, length-take, length-drop}
 use borrow.Author.Tests.{leb-false}
 use Rattle.sheet.specs.Limits.{profile_limit, lock_limit}
 use Rattle.sheet.specs.Kinds.{body_length}
-use Rattle.sheet.specs.Judgement.{too_many, opened_of, refused, record_of, judged_of}
+use Rattle.sheet.specs.Judgement.{too_many, opened_of, refused, record_of, judged_of, IsJudgement}
 use Rattle.sheet.specs.PaperNumbers.{keeps_rule}
 use Rattle.sheet.specs.declared.Kind.{Kind}
 use Rattle.sheet.specs.declared.Kind.TheVariants.{FeatureRecord, SizeRecord, KeyRecord, ProfileRecord}
 use Rattle.sheet.specs.declared.Kind.TheVariants.{LockRecord, EndRecord}
 use Rattle.sheet.specs.declared.SheetFault.{SheetFault}
 use Rattle.sheet.specs.declared.SheetFault.TheVariants.{Cut, Value}
+use Rattle.sheet.specs.declared.Finding.{Finding}
 use Rattle.sheet.specs.declared.Gathered.{Gathered}
 use Rattle.sheet.specs.declared.Judged.{Judged}
 use Rattle.sheet.proofs.Openings.{Passed, passed}
@@ -91,3 +92,9 @@ judged_open limit (a ∷ t) k b o q n j some eo eop en ej =
     let l : suc (length t) - 1 ≡ length t = omega arith in
     let m : 1 + n - 1 ≡ n = omega arith in
     rw (sym (rw (l, same) at eo) ∙ eop, ← en) (rw m at ej)
+
+-- the bytes from a place of a sheet on, judged
+pub judged_in : (limit : ℕ) (s : List ℕ) (at : ℕ) (k : Gathered) (r : List ℕ) (f : Result Finding SheetFault)
+    (n : Gathered) → r ≡ drop at s → IsJudgement f n (judged_of limit r k)
+    → record { finding = f; gathered = n } ≡ judged_of limit (drop at s) k
+judged_in limit s at k r f n e j = j ∙ ap (λ (x : List ℕ). judged_of limit x k) e

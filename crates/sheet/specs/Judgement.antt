@@ -192,6 +192,10 @@ finding_number (Ok (Taken n)) = 0
 finding_number (Ok Ended) = 0
 finding_number (Err f) = number_of f
 
+-- A finding, and what is gathered after it, that are this judgement.
+abbrev pub IsJudgement : Result Finding SheetFault → Gathered → Judged → Type 0
+IsJudgement r k j = record { finding = r; gathered = k } ≡ j
+
 -- A judgement that is this one, by name and by number.
 abbrev pub JudgedAs : Judged → Judged → Type 0
 JudgedAs r x = (r ≡ x) × (finding_number r.finding ≡ finding_number x.finding)

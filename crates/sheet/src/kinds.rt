@@ -49,8 +49,8 @@ fn in_order(last: u8, b: u8) -> bool
 }
 
 #[tactic(auto, unfolding(crate::specs::Judgement::too_many))]
-fn too_many(q: Kind, gathered: Gathered) -> bool
-    ensures { result ≡ too_many key_limit q gathered }
+fn too_many(q: Kind, gathered: &Gathered) -> bool
+    ensures { result ≡ too_many key_limit q gathered.now }
 {
     match q {
         Kind::KeyRecord => KEY_LIMIT <= gathered.marks.keys,
@@ -62,8 +62,8 @@ fn too_many(q: Kind, gathered: Gathered) -> bool
 
 // The four checks before the body's values, in the paper's order.
 #[tactic(auto, unfolding(crate::specs::Judgement::opened_of))]
-pub(crate) fn opening(b: u8, left: usize, gathered: Gathered) -> Result<Kind, SheetFault>
-    ensures { result ≡ opened_of key_limit b left gathered }
+pub(crate) fn opening(b: u8, left: usize, gathered: &Gathered) -> Result<Kind, SheetFault>
+    ensures { result ≡ opened_of key_limit b left gathered.now }
 {
     let Some(q) = kind_of(b) else {
         return Err(SheetFault::Unknown);

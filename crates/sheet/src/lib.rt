@@ -12,7 +12,7 @@ ghost use Rattle.sheet.specs.Limits.{key_limit};
 ghost use Rattle.sheet.specs.Kinds.{number_of};
 ghost use Rattle.sheet.specs.KeyTable.{key_table};
 ghost use Rattle.sheet.specs.Setups.{nothing_gathered};
-ghost use Rattle.sheet.specs.Judgement.{judged_of, finding_number, judged_number};
+ghost use Rattle.sheet.specs.Judgement.{judged_of, finding_number, judged_number, IsJudgement};
 ghost use Rattle.sheet.specs.Sheet.{read_of, verdict_of, verdict_number, verdict_place, read_number, read_place};
 
 use memory::{Lock, Profile};
@@ -221,6 +221,23 @@ pub fn start() -> Gathered
     }
 }
 
+// The record with which these bytes start, judged against what was gathered of those before it: its finding, and in the
+// same place what is gathered after it.
+pub(crate) fn judge_in(rest: &[u8], gathered: &mut Gathered) -> Result<Finding, SheetFault>
+    ensures { IsJudgement result gathered.new (judged_of key_limit rest.now gathered.old) }
+{
+    let Some(first) = rest.first() else {
+        return Err(SheetFault::Cut);
+    };
+    match kinds::opening(*first, rest.len() - 1, gathered) {
+        Err(fault) => Err(fault),
+        Ok(q) => {
+            let e = 1 + kinds::body_length(q);
+            records::judge_body(q, &rest[1..e], gathered)
+        }
+    }
+}
+
 /// The record with which these bytes start, judged against what was gathered of those before it.
 ///
 /// Ruled out: a judgement that calls a seventeenth key record 33 for its values; one that takes a record whose KeyID
@@ -229,16 +246,9 @@ pub fn judge(rest: &[u8], gathered: Gathered) -> Judged
     ensures value { result ≡ judged_of key_limit rest.now gathered }
     ensures finding_value { finding_number result.finding ≡ judged_number key_limit rest.now gathered }
 {
-    let Some(first) = rest.first() else {
-        return records::refused(SheetFault::Cut, gathered);
-    };
-    match kinds::opening(*first, rest.len() - 1, gathered) {
-        Err(fault) => records::refused(fault, gathered),
-        Ok(q) => {
-            let e = 1 + kinds::body_length(q);
-            records::judge_body(q, &rest[1..e], gathered)
-        }
-    }
+    let mut gathered = gathered;
+    let finding = judge_in(rest, &mut gathered);
+    Judged { finding, gathered }
 }
 
 /// A whole sheet, record by record: its terms and how many key records it has, or the first refusal with its place.

@@ -25,11 +25,17 @@ pub fn judge_at(s: &[u8], at: usize, gathered: Gathered) -> Judged
 pub fn read_from(s: &[u8], from: usize, before: Gathered) -> Result<Reading, SheetRefusal>
     ensures { ReadAs result (read_from key_limit s.now from before) }
 {
+    // no record stands there, and nothing is copied to gather it in
+    if s.len() <= from {
+        return Err(SheetRefusal {
+            fault: SheetFault::Cut,
+            at: s.len(),
+        });
+    }
     let mut at = from;
     let mut gathered = before;
     while at < s.len() {
-        let j = judge_at(s, at, gathered);
-        match j.finding {
+        match crate::judge_in(tail(s, at), &mut gathered) {
             Err(fault) => return Err(SheetRefusal { fault, at }),
             Ok(Finding::Ended) => {
                 if at + 1 < s.len() {
@@ -39,14 +45,13 @@ pub fn read_from(s: &[u8], from: usize, before: Gathered) -> Result<Reading, She
                     });
                 }
                 return Ok(Reading {
-                    terms: j.gathered.terms,
-                    keys: j.gathered.marks.keys,
+                    terms: gathered.terms,
+                    keys: gathered.marks.keys,
                 });
             }
             Ok(Finding::Taken(n)) => {
                 // `at` goes on by what the record takes
                 at += n;
-                gathered = j.gathered;
             }
         }
     }
