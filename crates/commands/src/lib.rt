@@ -62,7 +62,7 @@ impl Desk {
 
 fn explained(rt: &impl Print, words: Words<'_>) -> Result<(), Fault> {
     let number = Fields::exactly(words, 1)?.number()?;
-    println!(rt; "{}", explain::number(number).ok_or(Reason::NoSuchNumber)?)?;
+    at_once(rt, explain::number(number).ok_or(Reason::NoSuchNumber)?)?;
     Ok(())
 }
 

@@ -12,8 +12,8 @@ use std::{fmt, io, str};
 // Two digits for each byte. No byte string here is longer than a field.
 const DIGITS: usize = 2 * FIELD_LIMIT;
 
-/// Bytes in lower-case digits, `-` for no bytes, as `text::read_hex` reads them back; nothing for more than a field has.
-/// Ruled out: the last byte left out; no sign for no bytes.
+/// Bytes in lower-case digits, `-` for no bytes, as `text::read_hex` reads them back; nothing for more than a field
+/// has. Ruled out: the last byte left out; no sign for no bytes.
 #[derive(Clone, Copy)]
 pub struct Hex<'a>(pub &'a [u8]);
 

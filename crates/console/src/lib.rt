@@ -1,7 +1,7 @@
-// The command line's lines: their words and fields, what a line is refused for, and bytes as they are answered.
+// The command line's lines: their words and fields, what a line is refused for, and what is answered: bytes, numbers.
 #![tactic(auto)]
 
-pub mod answer; // answer.rt: bytes as they are answered
+pub mod answer; // answer.rt: bytes and numbers as they are answered
 pub mod bytes; // bytes.rt: bytes in a room of their own
 pub mod fields; // fields.rt: the fields of a line
 pub mod reason; // reason.rt: what a line is refused for
