@@ -213,7 +213,6 @@ pub fn mam2(keys: &[u8], held: Session, message: &[u8]) -> Reacted
 /// IAM3 (9.5.8, 9.5.9): where nothing is refused, its words are written into the areas.
 ///
 /// Ruled out: words written before all is judged; words that are never written.
-#[inline(never)] // its room for blocks would lie on the stack of every message
 pub fn iam3(
     terms: Terms,
     keys: &[u8],

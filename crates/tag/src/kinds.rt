@@ -45,7 +45,6 @@ pub fn answered<const N: usize>(
 
 /// TAM2: nothing is held afterwards (9.4.5, 9.4.6).
 /// Ruled out: a challenge that survives it, and a reply that is not sent.
-#[inline(never)] // its reply's room would lie on the stack of every message
 pub fn tam2(
     terms: Terms,
     keys: &[u8],
